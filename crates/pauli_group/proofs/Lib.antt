@@ -1,0 +1,5 @@
+pub mod Finite
+pub mod Laws
+pub mod Products
+pub mod Strings
+pub mod PaperForms

@@ -1,0 +1,81 @@
+-- Products of phases over the places 0 to n - 1, and counts over them.
+use mathlib.Core.Path.{_≡_, refl, sym, ap, ap₂, _∙_, subst}
+use mathlib.Core.Bool.{Bool, true, false, cond}
+use mathlib.Core.Logic.{_≢_}
+use Prim.Native.Nat.{ℕ, zero, suc, _+_, _%_, _≤_, _<_}
+use native.Mathlib.Nat.{not-suc-le-zero, lt-irrefl}
+use native.Mathlib.Omega.{arith}
+use native.Mathlib.Decide.{ℕ-discrete}
+use lib.Dec.{eqb}
+use Rattle.pauli_group.specs.Phase.{Phase, PlusOne, MinusOne, negate, turn, _·_, sign}
+use Rattle.pauli_group.specs.PauliString.{productTo, countTo}
+use Rattle.pauli_group.proofs.Laws.{·-assoc, ·-comm, ·-left, one-·, ·-one}
+
+pub productTo-mul : (n : ℕ) (f g : ℕ → Phase) → productTo n (λ q. f q · g q) ≡ productTo n f · productTo n g
+unfolding productTo
+productTo-mul zero f g = sym (one-· PlusOne)
+productTo-mul (suc n) f g = rw (productTo-mul n f g) (simp (·-assoc, ·-comm, ·-left))
+
+pub productTo-one : (n : ℕ) (f : ℕ → Phase) → ((q : ℕ) → q < n → f q ≡ PlusOne) → productTo n f ≡ PlusOne
+unfolding productTo
+productTo-one zero f h = refl
+productTo-one (suc n) f h = ap₂ _·_ (productTo-one n f (λ q l. h q (omega arith))) (h n (omega arith)) ∙ one-· PlusOne
+
+pub productTo-ext : (n : ℕ) (f g : ℕ → Phase) → ((q : ℕ) → q < n → f q ≡ g q) → productTo n f ≡ productTo n g
+unfolding productTo
+productTo-ext zero f g h = refl
+productTo-ext (suc n) f g h = ap₂ _·_ (productTo-ext n f g (λ q l. h q (omega arith))) (h n (omega arith))
+
+-- places at n and above that give 1 do not count
+pub productTo-cut : (n k : ℕ) (f : ℕ → Phase) → n ≤ k → ((q : ℕ) → n ≤ q → f q ≡ PlusOne) → productTo k f ≡ productTo n f
+unfolding productTo
+productTo-cut n zero f h e = let d : zero ≡ n = omega arith in ap (λ j. productTo j f) d
+productTo-cut n (suc k) f h e = elim (ℕ-discrete n (suc k)) [
+  | yes d ↦ ap (λ j. productTo j f) (sym d)
+  | no d ↦ ap₂ _·_ (productTo-cut n k f (omega arith) e) (e k (omega arith)) ∙ ·-one (productTo n f)
+]
+
+-- only the place k counts
+pub productTo-at : (n k : ℕ) (f : ℕ → Phase) → k < n → ((q : ℕ) → q ≢ k → f q ≡ PlusOne) → productTo n f ≡ f k
+unfolding productTo
+productTo-at zero k f l h = absurd (not-suc-le-zero l)
+productTo-at (suc n) k f l h = elim (ℕ-discrete k n) [
+  | yes e ↦ ap (λ x. x · f n) (productTo-one n f (λ q m. h q (λ (d : q ≡ k). lt-irrefl n (subst (λ x. x < n) (d ∙ e) m)))) ∙ one-· (f n) ∙ ap f (sym e)
+  | no d ↦ ap₂ _·_ (productTo-at n k f (omega arith) h) (h n (λ e. d (sym e))) ∙ ·-one (f k)
+]
+
+-- a count's last turn, and its bound
+pub countTo-le : (n : ℕ) (f : ℕ → Bool) → countTo n f ≤ n
+unfolding countTo
+countTo-le zero f = omega arith
+countTo-le (suc n) f = at-most (f n) (countTo n f) (countTo-le n f)
+  where
+    at-most : (b : Bool) (c : ℕ) → c ≤ n → c + cond b 1 0 ≤ suc n
+    at-most true c h = omega arith
+    at-most false c h = omega arith
+
+pub countTo-ext : (n : ℕ) (f g : ℕ → Bool) → ((q : ℕ) → q < n → f q ≡ g q) → countTo n f ≡ countTo n g
+unfolding countTo
+countTo-ext zero f g h = refl
+countTo-ext (suc n) f g h = ap₂ (λ c b. c + cond b 1 0) (countTo-ext n f g (λ q l. h q (omega arith))) (h n (omega arith))
+
+-- the sign of a count: -1 exactly if it is odd
+abbrev pub parity : ℕ → Bool
+parity n = eqb (n % 2) 1
+
+sign-more : (c : ℕ) (b : Bool) → sign (parity (c + cond b 1 0)) ≡ sign (parity c) · sign b
+unfolding sign _·_ negate turn
+sign-more c false = let e : c + 0 ≡ c = omega arith in ap (λ n. sign (parity n)) e ∙ sym (·-one (sign (parity c)))
+sign-more c true = elim (ℕ-discrete (c % 2) 1) [
+  | yes e ↦ let z : (c + 1) % 2 ≡ 0 = omega arith in flip c 1 0 e z refl
+  | no d ↦ let e : c % 2 ≡ 0 = omega arith in let z : (c + 1) % 2 ≡ 1 = omega arith in flip c 0 1 e z refl
+]
+  where
+    flip : (c a b : ℕ) → c % 2 ≡ a → (c + 1) % 2 ≡ b → sign (eqb b 1) ≡ sign (eqb a 1) · MinusOne → sign (parity (c + 1)) ≡ sign (parity c) · MinusOne
+    flip c a b e z h = ap (λ n. sign (eqb n 1)) z ∙ h ∙ ap (λ n. sign (eqb n 1) · MinusOne) (sym e)
+
+-- the product of the signs of the places is the sign of the count's parity
+pub signs-parity : (n : ℕ) (f : ℕ → Bool) → productTo n (λ q. sign (f q)) ≡ sign (parity (countTo n f))
+unfolding productTo countTo sign
+signs-parity zero f = refl
+signs-parity (suc n) f = ap (λ p. p · sign (f n)) (signs-parity n f) ∙ sym (sign-more (countTo n f) (f n))

@@ -1,0 +1,4 @@
+pub mod Phase
+pub mod Letter
+pub mod PauliString
+pub mod Papers

@@ -1,0 +1,65 @@
+-- Pauli strings: a phase, and a letter for each qubit.
+use Prim.Native.Nat.{ℕ, zero, suc, _+_, _%_, _≤_}
+use mathlib.Core.Path.{_≡_}
+use mathlib.Core.Bool.{Bool, true, false, cond}
+use lib.Dec.{eqb}
+use Rattle.pauli_group.specs.Phase.{Phase, PlusOne, sign, _·_}
+use Rattle.pauli_group.specs.Letter.{Letter, I, letterPhase, letterMul, anticommute}
+
+-- the number of qubits of a string record. No law below depends on which number it is.
+unfoldable pub qubits : ℕ
+qubits = 128
+
+-- The letters are a function of the qubit. A record's string has I at `qubits` and above.
+pub record PauliString : Type 0 where
+  pub phase : Phase
+  pub letters : ℕ → Letter
+
+-- the product of the phases f 0 to f (n - 1)
+unfoldable pub productTo : ℕ → (ℕ → Phase) → Phase
+productTo zero f = PlusOne
+productTo (suc n) f = productTo n f · f n
+
+-- how many of the places 0 to n - 1 have f
+unfoldable pub countTo : ℕ → (ℕ → Bool) → ℕ
+countTo zero f = 0
+countTo (suc n) f = countTo n f + cond (f n) 1 0
+
+-- the phase that the letters' products give, over all qubits
+unfoldable pub phaseOfLetters : (ℕ → Letter) → (ℕ → Letter) → Phase
+phaseOfLetters a b = productTo qubits (λ q. letterPhase (a q) (b q))
+
+-- A product multiplies phases and, qubit by qubit, letters.
+unfoldable pub mul : PauliString → PauliString → PauliString
+mul s t = record {
+  phase = s .phase · t .phase · phaseOfLetters (s .letters) (t .letters);
+  letters = λ q. letterMul (s .letters q) (t .letters q);
+}
+
+-- the identity: phase +1 and I everywhere
+unfoldable pub identityString : PauliString
+identityString = record { phase = PlusOne; letters = λ q. I }
+
+-- the same letters, with the phase multiplied by p
+unfoldable pub scale : Phase → PauliString → PauliString
+scale p s = record { phase = p · s .phase; letters = s .letters }
+
+-- one letter, on qubit k
+unfoldable pub single : Letter → ℕ → PauliString
+single l k = record { phase = PlusOne; letters = λ q. cond (eqb q k) l I }
+
+-- the number of qubits at which two strings have two different letters other than I
+unfoldable pub anticommutingPlaces : PauliString → PauliString → ℕ
+anticommutingPlaces s t = countTo qubits (λ q. anticommute (s .letters q) (t .letters q))
+
+-- two strings commute when that number is even
+unfoldable pub commute : PauliString → PauliString → Bool
+commute s t = eqb (anticommutingPlaces s t % 2) 0
+
+-- the sign by which two strings change when they change places
+unfoldable pub commutationSign : PauliString → PauliString → Phase
+commutationSign s t = productTo qubits (λ q. sign (anticommute (s .letters q) (t .letters q)))
+
+-- no letter at qubit w or above
+abbrev pub Within : ℕ → PauliString → Type 0
+Within w s = (q : ℕ) → w ≤ q → s .letters q ≡ I
