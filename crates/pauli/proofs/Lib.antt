@@ -1,0 +1,6 @@
+pub mod Cases
+pub mod Answers
+pub mod Places
+pub mod Records
+pub mod Turns
+pub mod RowProducts

@@ -1,0 +1,141 @@
+-- Laws of lists by place, of the first place that has a property, and of a destination that is filled from its front.
+use mathlib.Core.Path.{_≡_, refl, sym, ap, ap₂, _∙_}
+use mathlib.Core.Bool.{Bool, true, false, cond, true≢false}
+use mathlib.Core.List.{List, [], _∷_, _++_}
+use Prim.Native.Nat.{ℕ, zero, suc, _+_, _-_, _≤_, _<_}
+use native.Mathlib.Nat.{le-refl, not-suc-le-zero, le-of-suc-le-suc}
+use native.Mathlib.Numerals.{add-one}
+use native.Mathlib.Decide.{ℕ-discrete}
+use native.Mathlib.Omega.{arith}
+use lib.ListN.{length, getD, take, drop, set, length-append, length-take, length-drop, List·getD-append}
+use lib.Seq.{getD-at, ext-getD, take-all, take-length, getD-drop}
+use borrow.Author.Tests.{lt-ltb, le-ltb, le-leb, lt-leb}
+use borrow.Author.Needs.{needs}
+use Rattle.pauli.specs.Places.{listed, firstPlace}
+
+-- ---- lists by place
+module _ {A : Type 0} where
+  pub length-listed : (n : ℕ) (f : ℕ → A) → length (listed n f) ≡ n
+  unfolding listed
+  length-listed zero f = refl
+  length-listed (suc n) f = length-append (listed n f) (f n ∷ []) ∙ omega (arith, length-listed n f)
+
+  pub getD-listed : (n : ℕ) (f : ℕ → A) (i : ℕ) (d : A) → i < n → getD (listed n f) i d ≡ f i
+  unfolding listed
+  getD-listed zero f i d h = absurd (not-suc-le-zero h)
+  getD-listed (suc n) f i d h = elim (ℕ-discrete i n) [
+    | yes e ↦ getD-at (listed n f) (f n) [] d i (length-listed n f ∙ sym e) ∙ ap f (sym e)
+    | no e ↦ List·getD-append (listed n f) (f n ∷ []) d i (omega (arith, length-listed n f)) ∙ getD-listed n f i d (omega arith)
+  ]
+
+  pub listed-ext : (n : ℕ) (f g : ℕ → A) → ((i : ℕ) → i < n → f i ≡ g i) → listed n f ≡ listed n g
+  unfolding listed
+  listed-ext zero f g h = refl
+  listed-ext (suc n) f g h = ap₂ (λ l a. l ++ (a ∷ [])) (listed-ext n f g (λ i l. h i (omega arith))) (h n (le-refl (suc n)))
+
+-- a list is what stands at its places
+pub listed-is : (l : List ℕ) (n : ℕ) (f : ℕ → ℕ) → length l ≡ n → ((i : ℕ) → i < n → getD l i 0 ≡ f i) → l ≡ listed n f
+listed-is l n f e h = ext-getD 0 l (listed n f) (e ∙ sym (length-listed n f)) (λ i b. h i (omega arith) ∙ sym (getD-listed n f i 0 (omega arith)))
+
+-- ---- the first place
+pub first-le : (n : ℕ) (f : ℕ → Bool) → firstPlace n f ≤ n
+unfolding firstPlace
+first-le zero f = le-refl zero
+first-le (suc n) f = step (f zero) (first-le n (λ k. f (suc k)))
+  where
+    step : (b : Bool) {m : ℕ} → m ≤ n → cond b zero (suc m) ≤ suc n
+    step true h = omega arith
+    step false h = omega arith
+
+pub first-is : (n : ℕ) (f : ℕ → Bool) (i : ℕ) → i ≤ n → ((k : ℕ) → k < i → f k ≡ false) → (i < n → f i ≡ true) → i ≡ firstPlace n f
+unfolding firstPlace
+first-is zero f i h none has = omega arith
+first-is (suc n) f zero h none has = sym (ap (λ b. cond b zero (suc (firstPlace n (λ k. f (suc k))))) (has (omega arith)))
+first-is (suc n) f (suc i) h none has =
+    ap suc (first-is n (λ k. f (suc k)) i (omega arith) (λ k l. none (suc k) (omega arith)) (λ l. has (omega arith)))
+    ∙ sym (ap (λ b. cond b zero (suc (firstPlace n (λ k. f (suc k))))) (none zero (omega arith)))
+
+pub first-before : (n : ℕ) (f : ℕ → Bool) (k : ℕ) → k < firstPlace n f → f k ≡ false
+unfolding firstPlace
+first-before zero f k h = absurd (not-suc-le-zero h)
+first-before (suc n) f k h = step (f zero) refl (λ j l. first-before n (λ i. f (suc i)) j l) k h
+  where
+    step : (b : Bool) → f zero ≡ b → ((j : ℕ) → j < firstPlace n (λ i. f (suc i)) → f (suc j) ≡ false)
+        → (k : ℕ) → k < cond b zero (suc (firstPlace n (λ i. f (suc i)))) → f k ≡ false
+    step true e rest k h = absurd (not-suc-le-zero h)
+    step false e rest zero h = e
+    step false e rest (suc k) h = rest k (le-of-suc-le-suc h)
+
+pub first-has : (n : ℕ) (f : ℕ → Bool) → firstPlace n f < n → f (firstPlace n f) ≡ true
+unfolding firstPlace
+first-has zero f h = absurd (not-suc-le-zero h)
+first-has (suc n) f h = step (f zero) refl (first-has n (λ i. f (suc i))) h
+  where
+    step : {m : ℕ} (b : Bool) → f zero ≡ b → (m < n → f (suc m) ≡ true) → cond b zero (suc m) < suc n → f (cond b zero (suc m)) ≡ true
+    step true e rest h = e
+    step false e rest h = rest (le-of-suc-le-suc h)
+
+-- what a scan from the front knows before place i
+pub record NoneBefore (n : ℕ) (f : ℕ → Bool) (i : ℕ) : Type 0 where
+  pub within : i ≤ n
+  pub none : (k : ℕ) → k < i → f k ≡ false
+
+pub none-start : (n : ℕ) (f : ℕ → Bool) → NoneBefore n f 0
+none-start n f = record { within = omega arith; none = λ k l. absurd (not-suc-le-zero l) }
+
+pub none-more : {n : ℕ} {f : ℕ → Bool} {i : ℕ} → NoneBefore n f i → i < n → f i ≡ false → NoneBefore n f (i + 1)
+none-more {n} {f} {i} m h e = record {
+  within = omega arith;
+  none = λ k l. elim (ℕ-discrete k i) [ yes d ↦ ap f d ∙ e | no d ↦ m .none k (omega arith) ];
+}
+
+pub none-found : {n : ℕ} {f : ℕ → Bool} {i : ℕ} → NoneBefore n f i → i < n → f i ≡ true → i ≡ firstPlace n f
+none-found {n} {f} {i} m h e = first-is n f i (m .within) (m .none) (λ l. e)
+
+pub none-left : {n : ℕ} {f : ℕ → Bool} {i : ℕ} → NoneBefore n f i → n ≤ i → i ≡ firstPlace n f
+none-left {n} {f} {i} m h = first-is n f i (m .within) (m .none) (λ l. absurd (lt-le l h))
+  where
+    lt-le : i < n → n ≤ i → ⊥
+    lt-le l h = omega arith
+
+pub ruleset scans = (none-start, none-more, none-found, none-left, lt-ltb, le-ltb, le-leb, lt-leb, needs)
+
+-- ---- a destination that is overwritten from its front, one element a turn
+-- the first i elements of s, and then d from i on
+abbrev pub fill : List ℕ → List ℕ → ℕ → List ℕ
+fill s d i = take i s ++ drop i d
+
+pub length-fill : (s d : List ℕ) (i : ℕ) → i ≤ length s → i ≤ length d → length (fill s d i) ≡ length d
+length-fill s d i h k = simp (length-append, length-take, length-drop) (omega arith)
+
+fill-suc : (s d : List ℕ) (i : ℕ) → i < length s → i < length d → set (fill s d i) i (getD s i 0) ≡ fill s d (suc i)
+fill-suc [] d i h k = absurd (not-suc-le-zero h)
+fill-suc (x ∷ s) [] i h k = absurd (not-suc-le-zero k)
+fill-suc (x ∷ s) (y ∷ d) zero h k = refl
+fill-suc (x ∷ s) (y ∷ d) (suc i) h k = ap (λ (l : List ℕ). x ∷ l) (fill-suc s d i (le-of-suc-le-suc h) (le-of-suc-le-suc k))
+
+pub fill-more : (s d : List ℕ) (i x : ℕ) → i < length s → i < length d → x ≡ getD s i 0 → set (fill s d i) i x ≡ fill s d (i + 1)
+fill-more s d i x h k e = rw (e, add-one i) (fill-suc s d i h k)
+
+pub fill-all : (s d : List ℕ) → fill s d (length s) ≡ s ++ drop (length s) d
+fill-all s d = rw take-length
+
+-- what is not yet overwritten is still there
+pub fill-at : (i : ℕ) (s d : List ℕ) → i ≤ length s → i < length d → getD (fill s d i) i 0 ≡ getD d i 0
+fill-at zero s d h k = refl
+fill-at (suc i) [] d h k = absurd (not-suc-le-zero h)
+fill-at (suc i) (x ∷ s) [] h k = absurd (not-suc-le-zero k)
+fill-at (suc i) (x ∷ s) (y ∷ d) h k = fill-at i s d (le-of-suc-le-suc h) (le-of-suc-le-suc k)
+
+-- ---- the part `&s[k..]`
+abbrev pub from : ℕ → List ℕ → List ℕ
+from k s = take (length s - k) (drop k s)
+
+pub from-is : (k : ℕ) (s : List ℕ) → from k s ≡ drop k s
+from-is k s = take-all (length s - k) (drop k s) (omega (arith, length-drop k s))
+
+pub length-from : (k : ℕ) (s : List ℕ) → length (from k s) ≡ length s - k
+length-from k s = rw (from-is k s) (length-drop k s)
+
+pub from-at : (s : List ℕ) (c : ℕ) → getD (from 1 s) c 0 ≡ getD s (suc c) 0
+from-at s c = let e : 1 + c ≡ suc c = omega arith in ap (λ (l : List ℕ). getD l c 0) (from-is 1 s) ∙ getD-drop 1 s c 0 ∙ ap (λ (j : ℕ). getD s j 0) e

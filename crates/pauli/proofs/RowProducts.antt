@@ -1,0 +1,155 @@
+-- Rows multiplied and compared place by place: what a loop has done before a place, and what a caller reads off the contracts.
+use mathlib.Core.Path.{_≡_, refl, sym, ap, ap₂, _∙_}
+use mathlib.Core.Bool.{Bool, cond}
+use mathlib.Core.List.{List, [], _∷_, _++_}
+use Prim.Native.Nat.{ℕ, zero, suc, min, _+_, _-_, _%_, _<_, _≤_, zero-le}
+use native.Mathlib.Numerals.{add-one}
+use native.Mathlib.Omega.{arith}
+use lib.ListN.{length, take, drop, getD, set, length-append, length-drop, List·getD-append}
+use lib.Seq.{getD-drop, getD-append-add}
+use borrow.Author.Needs.{needs}
+use Rattle.pauli_group.specs.Phase.{Phase, PlusOne, _·_}
+use Rattle.pauli_group.specs.Letter.{Letter, letterPhase, letterMul, anticommute}
+use Rattle.pauli_group.specs.PauliString.{productTo, countTo}
+use Rattle.pauli_group.specs.Papers.{power}
+use Rattle.pauli_group.proofs.Laws.{·-assoc, ·-one}
+use Rattle.pauli_group.proofs.Products.{countTo-le}
+use Rattle.pauli.specs.Layout.{phaseByte, phaseOf, letterByte, letterOf}
+use Rattle.pauli.specs.Rows.{letterBytesProduct, letterAt, productLetters, productPhase, placesOf, shorter, RowTimes}
+use Rattle.pauli.specs.Turns.{LetterTurns, PhaseTurns, anticommuting}
+use Rattle.pauli.proofs.Places.{length-listed, getD-listed, fill, fill-more, fill-all, length-fill, fill-at}
+use Rattle.pauli.proofs.Records.{phase-back}
+use Rattle.pauli.proofs.Turns.{power-sum}
+
+length-letters : (n : ℕ) (a b : List ℕ) → length (productLetters n a b) ≡ n
+unfolding productLetters
+length-letters n a b = length-listed n _
+
+letter-here : (n : ℕ) (a b : List ℕ) (i : ℕ) → i < n → letterByte (letterMul (letterAt a i) (letterAt b i)) ≡ getD (productLetters n a b) i 0
+unfolding productLetters
+letter-here n a b i h = sym (getD-listed n _ i 0 h)
+
+phase-more : (a b : List ℕ) (i : ℕ) → productPhase (i + 1) a b ≡ productPhase i a b · letterPhase (letterAt a i) (letterAt b i)
+unfolding productPhase productTo
+phase-more a b i = rw (add-one i)
+
+-- ---- the row a, multiplied by b as far as place i of n, and the turns so far
+pub record Before (a b : List ℕ) (p n i : ℕ) (e : List ℕ) (s : ℕ) : Type 0 where
+  pub within : i ≤ n
+  pub out : e ≡ fill (productLetters n a b) a i
+  pub turns : power s ≡ phaseOf p · productPhase i a b
+
+pub before-none : {a b : List ℕ} {p n s : ℕ} → PhaseTurns p s → Before a b p n 0 a s
+unfolding productPhase productTo
+before-none {a} {b} {p} h = record { within = zero-le; out = refl; turns = h .is ∙ sym (·-one (phaseOf p)) }
+
+still : {a b : List ℕ} {p n i : ℕ} {e : List ℕ} {s : ℕ} → n ≡ shorter a b → i < n → Before a b p n i e s → getD e i 0 ≡ getD a i 0
+still {a} {b} {p} {n} {i} {e} h k m =
+    ap (λ (l : List ℕ). getD l i 0) (m .out) ∙ fill-at i (productLetters n a b) a (omega (arith, length-letters n a b)) (omega arith)
+
+pub before-step : {a b : List ℕ} {p n i : ℕ} {e : List ℕ} {s : ℕ} → n ≡ shorter a b → i < n → Before a b p n i e s
+    → {t u x : ℕ} → LetterTurns (getD e i 0) (getD b i 0) t → u ≡ (s + t) % 256
+    → x ≡ letterByte (letterMul (letterOf (getD e i 0)) (letterOf (getD b i 0)))
+    → Before a b p n (i + 1) (set e i x) u
+unfolding letterAt
+before-step {a} {b} {p} {n} {i} {e} {s} h k m {t} {u} {x} et eu ex =
+    let l : length (productLetters n a b) ≡ n = length-letters n a b in
+    let here : getD e i 0 ≡ getD a i 0 = still h k m in
+    record {
+      within = omega arith;
+      out = ap (λ (z : List ℕ). set z i x) (m .out)
+          ∙ fill-more (productLetters n a b) a i x (omega arith) (omega arith) (rw here at ex ∙ letter-here n a b i k);
+      turns = ap power eu ∙ power-sum s t ∙ ap₂ _·_ (m .turns) (rw here at (et .is))
+          ∙ ·-assoc (phaseOf p) (productPhase i a b) _ ∙ ap (λ y. phaseOf p · y) (sym (phase-more a b i));
+    }
+
+pub before-all : {a b : List ℕ} {p n i : ℕ} {e : List ℕ} {s r : ℕ} → n ≡ shorter a b → n ≤ i → Before a b p n i e s
+    → r ≡ phaseByte (power s) → RowTimes a b p e r
+before-all {a} {b} {p} {n} {i} {e} {s} h k m er =
+    let l : length (productLetters n a b) ≡ n = length-letters n a b in
+    let within : i ≤ n = m .within in
+    let i-n : i ≡ n = omega arith in
+    let i-is : i ≡ length (productLetters n a b) = omega arith in
+    let whole : e ≡ productLetters n a b ++ drop n a =
+    m .out ∙ ap (fill (productLetters n a b) a) i-is ∙ fill-all (productLetters n a b) a ∙ ap (λ (j : ℕ). productLetters n a b ++ drop j a) l in
+    record {
+      letters = rw h at whole;
+      total = er ∙ ap phaseByte (m .turns) ∙ ap (λ (j : ℕ). phaseByte (phaseOf p · productPhase j a b)) (i-n ∙ h);
+    }
+
+pub before-length : {a b : List ℕ} {p n i : ℕ} {e : List ℕ} {s : ℕ} → n ≡ shorter a b → Before a b p n i e s → length e ≡ length a
+before-length {a} {b} {p} {n} {i} h m =
+    let within : i ≤ n = m .within in
+    ap length (m .out) ∙ length-fill (productLetters n a b) a i (omega (arith, length-letters n a b)) (omega arith)
+
+pub room : {a b : List ℕ} {p n i : ℕ} {e : List ℕ} {s : ℕ} → n ≡ shorter a b → Before a b p n i e s → i < n → i < length e
+room h m k = omega (arith, before-length h m)
+
+pub ruleset rows = (before-none, before-step, before-all, before-length, room, needs)
+
+-- ---- what a caller reads off `RowTimes`, place by place
+pub row-length : {a b : List ℕ} {p : ℕ} {e : List ℕ} {r : ℕ} → RowTimes a b p e r → length e ≡ length a
+row-length {a} {b} m =
+    let n = shorter a b in
+    ap length (m .letters) ∙ length-append (productLetters n a b) (drop n a) ∙ omega (arith, length-letters n a b, length-drop n a)
+
+pub row-made : {a b : List ℕ} {p : ℕ} {e : List ℕ} {r : ℕ} → RowTimes a b p e r → (i : ℕ) → i < shorter a b
+    → getD e i 0 ≡ letterByte (letterMul (letterAt a i) (letterAt b i))
+row-made {a} {b} m i h =
+    let n = shorter a b in
+    ap (λ (l : List ℕ). getD l i 0) (m .letters)
+    ∙ List·getD-append (productLetters n a b) (drop n a) 0 i (omega (arith, length-letters n a b))
+    ∙ sym (letter-here n a b i h)
+
+pub row-kept : {a b : List ℕ} {p : ℕ} {e : List ℕ} {r : ℕ} → RowTimes a b p e r → (i : ℕ) → shorter a b ≤ i → getD e i 0 ≡ getD a i 0
+row-kept {a} {b} m i h =
+    let n = shorter a b in
+    let split : i ≡ length (productLetters n a b) + (i - n) = omega (arith, length-letters n a b) in
+    let whole : n + (i - n) ≡ i = omega arith in
+    ap₂ (λ (l : List ℕ) (j : ℕ). getD l j 0) (m .letters) split
+    ∙ getD-append-add (productLetters n a b) (drop n a) (i - n) 0 ∙ getD-drop n a (i - n) 0 ∙ ap (λ (j : ℕ). getD a j 0) whole
+
+-- the kernel agrees with `multiply_paulis` at every place, for all bytes
+pub letter-of-place : {a b : List ℕ} {p : ℕ} {e : List ℕ} {r : ℕ} → RowTimes a b p e r → (i : ℕ) → i < shorter a b
+    → getD e i 0 ≡ letterBytesProduct (getD a i 0) (getD b i 0) .1
+unfolding letterBytesProduct letterAt
+letter-of-place m i h = row-made m i h
+
+pub phase-of-places : (n : ℕ) (a b : List ℕ)
+    → productPhase n a b ≡ productTo n (λ q. phaseOf (letterBytesProduct (getD a q 0) (getD b q 0) .0))
+unfolding productPhase letterBytesProduct letterAt productTo
+phase-of-places zero a b = refl
+phase-of-places (suc n) a b = ap₂ _·_ (phase-of-places n a b) (sym (phase-back (letterPhase (letterOf (getD a n 0)) (letterOf (getD b n 0)))))
+
+-- ---- the places counted before place i of n
+pub record Counted (a b : List ℕ) (n i c : ℕ) : Type 0 where
+  pub within : i ≤ n
+  pub is : c ≡ placesOf i a b % 256
+
+pub counted-none : {a b : List ℕ} {n : ℕ} → Counted a b n 0 0
+unfolding placesOf countTo
+counted-none = record { within = zero-le; is = refl }
+
+places-more : (a b : List ℕ) (i : ℕ) → placesOf (i + 1) a b ≡ placesOf i a b + anticommuting (getD a i 0) (getD b i 0)
+unfolding placesOf countTo letterAt anticommuting
+places-more a b i = rw (add-one i)
+
+pub counted-step : {a b : List ℕ} {n i c : ℕ} → i < n → Counted a b n i c → {t u : ℕ} → t ≡ anticommuting (getD a i 0) (getD b i 0) → u ≡ (c + t) % 256
+    → Counted a b n (i + 1) u
+counted-step {a} {b} {n} {i} {c} h m {t} et eu = record {
+  within = omega arith;
+  is = eu ∙ rw (places-more a b i, ← et) (omega (arith, m .is));
+}
+
+pub counted-all : {a b : List ℕ} {n i c : ℕ} → n ≡ shorter a b → n ≤ i → Counted a b n i c → c ≡ placesOf (shorter a b) a b % 256
+counted-all {a} {b} {n} {i} h k m =
+    let within : i ≤ n = m .within in
+    let i-n : i ≡ n = omega arith in
+    m .is ∙ ap (λ (j : ℕ). placesOf j a b % 256) (i-n ∙ h)
+
+-- up to 255 places the count is exact
+pub count-exact : (n : ℕ) (a b : List ℕ) → n ≤ 255 → placesOf n a b % 256 ≡ placesOf n a b
+unfolding placesOf
+count-exact n a b h = omega (arith, countTo-le n (λ q. anticommute (letterAt a q) (letterAt b q)))
+
+pub ruleset counts = (counted-none, counted-step, counted-all, needs)

@@ -1,0 +1,118 @@
+-- Quarter turns: sums of them are products of phases. What the functions on one place need.
+use mathlib.Core.Path.{_≡_, refl, sym, ap, ap₂, _∙_}
+use mathlib.Core.Bool.{Bool, cond}
+use Prim.Native.Nat.{ℕ, zero, suc, _+_, _*_, _/_, _%_, _<_, _≤_}
+use native.Mathlib.Nat.{div-add-mod', zero-mul, suc-mul}
+use native.Mathlib.Omega.{arith}
+use lib.Dec.{T, eqb, eqb→eq}
+use lib.Bits.{bitXor, bitAnd, and-le-l}
+use mir.Syntax.{w8}
+use mir.Val.{Fits}
+use borrow.Author.Needs.{needs}
+use Rattle.pauli_group.specs.Phase.{Phase, PlusOne, PlusI, MinusI, negate, turn, _·_}
+use Rattle.pauli_group.specs.Letter.{Letter, letterProduct, letterPhase, letterMul, anticommute}
+use Rattle.pauli_group.specs.Papers.{power}
+use Rattle.pauli_group.proofs.Finite.{letters, phases, law2}
+use Rattle.pauli_group.proofs.PaperForms.{power-add}
+use Rattle.pauli.specs.Layout.{phaseByte, phaseOf, letterByte, letterOf}
+use Rattle.pauli.specs.Rows.{phaseBytesProduct}
+use Rattle.pauli.specs.Turns.{LetterByte, forY, ForY, LetterTurns, PhaseTurns, anticommuting}
+
+-- ---- powers of i
+power-times : (k m : ℕ) → power m ≡ PlusOne → power (k * m) ≡ PlusOne
+unfolding power _·_ negate turn
+power-times zero m e = ap power (zero-mul m)
+power-times (suc k) m e = ap power (suc-mul k m) ∙ power-add (k * m) m ∙ ap₂ _·_ (power-times k m e) e
+
+power-mod : (n m : ℕ) → power m ≡ PlusOne → power (n % m) ≡ power n
+unfolding _·_
+power-mod n m e =
+    sym (ap power (sym (div-add-mod' n m)) ∙ power-add (n / m * m) (n % m) ∙ ap (λ (p : Phase). p · power (n % m)) (power-times (n / m) m e))
+
+-- a byte's sum of turns
+pub power-sum : (s t : ℕ) → power ((s + t) % 256) ≡ power s · power t
+unfolding power turn
+power-sum s t = power-mod (s + t) 256 refl ∙ power-add s t
+
+-- ---- letters as bytes, by computed tests over the sixteen pairs
+module _ (f g : Letter → Letter → ℕ) where
+  by-pairs : T (letters .all (λ a. letters .all (λ b. eqb (f a b) (g a b)))) → (a b : Letter) → f a b ≡ g a b
+  by-pairs t a b = eqb→eq (f a b) (g a b) (letters .each (λ b. eqb (f a b) (g a b)) (letters .each (λ a. letters .all (λ b. eqb (f a b) (g a b))) t a) b)
+
+letter-xor : (a b : Letter) → bitXor (letterByte a) (letterByte b) ≡ letterByte (letterMul a b)
+unfolding letterMul letterProduct letterByte
+letter-xor = by-pairs (λ a b. bitXor (letterByte a) (letterByte b)) (λ a b. letterByte (letterMul a b)) tt
+
+abbrev turnsOf : ℕ → ℕ → ℕ
+turnsOf x y = forY 1 x + forY 1 y + forY 3 (bitXor x y) + bitAnd x (y + y)
+
+letter-turns : (a b : Letter) → power (turnsOf (letterByte a) (letterByte b)) ≡ letterPhase a b
+unfolding letterPhase letterProduct letterByte turn power forY
+letter-turns = law2 letters letters phases (λ a b. power (turnsOf (letterByte a) (letterByte b))) letterPhase tt
+
+abbrev crossing : ℕ → ℕ → ℕ
+crossing x y = bitXor (bitAnd x (y + y)) (bitAnd y (x + x)) / 2
+
+letter-crossing : (a b : Letter) → crossing (letterByte a) (letterByte b) ≡ cond (anticommute a b) 1 0
+unfolding anticommute letterByte
+letter-crossing = by-pairs (λ a b. crossing (letterByte a) (letterByte b)) (λ a b. cond (anticommute a b) 1 0) tt
+
+-- ---- what the functions on one place need
+pub byte-low : (x : ℕ) → x < 3 → LetterByte x x
+unfolding letterByte letterOf
+byte-low zero h = record { is = refl; small = omega arith }
+byte-low (suc zero) h = record { is = refl; small = omega arith }
+byte-low (suc (suc zero)) h = record { is = refl; small = omega arith }
+byte-low (suc (suc (suc n))) h = absurd (omega arith)
+
+pub byte-high : (x : ℕ) → 3 ≤ x → LetterByte x 3
+unfolding letterByte letterOf
+byte-high zero h = absurd (omega arith)
+byte-high (suc zero) h = absurd (omega arith)
+byte-high (suc (suc zero)) h = absurd (omega arith)
+byte-high (suc (suc (suc n))) h = record { is = refl; small = omega arith }
+
+pub y-low : (k x : ℕ) → x < 3 → ForY k x 0
+unfolding forY
+y-low k zero h = record { is = refl; small = omega arith }
+y-low k (suc zero) h = record { is = refl; small = omega arith }
+y-low k (suc (suc zero)) h = record { is = refl; small = omega arith }
+y-low k (suc (suc (suc n))) h = absurd (omega arith)
+
+pub y-high : (k x : ℕ) → 3 ≤ x → ForY k x k
+unfolding forY
+y-high k zero h = absurd (omega arith)
+y-high k (suc zero) h = absurd (omega arith)
+y-high k (suc (suc zero)) h = absurd (omega arith)
+y-high k (suc (suc (suc n))) h = record { is = refl; small = omega arith }
+
+pub letter-is : {a b x y : ℕ} → LetterByte a x → LetterByte b y → bitXor x y ≡ letterByte (letterMul (letterOf a) (letterOf b))
+letter-is {a} {b} f g = rw (f .is, g .is) (letter-xor (letterOf a) (letterOf b))
+
+pub turns-fit : {a x y k m n : ℕ} → LetterByte a x → ForY 1 x k → ForY 1 y m → ForY 3 (bitXor x y) n → Fits w8 (k + m + n + bitAnd x (y + y))
+turns-fit {x = x} {y = y} f p q r = record { fits = omega (arith, and-le-l x (y + y), f .small, p .small, q .small, r .small) }
+
+pub turns-are : {a b x y k m n : ℕ} → LetterByte a x → LetterByte b y → ForY 1 x k → ForY 1 y m → ForY 3 (bitXor x y) n
+    → LetterTurns a b (k + m + n + bitAnd x (y + y))
+turns-are {a} {b} f g p q r = record { is = rw (p .is, q .is, r .is, f .is, g .is) (letter-turns (letterOf a) (letterOf b)) }
+
+pub crossing-is : {a b x y : ℕ} → LetterByte a x → LetterByte b y → crossing x y ≡ anticommuting a b
+unfolding anticommuting
+crossing-is {a} {b} f g = rw (f .is, g .is) (letter-crossing (letterOf a) (letterOf b))
+
+pub phase-key : {p t : ℕ} (k : ℕ) → p ≡ k → power t ≡ phaseOf k → PhaseTurns p t
+phase-key k e h = record { is = h ∙ ap phaseOf (sym e) }
+
+pub turn-key : (t m : ℕ) {r : ℕ} → t % 4 ≡ m → r ≡ phaseByte (power m) → r ≡ phaseByte (power t)
+unfolding power turn
+turn-key t m e h = h ∙ ap (λ (x : ℕ). phaseByte (power x)) (sym e) ∙ ap phaseByte (power-mod t 4 refl)
+
+pub turn-rest : (t : ℕ) → ((Unit {0} × (t % 4 ≡ 0 → ⊥)) × (t % 4 ≡ 1 → ⊥)) × (t % 4 ≡ 2 → ⊥) → phaseByte MinusI ≡ phaseByte (power t)
+unfolding power turn
+turn-rest t h = turn-key t 3 (omega arith) refl
+
+pub phases-are : {a b s t u r : ℕ} → PhaseTurns a s → PhaseTurns b t → u ≡ (s + t) % 256 → r ≡ phaseByte (power u) → r ≡ phaseBytesProduct a b
+unfolding phaseBytesProduct
+phases-are {s = s} {t = t} f g e h = h ∙ ap (λ (x : ℕ). phaseByte (power x)) e ∙ ap phaseByte (power-sum s t ∙ ap₂ _·_ (f .is) (g .is))
+
+pub ruleset places = (byte-low, byte-high, y-low, y-high, letter-is, turns-fit, turns-are, crossing-is, phases-are, needs)

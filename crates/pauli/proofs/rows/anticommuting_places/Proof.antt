@@ -1,0 +1,19 @@
+-- `rows::anticommuting_places` meets its contract, by the laws of `Counted`.
+use Prim.Native.Nat.{_-_}
+use Rattle.pauli.proofs.RowProducts.{Counted, counts}
+use Rattle.pauli.proofs.rows.anticommuting_places.Statement.{statement}
+use Rattle.pauli.proofs.rows.anticommuting_places.Tie as tie
+
+abbrev Inv-loop : tie.InvT-loop
+Inv-loop a b n count₀ i₀ count i = Counted a b n i count
+
+abbrev μ-loop : tie.MeasureT-loop
+μ-loop a b n count₀ i₀ count i = n - i
+
+pub anticommuting-places-spec : {M : Type 1} → statement M
+anticommuting-places-spec =
+    tie.close
+    (tie.spec
+    Inv-loop μ-loop
+    (λ c. search counts) (λ c. search counts) (λ c. search counts) (λ c. search counts) (λ c. search counts)
+    (λ c. search counts) (λ c. search counts) (λ c. search counts) (λ c. search counts) (λ c. search counts))

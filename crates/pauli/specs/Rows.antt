@@ -1,0 +1,42 @@
+-- Rows of letter bytes, as far as both rows reach; a byte above 3 is read as 3. What the kernels promise.
+use Prim.Native.Nat.{ℕ, zero, suc, min, _≤_}
+use mathlib.Core.Path.{_≡_}
+use mathlib.Core.List.{List, _++_}
+use lib.ListN.{length, drop, getD}
+use Rattle.pauli_group.specs.Phase.{Phase, _·_}
+use Rattle.pauli_group.specs.Letter.{Letter, letterPhase, letterMul, anticommute}
+use Rattle.pauli_group.specs.PauliString.{productTo, countTo}
+use Rattle.pauli.specs.Places.{listed}
+use Rattle.pauli.specs.Layout.{phaseByte, phaseOf, letterByte, letterOf}
+use Rattle.pauli.specs.declared.algebra.PhasedLetter.{PhasedLetter}
+
+-- two letter bytes multiplied: the phase byte and the letter byte
+unfoldable pub letterBytesProduct : ℕ → ℕ → PhasedLetter
+letterBytesProduct a b = (phaseByte (letterPhase (letterOf a) (letterOf b)), letterByte (letterMul (letterOf a) (letterOf b)))
+
+-- two phase bytes multiplied
+unfoldable pub phaseBytesProduct : ℕ → ℕ → ℕ
+phaseBytesProduct a b = phaseByte (phaseOf a · phaseOf b)
+
+-- the letter at a place of a row
+unfoldable pub letterAt : List ℕ → ℕ → Letter
+letterAt a q = letterOf (getD a q 0)
+
+-- the letter bytes of the first n places of a product, and the phase that these places give
+unfoldable pub productLetters : ℕ → List ℕ → List ℕ → List ℕ
+productLetters n a b = listed n (λ q. letterByte (letterMul (letterAt a q) (letterAt b q)))
+
+unfoldable pub productPhase : ℕ → List ℕ → List ℕ → Phase
+productPhase n a b = productTo n (λ q. letterPhase (letterAt a q) (letterAt b q))
+
+-- at how many of the first n places the letters anticommute
+unfoldable pub placesOf : ℕ → List ℕ → List ℕ → ℕ
+placesOf n a b = countTo n (λ q. anticommute (letterAt a q) (letterAt b q))
+
+abbrev pub shorter : List ℕ → List ℕ → ℕ
+shorter a b = min (length a) (length b)
+
+-- the row a multiplied by b on the right, in place: it then holds e, and r is phase p times the places' phases
+pub record RowTimes (a b : List ℕ) (p : ℕ) (e : List ℕ) (r : ℕ) : Type 0 where
+  pub letters : e ≡ productLetters (shorter a b) a b ++ drop (shorter a b) a
+  pub total : r ≡ phaseByte (phaseOf p · productPhase (shorter a b) a b)

@@ -1,0 +1,34 @@
+-- What the pieces of the kernels promise. A place's phase is counted in quarter turns, the exponent of i; Y = iXZ and ZX = -XZ.
+use Prim.Native.Nat.{ℕ, zero, suc, _≤_}
+use mathlib.Core.Path.{_≡_}
+use mathlib.Core.Bool.{cond}
+use Rattle.pauli_group.specs.Letter.{letterPhase, anticommute}
+use Rattle.pauli_group.specs.Papers.{power}
+use Rattle.pauli.specs.Layout.{phaseOf, letterByte, letterOf}
+
+-- r is the byte x read as a letter
+pub record LetterByte (x r : ℕ) : Type 0 where
+  pub is : r ≡ letterByte (letterOf x)
+  pub small : r ≤ 3
+
+-- k for the byte of Y, else 0
+unfoldable pub forY : ℕ → ℕ → ℕ
+forY k zero = 0
+forY k (suc zero) = 0
+forY k (suc (suc zero)) = 0
+forY k (suc (suc (suc n))) = k
+
+pub record ForY (k x r : ℕ) : Type 0 where
+  pub is : r ≡ forY k x
+  pub small : r ≤ k
+
+-- t quarter turns are the phase of a letter product; of a phase byte
+pub record LetterTurns (a b t : ℕ) : Type 0 where
+  pub is : power t ≡ letterPhase (letterOf a) (letterOf b)
+
+pub record PhaseTurns (p t : ℕ) : Type 0 where
+  pub is : power t ≡ phaseOf p
+
+-- 1 where two letter bytes anticommute, else 0
+unfoldable pub anticommuting : ℕ → ℕ → ℕ
+anticommuting a b = cond (anticommute (letterOf a) (letterOf b)) 1 0

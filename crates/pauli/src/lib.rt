@@ -1,0 +1,5 @@
+// Pauli strings as byte records: phases, letters, strings, their products and their commutation.
+// Every public function is total: any bytes of any length get an answer or a numbered refusal.
+pub mod algebra;
+pub mod refusal;
+pub mod rows;

@@ -1,0 +1,131 @@
+// Kernels on rows of letter bytes. They stop at the shortest row and read a byte above 3 as 3, so they ask nothing of a caller.
+ghost use mathlib.Core.Path.{_≡_};
+ghost use Prim.Native.Nat.{_%_, min};
+ghost use Rattle.pauli_group.specs.Letter.{letterMul};
+ghost use Rattle.pauli_group.specs.Papers.{power};
+ghost use Rattle.pauli.specs.Layout.{phaseByte, letterByte, letterOf};
+ghost use Rattle.pauli.specs.Questions.{firstBad};
+ghost use Rattle.pauli.specs.Rows.{phaseBytesProduct, placesOf, shorter, RowTimes};
+ghost use Rattle.pauli.specs.Turns.{LetterByte, ForY, LetterTurns, PhaseTurns, anticommuting};
+
+fn smaller(a: usize, b: usize) -> usize
+    ensures { λ r. ⌜ r ≡ min a b ⌝ }
+{
+    if a < b { a } else { b }
+}
+
+// A letter byte; a byte above 3 is read as 3.
+fn letter_byte(x: u8) -> u8
+    ensures { λ r. ⌜ LetterByte x r ⌝ }
+{
+    if x < 3 { x } else { 3 }
+}
+
+// k for the byte of Y, else 0.
+fn for_y(x: u8, k: u8) -> u8
+    ensures { λ r. ⌜ ForY k x r ⌝ }
+{
+    if x < 3 { 0 } else { k }
+}
+
+// The letter of a product of two letters: the bits of X and of Z are added.
+fn times_letter(a: u8, b: u8) -> u8
+    ensures { λ r. ⌜ r ≡ letterByte (letterMul (letterOf a) (letterOf b)) ⌝ }
+{
+    letter_byte(a) ^ letter_byte(b)
+}
+
+// Its phase in quarter turns: one for each factor Y, three for a product Y, two for a Z that passes an X.
+fn times_turns(a: u8, b: u8) -> u8
+    ensures { λ r. ⌜ LetterTurns a b r ⌝ }
+{
+    let x = letter_byte(a);
+    let y = letter_byte(b);
+    let own = for_y(x, 1) + for_y(y, 1) + for_y(x ^ y, 3);
+    own + (x & (y + y))
+}
+
+fn phase_turns(p: u8) -> u8
+    ensures { λ r. ⌜ PhaseTurns p r ⌝ }
+{
+    match p {
+        0 => 0,
+        1 => 2,
+        2 => 1,
+        _ => 3,
+    }
+}
+
+fn turns_phase(t: u8) -> u8
+    ensures { λ r. ⌜ r ≡ phaseByte (power t) ⌝ }
+{
+    let k = t % 4;
+    match k {
+        0 => 0,
+        1 => 2,
+        2 => 1,
+        _ => 3,
+    }
+}
+
+// The product of two phases.
+pub fn phase_times(a: u8, b: u8) -> u8
+    ensures { λ r. ⌜ r ≡ phaseBytesProduct a b ⌝ }
+{
+    turns_phase(std::num::wrapping_add_u8(phase_turns(a), phase_turns(b)))
+}
+
+// The row acc multiplied by the row b on the right, as far as both reach; the answer is phase times the places' phases.
+// The turns are summed in a byte: it wraps at 256, a multiple of 4.
+pub fn multiply_letters(acc: &mut [u8], b: &[u8], phase: u8) -> u8
+    ensures { λ r. ⌜ RowTimes (now (acc .entry)) (now (b .entry)) phase (now (acc .exit)) r ⌝ }
+{
+    let n = smaller(acc.len(), b.len());
+    let mut turns = phase_turns(phase);
+    let mut i = 0;
+    while i < n {
+        let x = acc[i];
+        let y = b[i];
+        turns = std::num::wrapping_add_u8(turns, times_turns(x, y));
+        acc[i] = times_letter(x, y);
+        i += 1;
+    }
+    turns_phase(turns)
+}
+
+// 1 where two letters anticommute, else 0.
+fn letters_anticommute(a: u8, b: u8) -> u8
+    ensures { λ r. ⌜ r ≡ anticommuting a b ⌝ }
+{
+    let x = letter_byte(a);
+    let y = letter_byte(b);
+    ((x & (y + y)) ^ (y & (x + x))) / 2
+}
+
+// The number of places, of those that both rows have, at which the letters anticommute, modulo 256.
+pub fn anticommuting_places(a: &[u8], b: &[u8]) -> u8
+    ensures { λ r. ⌜ r ≡ placesOf (shorter (now (a .entry)) (now (b .entry))) (now (a .entry)) (now (b .entry)) % 256 ⌝ }
+{
+    let n = smaller(a.len(), b.len());
+    let mut count: u8 = 0;
+    let mut i = 0;
+    while i < n {
+        count = std::num::wrapping_add_u8(count, letters_anticommute(a[i], b[i]));
+        i += 1;
+    }
+    count
+}
+
+// The first offset with a byte above 3, or the length.
+pub fn first_bad(s: &[u8]) -> usize
+    ensures { λ r. ⌜ r ≡ firstBad (now (s .entry)) ⌝ }
+{
+    let mut i = 0;
+    while i < s.len() {
+        if 3 < s[i] {
+            return i;
+        }
+        i += 1;
+    }
+    i
+}
