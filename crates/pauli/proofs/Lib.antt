@@ -4,3 +4,4 @@ pub mod Places
 pub mod Records
 pub mod Turns
 pub mod RowProducts
+pub mod Asking
