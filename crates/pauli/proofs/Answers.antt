@@ -3,6 +3,7 @@ use mathlib.Core.Path.{_≡_, refl, sym, ap, ap₂, _∙_}
 use mathlib.Core.Bool.{Bool, true, false}
 use mathlib.Core.List.{List}
 use Prim.Native.Nat.{ℕ, _+_, _*_}
+use Rattle.pauli.specs.declared.algebra.PhasedLetter.{PhasedLetter}
 use Rattle.pauli.specs.declared.refusal.Refusal.{Refusal}
 use Rattle.pauli.specs.declared.refusal.Outcome.{Outcome}
 use Rattle.pauli.specs.declared.refusal.Outcome.the-variants.{Done, Refused}
@@ -14,6 +15,7 @@ use Rattle.pauli.specs.declared.refusal.Flag.{Flag}
 use Rattle.pauli.specs.declared.refusal.Flag.the-variants.{Yes, No, NoFlag}
 use Rattle.pauli.specs.declared.refusal.LetterAnswer.{LetterAnswer}
 use Rattle.pauli.specs.declared.refusal.LetterAnswer.the-variants.{Phased, NoLetter}
+use Rattle.pauli.specs.Rows.{letterBytesProduct, productPhaseByte, productLetterByte}
 use Rattle.pauli.specs.Answers.{refusalNumber, refusalDetail, reply, refusalReply, replyTo, outcomeReply, productReply, byteReply, flagReply, letterReply}
 use Rattle.pauli.specs.Answers.{productAnswer, byteAnswer, yesOrNo, oneOrZero, flagAnswer, letterAnswer, written, ByteAnswered, FlagAnswered, LetterAnswered, Written, ProductWritten}
 
@@ -110,6 +112,12 @@ pub letter-done : {q r : Outcome} {p l v w : ℕ} → r ≡ q → r ≡ Done →
 unfolding letterAnswer
 letter-done {q} {r} {p} {l} e h ep el = letter-answered (ap₂ Phased ep el ∙ ap (λ x. letterAnswer x p l) (sym h ∙ e))
 
+-- of a phase and a letter that were got together
+pub phased-done : {q r : Outcome} {x : PhasedLetter} {v w : ℕ} (a b : ℕ) → r ≡ q → r ≡ Done → x ≡ letterBytesProduct a b → v ≡ x .0 → w ≡ x .1
+    → LetterAnswered q (productPhaseByte a b) (productLetterByte a b) (Phased v w)
+unfolding letterBytesProduct
+phased-done a b e h p ev ew = letter-done e h (ev ∙ ap (λ (x : PhasedLetter). x .0) p) (ew ∙ ap (λ (x : PhasedLetter). x .1) p)
+
 pub letter-not : {q r : Outcome} {x : Refusal} (p l : ℕ) → r ≡ q → r ≡ Refused x → LetterAnswered q p l (NoLetter x)
 unfolding letterAnswer
 letter-not p l e h = letter-answered (ap (λ x. letterAnswer x p l) (sym h ∙ e))
@@ -124,5 +132,6 @@ pub ruleset answers = (
   flag-done,
   flag-not,
   letter-done,
+  phased-done,
   letter-not,
 )

@@ -1,11 +1,11 @@
 -- Questions put in order: what a question that lets by or refuses says of the whole, and what the whole says of each.
 use mathlib.Core.Path.{_≡_, refl, sym, ap, _∙_}
 use mathlib.Core.Bool.{Bool, true, false}
-use mathlib.Core.List.{List}
+use mathlib.Core.List.{List, _++_}
 use Prim.Native.Nat.{ℕ, _+_, _≤_, _<_}
 use native.Mathlib.Omega.{arith}
 use lib.Dec.{eqb, ltb, leb}
-use lib.ListN.{length, getD}
+use lib.ListN.{length, getD, drop}
 use borrow.Author.Tests.{eqb-true, leb-true, ltb-true, le-leb, lt-leb, lt-ltb, le-ltb, eq-eqb, ne-eqb, ltb-false}
 use borrow.Author.Needs.{needs}
 use Rattle.pauli_group.specs.PauliString.{PauliString, qubits}
@@ -13,6 +13,7 @@ use Rattle.pauli.specs.declared.refusal.Refusal.{Refusal}
 use Rattle.pauli.specs.declared.refusal.Refusal.the-variants.{Length, BadByte, Qubit, Room, Duplicate}
 use Rattle.pauli.specs.declared.refusal.Outcome.{Outcome}
 use Rattle.pauli.specs.declared.refusal.Outcome.the-variants.{Done, Refused}
+use Rattle.pauli.specs.Answers.{written}
 use Rattle.pauli.specs.Layout.{stringLength, WellFormed, stringRecord, stringOf, encodeString, decodeString}
 use Rattle.pauli.specs.Questions.{ask, _andThen_, firstBad, bytesQuestion, byteQuestion, pairQuestions, stringQuestions, stringsQuestions, qubitQuestion, roomQuestion}
 use Rattle.pauli.proofs.Places.{first-le, first-is, first-before}
@@ -108,7 +109,18 @@ string-good s l e h =
     passed (asked-yes Length (eq-eqb (length s) 129 l)) refl (asked-yes (BadByte (0 + firstBad s)) (le-leb (length s) (firstBad s) (omega arith)))
 
 pub ruleset questions = (
-  refused, passed, byte-bad, byte-good, qubit-in, qubit-out, no-room, has-room, string-short, string-bad, string-good, needs,
+  refused,
+  passed,
+  byte-bad,
+  byte-good,
+  qubit-in,
+  qubit-out,
+  no-room,
+  has-room,
+  string-short,
+  string-bad,
+  string-good,
+  needs,
 )
 
 -- ---- what is admitted: a string's questions let by exactly the bytes of some string
@@ -141,3 +153,12 @@ strings-admitted s = formed-good _ (encode-formed 128 s)
 pub admitted-strings : (b : List ℕ) → stringQuestions b ≡ Done → b ≡ stringRecord (stringOf b)
 unfolding stringRecord stringOf qubits
 admitted-strings b e = sym (encode-decode (string-formed b e))
+
+-- ---- a record written over the front of a destination
+pub record-length : (s : PauliString) → length (stringRecord s) ≡ 129
+unfolding stringRecord qubits
+record-length s = encode-formed 128 s .long
+
+pub record-bytes : (s : PauliString) (d : List ℕ) → stringRecord s ++ drop 129 d ≡ written Done (stringRecord s) d
+unfolding written
+record-bytes s d = ap (λ (j : ℕ). stringRecord s ++ drop j d) (sym (record-length s))

@@ -5,3 +5,4 @@ pub mod Records
 pub mod Turns
 pub mod RowProducts
 pub mod Asking
+pub mod StringProducts

@@ -127,6 +127,42 @@ fill-at (suc i) [] d h k = absurd (not-suc-le-zero h)
 fill-at (suc i) (x ∷ s) [] h k = absurd (not-suc-le-zero k)
 fill-at (suc i) (x ∷ s) (y ∷ d) h k = fill-at i s d (le-of-suc-le-suc h) (le-of-suc-le-suc k)
 
+-- what a loop that writes s over d, as far as n, has done before place i
+pub record Filled (s d : List ℕ) (n i : ℕ) (e : List ℕ) : Type 0 where
+  pub within : i ≤ n
+  pub source : n ≤ length s
+  pub room : n ≤ length d
+  pub out : e ≡ fill s d i
+
+pub filled-none : {s d : List ℕ} {n : ℕ} → n ≤ length s → n ≤ length d → Filled s d n 0 d
+filled-none h k = record { within = omega arith; source = h; room = k; out = refl }
+
+pub filled-step : {s d : List ℕ} {n i : ℕ} {e : List ℕ} {x : ℕ} → Filled s d n i e → i < n → x ≡ getD s i 0 → Filled s d n (i + 1) (set e i x)
+filled-step {s} {d} {n} {i} {e} {x} m h ex =
+    let source : n ≤ length s = m .source in
+    let room : n ≤ length d = m .room in
+    record {
+      within = omega arith;
+      source = source;
+      room = room;
+      out = ap (λ (l : List ℕ). set l i x) (m .out) ∙ fill-more s d i x (omega arith) (omega arith) ex;
+    }
+
+pub filled-length : {s d : List ℕ} {n i : ℕ} {e : List ℕ} → Filled s d n i e → length e ≡ length d
+filled-length {s} {d} {n} {i} m =
+    let within : i ≤ n = m .within in
+    let source : n ≤ length s = m .source in
+    let room : n ≤ length d = m .room in
+    ap length (m .out) ∙ length-fill s d i (omega arith) (omega arith)
+
+pub filled-room : {s d : List ℕ} {n i : ℕ} {e : List ℕ} → Filled s d n i e → i < n → i < length e
+filled-room m h = let room = m .room in omega (arith, filled-length m)
+
+pub filled-all : {s d : List ℕ} {n i : ℕ} {e : List ℕ} (k : ℕ) → n ≡ k → Filled s d n i e → n ≤ i → e ≡ take k s ++ drop k d
+filled-all {s} {d} {n} {i} k p m h = let within : i ≤ n = m .within in let e : i ≡ k = omega arith in m .out ∙ ap (fill s d) e
+
+pub ruleset fills = (filled-none, filled-step, filled-length, filled-room, filled-all, needs)
+
 -- ---- the part `&s[k..]`
 abbrev pub from : ℕ → List ℕ → List ℕ
 from k s = take (length s - k) (drop k s)

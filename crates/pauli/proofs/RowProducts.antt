@@ -15,7 +15,7 @@ use Rattle.pauli_group.specs.Papers.{power}
 use Rattle.pauli_group.proofs.Laws.{·-assoc, ·-one}
 use Rattle.pauli_group.proofs.Products.{countTo-le}
 use Rattle.pauli.specs.Layout.{phaseByte, phaseOf, letterByte, letterOf}
-use Rattle.pauli.specs.Rows.{letterBytesProduct, letterAt, productLetters, productPhase, placesOf, shorter, RowTimes}
+use Rattle.pauli.specs.Rows.{productPhaseByte, productLetterByte, letterBytesProduct, letterAt, productLetters, productPhase, placesOf, shorter, RowTimes}
 use Rattle.pauli.specs.Turns.{LetterTurns, PhaseTurns, anticommuting}
 use Rattle.pauli.proofs.Places.{length-listed, getD-listed, fill, fill-more, fill-all, length-fill, fill-at}
 use Rattle.pauli.proofs.Records.{phase-back}
@@ -112,12 +112,12 @@ row-kept {a} {b} m i h =
 -- the kernel agrees with `multiply_paulis` at every place, for all bytes
 pub letter-of-place : {a b : List ℕ} {p : ℕ} {e : List ℕ} {r : ℕ} → RowTimes a b p e r → (i : ℕ) → i < shorter a b
     → getD e i 0 ≡ letterBytesProduct (getD a i 0) (getD b i 0) .1
-unfolding letterBytesProduct letterAt
+unfolding letterBytesProduct productLetterByte letterAt
 letter-of-place m i h = row-made m i h
 
 pub phase-of-places : (n : ℕ) (a b : List ℕ)
     → productPhase n a b ≡ productTo n (λ q. phaseOf (letterBytesProduct (getD a q 0) (getD b q 0) .0))
-unfolding productPhase letterBytesProduct letterAt productTo
+unfolding productPhase letterBytesProduct productPhaseByte letterAt productTo
 phase-of-places zero a b = refl
 phase-of-places (suc n) a b = ap₂ _·_ (phase-of-places n a b) (sym (phase-back (letterPhase (letterOf (getD a n 0)) (letterOf (getD b n 0)))))
 

@@ -6,3 +6,4 @@ pub mod Questions
 pub mod Rows
 pub mod Strings
 pub mod Turns
+pub mod Writing

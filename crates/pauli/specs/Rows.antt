@@ -1,22 +1,32 @@
 -- Rows of letter bytes, as far as both rows reach; a byte above 3 is read as 3. What the kernels promise.
 use Prim.Native.Nat.{ℕ, zero, suc, min, _≤_}
 use mathlib.Core.Path.{_≡_}
-use mathlib.Core.List.{List, _++_}
-use lib.ListN.{length, drop, getD}
-use Rattle.pauli_group.specs.Phase.{Phase, _·_}
+use mathlib.Core.List.{List, [], _∷_, _++_}
+use lib.ListN.{length, take, drop, getD}
+use Rattle.pauli_group.specs.Phase.{Phase, _·_, conjugate}
 use Rattle.pauli_group.specs.Letter.{Letter, letterPhase, letterMul, anticommute}
 use Rattle.pauli_group.specs.PauliString.{productTo, countTo}
 use Rattle.pauli.specs.Places.{listed}
 use Rattle.pauli.specs.Layout.{phaseByte, phaseOf, letterByte, letterOf}
 use Rattle.pauli.specs.declared.algebra.PhasedLetter.{PhasedLetter}
 
--- two letter bytes multiplied: the phase byte and the letter byte
+-- two letter bytes multiplied: the phase byte, the letter byte, and both
+unfoldable pub productPhaseByte : ℕ → ℕ → ℕ
+productPhaseByte a b = phaseByte (letterPhase (letterOf a) (letterOf b))
+
+unfoldable pub productLetterByte : ℕ → ℕ → ℕ
+productLetterByte a b = letterByte (letterMul (letterOf a) (letterOf b))
+
 unfoldable pub letterBytesProduct : ℕ → ℕ → PhasedLetter
-letterBytesProduct a b = (phaseByte (letterPhase (letterOf a) (letterOf b)), letterByte (letterMul (letterOf a) (letterOf b)))
+letterBytesProduct a b = (productPhaseByte a b, productLetterByte a b)
 
 -- two phase bytes multiplied
 unfoldable pub phaseBytesProduct : ℕ → ℕ → ℕ
 phaseBytesProduct a b = phaseByte (phaseOf a · phaseOf b)
+
+-- the conjugate of a phase byte
+unfoldable pub conjugateByte : ℕ → ℕ
+conjugateByte p = phaseByte (conjugate (phaseOf p))
 
 -- the letter at a place of a row
 unfoldable pub letterAt : List ℕ → ℕ → Letter
@@ -40,3 +50,14 @@ shorter a b = min (length a) (length b)
 pub record RowTimes (a b : List ℕ) (p : ℕ) (e : List ℕ) (r : ℕ) : Type 0 where
   pub letters : e ≡ productLetters (shorter a b) a b ++ drop (shorter a b) a
   pub total : r ≡ phaseByte (phaseOf p · productPhase (shorter a b) a b)
+
+-- a row with its phase (p and the letters a) multiplied on the right by another (q and the letters b); an empty row changes nothing
+unfoldable pub rowProduct : List ℕ → List ℕ → List ℕ
+rowProduct [] t = []
+rowProduct (p ∷ a) [] = p ∷ a
+rowProduct (p ∷ a) (q ∷ b) =
+    phaseByte (phaseOf p · phaseOf q · productPhase (shorter a b) a b) ∷ productLetters (shorter a b) a b ++ drop (shorter a b) a
+
+-- a copied to the front of d, as far as both reach
+unfoldable pub copied : List ℕ → List ℕ → List ℕ
+copied a d = take (shorter a d) a ++ drop (shorter a d) d

@@ -1,7 +1,21 @@
 // Products of letters and of strings. Ports algebra.rs of PECOS, changed:
 // Copyright 2024 The PECOS Developers, Apache License, Version 2.0.
 ghost use mathlib.Core.Path.{_≡_};
-ghost use Rattle.pauli.specs.Rows.{letterBytesProduct};
+ghost use mathlib.Core.List.{_++_};
+ghost use lib.ListN.{length, drop};
+ghost use Rattle.pauli.specs.Answers.{LetterAnswered, ProductWritten};
+ghost use Rattle.pauli.specs.Questions.{pairQuestions, mulQuestions};
+ghost use Rattle.pauli.specs.Rows.{letterBytesProduct, productPhaseByte, productLetterByte};
+ghost use Rattle.pauli.specs.Strings.{productRecord};
+ghost use Rattle.pauli.specs.Writing.{Operands};
+use crate::questions::check_pair;
+use crate::questions::check_room;
+use crate::questions::check_strings;
+use crate::refusal::LetterAnswer;
+use crate::refusal::Outcome;
+use crate::refusal::Product;
+use crate::rows::copy;
+use crate::rows::multiply_row;
 
 // A phase and a letter.
 pub struct PhasedLetter(pub u8, pub u8);
@@ -36,5 +50,56 @@ pub fn multiply_paulis(a: u8, b: u8) -> PhasedLetter
             2 => PhasedLetter(2, 1),
             _ => PhasedLetter(0, 0),
         },
+    }
+}
+
+// The product of two letters, as a phase and a letter.
+pub fn letter_product(a: u8, b: u8) -> LetterAnswer
+    ensures { λ r. ⌜ LetterAnswered (pairQuestions a b) (productPhaseByte a b) (productLetterByte a b) r ⌝ }
+{
+    let answer = check_pair(a, b);
+    match answer {
+        Outcome::Done => {
+            let p = multiply_paulis(a, b);
+            LetterAnswer::Phased {
+                phase: p.0,
+                letter: p.1,
+            }
+        }
+        Outcome::Refused(why) => LetterAnswer::NoLetter(why),
+    }
+}
+
+// The questions of the product, in their order.
+fn mul_answer(s: &[u8], t: &[u8], room: usize) -> Outcome
+    ensures { λ r. ⌜ r ≡ mulQuestions (now (s .entry)) (now (t .entry)) room ⌝ }
+{
+    let first = check_strings(s, t);
+    if let Outcome::Done = first {
+        return check_room(129, room);
+    }
+    first
+}
+
+// The product of two strings, written over the first 129 bytes of the destination: s is copied there and multiplied by t.
+fn write_product(s: &[u8], t: &[u8], dst: &mut [u8])
+    requires { ⌜ Operands (now s) (now t) (now dst) ⌝ }
+    ensures { λ _. ⌜ now (dst .exit) ≡ productRecord (now (s .entry)) (now (t .entry)) ++ drop 129 (now (dst .entry)) ⌝ }
+{
+    copy(s, dst);
+    multiply_row(&mut dst[0..129], t);
+}
+
+// The product s·t of two string records.
+pub fn mul(s: &[u8], t: &[u8], dst: &mut [u8]) -> Product
+    ensures { λ r. ⌜ ProductWritten (mulQuestions (now (s .entry)) (now (t .entry)) (length (now (dst .entry)))) (productRecord (now (s .entry)) (now (t .entry))) (now (dst .entry)) (now (dst .exit)) r ⌝ }
+{
+    let answer = mul_answer(s, t, dst.len());
+    match answer {
+        Outcome::Done => {
+            write_product(s, t, dst);
+            Product::Multiplied
+        }
+        Outcome::Refused(why) => Product::NoProduct(why),
     }
 }

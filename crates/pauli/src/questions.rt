@@ -1,7 +1,6 @@
 // The questions on entry that every layer puts. Each answers Done, or the refusal.
 ghost use mathlib.Core.Path.{_≡_};
 ghost use Rattle.pauli.specs.Questions.{byteQuestion, pairQuestions, stringQuestions, stringsQuestions, qubitQuestion, roomQuestion};
-
 use crate::refusal::Outcome;
 use crate::refusal::Refusal;
 

@@ -5,7 +5,7 @@ ghost use Rattle.pauli_group.specs.Letter.{letterMul};
 ghost use Rattle.pauli_group.specs.Papers.{power};
 ghost use Rattle.pauli.specs.Layout.{phaseByte, letterByte, letterOf};
 ghost use Rattle.pauli.specs.Questions.{firstBad};
-ghost use Rattle.pauli.specs.Rows.{phaseBytesProduct, placesOf, shorter, RowTimes};
+ghost use Rattle.pauli.specs.Rows.{phaseBytesProduct, placesOf, shorter, RowTimes, rowProduct, copied};
 ghost use Rattle.pauli.specs.Turns.{LetterByte, ForY, LetterTurns, PhaseTurns, anticommuting};
 
 fn smaller(a: usize, b: usize) -> usize
@@ -93,6 +93,21 @@ pub fn multiply_letters(acc: &mut [u8], b: &[u8], phase: u8) -> u8
     turns_phase(turns)
 }
 
+// The row, a phase and letters, multiplied by the row t on the right, in place.
+pub fn multiply_row(row: &mut [u8], t: &[u8])
+    ensures { λ _. ⌜ now (row .exit) ≡ rowProduct (now (row .entry)) (now (t .entry)) ⌝ }
+{
+    if row.len() == 0 {
+        return;
+    }
+    if t.len() == 0 {
+        return;
+    }
+    let p = phase_times(row[0], t[0]);
+    let phase = multiply_letters(&mut row[1..], &t[1..], p);
+    row[0] = phase;
+}
+
 // 1 where two letters anticommute, else 0.
 fn letters_anticommute(a: u8, b: u8) -> u8
     ensures { λ r. ⌜ r ≡ anticommuting a b ⌝ }
@@ -128,4 +143,16 @@ pub fn first_bad(s: &[u8]) -> usize
         i += 1;
     }
     i
+}
+
+// src copied to the front of dst, as far as both reach.
+pub fn copy(src: &[u8], dst: &mut [u8])
+    ensures { λ _. ⌜ now (dst .exit) ≡ copied (now (src .entry)) (now (dst .entry)) ⌝ }
+{
+    let n = smaller(src.len(), dst.len());
+    let mut i = 0;
+    while i < n {
+        dst[i] = src[i];
+        i += 1;
+    }
 }

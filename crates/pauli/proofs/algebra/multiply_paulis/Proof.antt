@@ -2,13 +2,13 @@
 use mathlib.Core.Path.{refl}
 use Rattle.pauli_group.specs.Letter.{letterProduct, letterPhase, letterMul}
 use Rattle.pauli.specs.Layout.{phaseByte, letterByte, letterOf}
-use Rattle.pauli.specs.Rows.{letterBytesProduct}
+use Rattle.pauli.specs.Rows.{productPhaseByte, productLetterByte, letterBytesProduct}
 use Rattle.pauli.proofs.Cases.{at-two, three-up}
 use Rattle.pauli.proofs.algebra.multiply_paulis.Statement.{statement}
 use Rattle.pauli.proofs.algebra.multiply_paulis.Tie as tie
 
 pub multiply-paulis-spec : {M : Type 1} → statement M
-unfolding letterProduct letterPhase letterMul phaseByte letterByte letterOf letterBytesProduct
+unfolding letterProduct letterPhase letterMul phaseByte letterByte letterOf productPhaseByte productLetterByte letterBytesProduct
 multiply-paulis-spec =
     tie.close
     (tie.spec

@@ -1,0 +1,68 @@
+// Phases. Ports quarter_phase.rs of PECOS, changed: Copyright 2018 The PECOS Developers, Apache License, Version 2.0.
+ghost use mathlib.Core.Path.{_≡_};
+ghost use Rattle.pauli_group.specs.Phase.{isReal};
+ghost use Rattle.pauli.specs.Answers.{ByteAnswered, FlagAnswered, yesOrNo};
+ghost use Rattle.pauli.specs.Layout.{phaseOf};
+ghost use Rattle.pauli.specs.Questions.{byteQuestion, pairQuestions};
+ghost use Rattle.pauli.specs.Rows.{phaseBytesProduct, conjugateByte};
+use crate::questions::check_byte;
+use crate::questions::check_pair;
+use crate::refusal::ByteAnswer;
+use crate::refusal::Flag;
+use crate::refusal::Outcome;
+use crate::rows::phase_times;
+
+// The product of two phases.
+pub fn multiply(a: u8, b: u8) -> ByteAnswer
+    ensures { λ r. ⌜ ByteAnswered (pairQuestions a b) (phaseBytesProduct a b) r ⌝ }
+{
+    let answer = check_pair(a, b);
+    match answer {
+        Outcome::Done => ByteAnswer::Byte(phase_times(a, b)),
+        Outcome::Refused(why) => ByteAnswer::NoByte(why),
+    }
+}
+
+// The conjugate of a phase byte; a byte above 3 is read as 3.
+pub fn phase_conjugate(p: u8) -> u8
+    ensures { λ r. ⌜ r ≡ conjugateByte p ⌝ }
+{
+    match p {
+        0 => 0,
+        1 => 1,
+        2 => 3,
+        _ => 2,
+    }
+}
+
+pub fn conjugate(p: u8) -> ByteAnswer
+    ensures { λ r. ⌜ ByteAnswered (byteQuestion p) (conjugateByte p) r ⌝ }
+{
+    let answer = check_byte(p);
+    match answer {
+        Outcome::Done => ByteAnswer::Byte(phase_conjugate(p)),
+        Outcome::Refused(why) => ByteAnswer::NoByte(why),
+    }
+}
+
+// Whether a phase byte is +1 or -1; a byte above 3 is read as 3.
+fn real_phase(p: u8) -> Flag
+    ensures { λ r. ⌜ r ≡ yesOrNo (isReal (phaseOf p)) ⌝ }
+{
+    match p {
+        0 => Flag::Yes,
+        1 => Flag::Yes,
+        2 => Flag::No,
+        _ => Flag::No,
+    }
+}
+
+pub fn is_real(p: u8) -> Flag
+    ensures { λ r. ⌜ FlagAnswered (byteQuestion p) (isReal (phaseOf p)) r ⌝ }
+{
+    let answer = check_byte(p);
+    match answer {
+        Outcome::Done => real_phase(p),
+        Outcome::Refused(why) => Flag::NoFlag(why),
+    }
+}
