@@ -6,3 +6,4 @@ pub mod Turns
 pub mod RowProducts
 pub mod Asking
 pub mod StringProducts
+pub mod StringReads

@@ -1,0 +1,70 @@
+// String records: reading them, comparing them, making them from entries. Ports pauli_string.rs of PECOS, changed:
+// Copyright 2024 The PECOS Developers, Apache License, Version 2.0.
+ghost use mathlib.Core.Path.{_≡_};
+ghost use lib.ListN.{length};
+ghost use Rattle.pauli.specs.Answers.{ByteAnswered, FlagAnswered, yesOrNo};
+ghost use Rattle.pauli.specs.Layout.{WellFormed};
+ghost use Rattle.pauli.specs.Questions.{stringQuestions, stringsQuestions, getQuestions};
+ghost use Rattle.pauli.specs.Strings.{phaseOfRecord, letterOfRecord, recordsCommute};
+ghost use Rattle.pauli.specs.Writing.{Pair};
+
+use crate::questions::check_qubit;
+use crate::questions::check_string;
+use crate::questions::check_strings;
+use crate::refusal::ByteAnswer;
+use crate::refusal::Flag;
+use crate::refusal::Outcome;
+use crate::rows::anticommuting_places;
+
+// The phase of a string record.
+pub fn phase(s: &[u8]) -> ByteAnswer
+    ensures { λ r. ⌜ ByteAnswered (stringQuestions (now (s .entry))) (phaseOfRecord (now (s .entry))) r ⌝ }
+{
+    let answer = check_string(s);
+    match answer {
+        Outcome::Done => ByteAnswer::Byte(s[0]),
+        Outcome::Refused(why) => ByteAnswer::NoByte(why),
+    }
+}
+
+// The questions of `get`, in their order.
+fn get_answer(s: &[u8], qubit: usize) -> Outcome
+    ensures { λ r. ⌜ r ≡ getQuestions (now (s .entry)) qubit ⌝ }
+{
+    let first = check_string(s);
+    if let Outcome::Done = first {
+        return check_qubit(qubit);
+    }
+    first
+}
+
+// The letter of a string record at one qubit.
+pub fn get(s: &[u8], qubit: usize) -> ByteAnswer
+    ensures { λ r. ⌜ ByteAnswered (getQuestions (now (s .entry)) qubit) (letterOfRecord (now (s .entry)) qubit) r ⌝ }
+{
+    let answer = get_answer(s, qubit);
+    match answer {
+        Outcome::Done => ByteAnswer::Byte(s[qubit + 1]),
+        Outcome::Refused(why) => ByteAnswer::NoByte(why),
+    }
+}
+
+// Whether two well-formed records commute: the places at which they anticommute are even in number.
+fn even_places(s: &[u8], t: &[u8]) -> Flag
+    requires { ⌜ Pair (now s) (now t) ⌝ }
+    ensures { λ r. ⌜ r ≡ yesOrNo (recordsCommute (now (s .entry)) (now (t .entry))) ⌝ }
+{
+    let places = anticommuting_places(&s[1..], &t[1..]);
+    if places % 2 == 0 { Flag::Yes } else { Flag::No }
+}
+
+// Whether two string records commute.
+pub fn commutes_with(s: &[u8], t: &[u8]) -> Flag
+    ensures { λ r. ⌜ FlagAnswered (stringsQuestions (now (s .entry)) (now (t .entry))) (recordsCommute (now (s .entry)) (now (t .entry))) r ⌝ }
+{
+    let answer = check_strings(s, t);
+    match answer {
+        Outcome::Done => even_places(s, t),
+        Outcome::Refused(why) => Flag::NoFlag(why),
+    }
+}
