@@ -7,3 +7,4 @@ pub mod RowProducts
 pub mod Asking
 pub mod StringProducts
 pub mod StringReads
+pub mod EntryMarks

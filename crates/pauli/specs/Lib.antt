@@ -7,3 +7,4 @@ pub mod Rows
 pub mod Strings
 pub mod Turns
 pub mod Writing
+pub mod Marks

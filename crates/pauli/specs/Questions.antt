@@ -89,9 +89,8 @@ unfoldable pub mulQuestions : List ℕ → List ℕ → ℕ → Outcome
 mulQuestions s t room = stringsQuestions s t andThen roomQuestion stringLength room
 
 -- "a phase given with entries is tested before them"
-unfoldable pub entriesQuestions : ℕ → List ℕ → Outcome
-entriesQuestions p e =
-    byteQuestion p andThen evenQuestion e andThen entryLettersQuestion e andThen entryQubitsQuestion e andThen duplicateQuestion e
+unfoldable pub entryQuestions : ℕ → List ℕ → Outcome
+entryQuestions p e = byteQuestion p andThen evenQuestion e andThen entryLettersQuestion e andThen entryQubitsQuestion e
 
 unfoldable pub withPhaseQuestions : ℕ → List ℕ → ℕ → Outcome
-withPhaseQuestions p e room = entriesQuestions p e andThen roomQuestion stringLength room
+withPhaseQuestions p e room = entryQuestions p e andThen duplicateQuestion e andThen roomQuestion stringLength room

@@ -1,0 +1,44 @@
+-- What the code keeps of the entries read so far: a mark for each qubit, 0 where no entry names it, 1 + its letter where one
+-- does, 5 where more do.
+use Prim.Native.Nat.{ℕ, zero, suc, _≤_, _<_}
+use mathlib.Core.Path.{_≡_}
+use mathlib.Core.Bool.{Bool, cond}
+use mathlib.Core.List.{List}
+use lib.Dec.{eqb}
+use lib.ListN.{length, getD}
+use Rattle.pauli_group.specs.PauliString.{qubits}
+use Rattle.pauli.specs.Places.{listed, firstPlace}
+use Rattle.pauli.specs.Entries.{entryCount, entryLetter, entryQubit}
+
+-- a mark after one more entry with letter l
+unfoldable pub markMore : ℕ → ℕ → ℕ
+markMore zero l = suc l
+markMore (suc m) l = 5
+
+-- the mark after the entries 0 to n - 1, of which those with `names` name the qubit
+unfoldable pub markTo : (ℕ → Bool) → (ℕ → ℕ) → ℕ → ℕ
+markTo names letter zero = 0
+markTo names letter (suc n) = cond (names n) (markMore (markTo names letter n) (letter n)) (markTo names letter n)
+
+-- the marks of all qubits after the first n entries
+unfoldable pub marksTo : List ℕ → ℕ → List ℕ
+marksTo e n = listed qubits (λ q. markTo (λ j. eqb (entryQubit e j) q) (entryLetter e) n)
+
+-- the first mark of 5
+unfoldable pub firstTwice : List ℕ → ℕ
+firstTwice m = firstPlace (length m) (λ k. eqb (getD m k 0) 5)
+
+-- the letter that a mark stands for
+unfoldable pub unmarked : ℕ → ℕ
+unmarked zero = 0
+unmarked (suc l) = l
+
+pub record MarkFits (m : List ℕ) (l q : ℕ) : Type 0 where
+  pub letter : l ≤ 3
+  pub place : q < length m
+
+-- entries with letters up to 3 and qubits below 128, and no marks yet
+pub record Unmarked (e m : List ℕ) : Type 0 where
+  pub letters : (j : ℕ) → j < entryCount e → entryLetter e j ≤ 3
+  pub places : (j : ℕ) → j < entryCount e → entryQubit e j < 128
+  pub none : m ≡ marksTo e 0

@@ -1,0 +1,151 @@
+// Entries, byte pairs (letter, qubit), read into a mark for each qubit: 0 where no entry names it, 1 + its letter where one does,
+// 5 where more do. So a duplicate is found before anything is written.
+ghost use mathlib.Core.Path.{_≡_};
+ghost use lib.ListN.{length, getD, set};
+ghost use Rattle.pauli.specs.Entries.{entryCount};
+ghost use Rattle.pauli.specs.Marks.{markMore, marksTo, firstTwice, unmarked, MarkFits, Unmarked};
+ghost use Rattle.pauli.specs.Questions.{evenQuestion, firstBadEntry, entryLettersQuestion, firstHighEntry, entryQubitsQuestion, entryQuestions, _andThen_};
+
+use crate::questions::check_byte;
+use crate::refusal::Outcome;
+use crate::refusal::Refusal;
+
+fn wide(x: u8) -> usize
+    ensures { λ r. ⌜ r ≡ x ⌝ }
+{
+    x as usize
+}
+
+fn check_even(entries: &[u8]) -> Outcome
+    ensures { λ r. ⌜ r ≡ evenQuestion (now (entries .entry)) ⌝ }
+{
+    if entries.len() % 2 != 0 {
+        return Outcome::Refused(Refusal::Length);
+    }
+    Outcome::Done
+}
+
+// The first entry whose letter is above 3, or the number of entries.
+fn first_bad_entry(entries: &[u8]) -> usize
+    ensures { λ r. ⌜ r ≡ firstBadEntry (now (entries .entry)) ⌝ }
+{
+    let n = entries.len() / 2;
+    let mut j = 0;
+    while j < n {
+        if 3 < entries[2 * j] {
+            return j;
+        }
+        j += 1;
+    }
+    j
+}
+
+fn check_entry_letters(entries: &[u8]) -> Outcome
+    ensures { λ r. ⌜ r ≡ entryLettersQuestion (now (entries .entry)) ⌝ }
+{
+    let j = first_bad_entry(entries);
+    if j < entries.len() / 2 {
+        return Outcome::Refused(Refusal::BadByte { offset: 2 * j });
+    }
+    Outcome::Done
+}
+
+// The first entry whose qubit is not below 128, or the number of entries.
+fn first_high_entry(entries: &[u8]) -> usize
+    ensures { λ r. ⌜ r ≡ firstHighEntry (now (entries .entry)) ⌝ }
+{
+    let n = entries.len() / 2;
+    let mut j = 0;
+    while j < n {
+        if 128 <= entries[2 * j + 1] {
+            return j;
+        }
+        j += 1;
+    }
+    j
+}
+
+fn check_entry_qubits(entries: &[u8]) -> Outcome
+    ensures { λ r. ⌜ r ≡ entryQubitsQuestion (now (entries .entry)) ⌝ }
+{
+    let j = first_high_entry(entries);
+    if j < entries.len() / 2 {
+        return Outcome::Refused(Refusal::Qubit {
+            qubit: wide(entries[2 * j + 1]),
+        });
+    }
+    Outcome::Done
+}
+
+fn check_each_entry(entries: &[u8]) -> Outcome
+    ensures { λ r. ⌜ r ≡ (entryLettersQuestion (now (entries .entry)) andThen entryQubitsQuestion (now (entries .entry))) ⌝ }
+{
+    let first = check_entry_letters(entries);
+    if let Outcome::Done = first {
+        return check_entry_qubits(entries);
+    }
+    first
+}
+
+// The questions put to a phase and to entries before their qubits are compared.
+pub fn check_entries(phase: u8, entries: &[u8]) -> Outcome
+    ensures { λ r. ⌜ r ≡ entryQuestions phase (now (entries .entry)) ⌝ }
+{
+    let first = check_byte(phase);
+    let Outcome::Done = first else {
+        return first;
+    };
+    let second = check_even(entries);
+    let Outcome::Done = second else {
+        return second;
+    };
+    check_each_entry(entries)
+}
+
+// One more entry with this letter on this qubit.
+pub fn mark(marks: &mut [u8], letter: u8, qubit: usize)
+    requires { ⌜ MarkFits (now marks) letter qubit ⌝ }
+    ensures { λ _. ⌜ now (marks .exit) ≡ set (now (marks .entry)) qubit (markMore (getD (now (marks .entry)) qubit 0) letter) ⌝ }
+{
+    if marks[qubit] == 0 {
+        marks[qubit] = letter + 1;
+    } else {
+        marks[qubit] = 5;
+    }
+}
+
+// All entries marked.
+pub fn mark_entries(entries: &[u8], marks: &mut [u8])
+    requires { ⌜ Unmarked (now entries) (now marks) ⌝ }
+    ensures { λ _. ⌜ now (marks .exit) ≡ marksTo (now (entries .entry)) (entryCount (now (entries .entry))) ⌝ }
+{
+    let n = entries.len() / 2;
+    let mut j = 0;
+    while j < n {
+        let letter = entries[2 * j];
+        let qubit = wide(entries[2 * j + 1]);
+        mark(marks, letter, qubit);
+        j += 1;
+    }
+}
+
+// The first qubit that is marked as named twice, or the number of marks.
+pub fn first_twice(marks: &[u8]) -> usize
+    ensures { λ r. ⌜ r ≡ firstTwice (now (marks .entry)) ⌝ }
+{
+    let mut i = 0;
+    while i < marks.len() {
+        if marks[i] == 5 {
+            return i;
+        }
+        i += 1;
+    }
+    i
+}
+
+// The letter that a mark stands for.
+fn unmark(m: u8) -> u8
+    ensures { λ r. ⌜ r ≡ unmarked m ⌝ }
+{
+    if m == 0 { 0 } else { m - 1 }
+}
