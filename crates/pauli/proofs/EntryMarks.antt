@@ -100,7 +100,7 @@ unmark-one {m} h = unmark-is m h
 pub ruleset marking = (marked-first, marked-again, unmark-none, unmark-one, needs)
 
 -- ---- the marks after n entries
-length-marks : (e : List ℕ) (n : ℕ) → length (marksTo e n) ≡ 128
+pub length-marks : (e : List ℕ) (n : ℕ) → length (marksTo e n) ≡ 128
 unfolding marksTo qubits
 length-marks e n = length-listed 128 _
 
@@ -126,14 +126,17 @@ mark-step e j l q el eq h =
   where
     x : ℕ
     x = markMore (getD (marksTo e j) q 0) l
+
     same : getD (set (marksTo e j) q x) q 0 ≡ getD (marksTo e (suc j)) q 0
     same =
         getD-set-same (marksTo e j) q x 0 (omega (arith, length-marks e j)) ∙ ap₂ markMore (mark-at e j q h) el
         ∙ sym (mark-at e (suc j) q h ∙ mark-named (λ i. eqb (entryQubit e i) q) (entryLetter e) j (eq-eqb (entryQubit e j) q (sym eq)))
+
     other : (k : ℕ) → k < 128 → k ≢ q → getD (set (marksTo e j) q x) k 0 ≡ getD (marksTo e (suc j)) k 0
     other k b d =
         getD-set-other (marksTo e j) q k x 0 d ∙ mark-at e j k b
         ∙ sym (mark-at e (suc j) k b ∙ mark-unnamed (λ i. eqb (entryQubit e i) k) (entryLetter e) j (ne-eqb (entryQubit e j) k (λ p. d (sym (eq ∙ p)))))
+
     at : (k : ℕ) → k < 128 → getD (set (marksTo e j) q x) k 0 ≡ getD (marksTo e (suc j)) k 0
     at k b = elim (ℕ-discrete k q) [
       | yes d ↦ ap (λ (i : ℕ). getD (set (marksTo e j) q x) i 0) d ∙ same ∙ ap (λ (i : ℕ). getD (marksTo e (suc j)) i 0) (sym d)
@@ -208,6 +211,7 @@ first-none n f e h = first-is (suc n) f (suc n) (omega arith) below (λ l. absur
   where
     never : suc n < suc n → ⊥
     never l = omega arith
+
     below : (k : ℕ) → k < suc n → f k ≡ false
     below k l = elim (ℕ-discrete k n) [ yes d ↦ ap f d ∙ h | no d ↦ first-before n f k (omega arith) ]
 
@@ -293,7 +297,7 @@ module _ (e : List ℕ) (small : (j : ℕ) → j < entryCount e → entryLetter 
       ap (λ (x : ℕ). eqb x 5) (mark-at e (entryCount e) q h)
       ∙ mark-five (entryLetter e) (entryCount e) _ _ _ small (mark-is (λ j. eqb (entryQubit e j) q) (entryLetter e) (entryCount e))
 
-  first-duplicate : firstTwice (marksTo e (entryCount e)) ≡ smallestDuplicate e
+  pub first-duplicate : firstTwice (marksTo e (entryCount e)) ≡ smallestDuplicate e
   unfolding firstTwice smallestDuplicate qubits
   first-duplicate =
       ap (λ (n : ℕ). firstPlace n (λ k. eqb (getD (marksTo e (entryCount e)) k 0) 5)) (length-marks e (entryCount e)) ∙ first-ext 128 _ _ twice-is

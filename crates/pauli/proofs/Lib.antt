@@ -8,3 +8,4 @@ pub mod Asking
 pub mod StringProducts
 pub mod StringReads
 pub mod EntryMarks
+pub mod EntryStrings

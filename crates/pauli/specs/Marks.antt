@@ -4,9 +4,13 @@ use Prim.Native.Nat.{ℕ, zero, suc, _≤_, _<_}
 use mathlib.Core.Path.{_≡_}
 use mathlib.Core.Bool.{Bool, cond}
 use mathlib.Core.List.{List}
-use lib.Dec.{eqb}
+use lib.Dec.{eqb, leb}
 use lib.ListN.{length, getD}
 use Rattle.pauli_group.specs.PauliString.{qubits}
+use Rattle.pauli.specs.declared.refusal.Refusal.the-variants.{Duplicate}
+use Rattle.pauli.specs.declared.refusal.Outcome.{Outcome}
+use Rattle.pauli.specs.declared.refusal.Outcome.the-variants.{Done}
+use Rattle.pauli.specs.Questions.{ask, withPhaseQuestions}
 use Rattle.pauli.specs.Places.{listed, firstPlace}
 use Rattle.pauli.specs.Entries.{entryCount, entryLetter, entryQubit}
 
@@ -28,6 +32,10 @@ marksTo e n = listed qubits (λ q. markTo (λ j. eqb (entryQubit e j) q) (entryL
 unfoldable pub firstTwice : List ℕ → ℕ
 firstTwice m = firstPlace (length m) (λ k. eqb (getD m k 0) 5)
 
+-- 12 by the marks
+unfoldable pub marksQuestion : List ℕ → Outcome
+marksQuestion m = ask (leb qubits (firstTwice m)) (Duplicate (firstTwice m))
+
 -- the letter that a mark stands for
 unfoldable pub unmarked : ℕ → ℕ
 unmarked zero = 0
@@ -42,3 +50,21 @@ pub record Unmarked (e m : List ℕ) : Type 0 where
   pub letters : (j : ℕ) → j < entryCount e → entryLetter e j ≤ 3
   pub places : (j : ℕ) → j < entryCount e → entryQubit e j < 128
   pub none : m ≡ marksTo e 0
+
+-- no marks, whatever the entries will be
+pub record Blank (m : List ℕ) : Type 0 where
+  pub none : (e : List ℕ) → m ≡ marksTo e 0
+
+-- the answer r to a phase and entries, and the marks m that are left where it is Done
+pub record EntriesRead (p : ℕ) (e : List ℕ) (room : ℕ) (m : List ℕ) (r : Outcome) : Type 0 where
+  pub answer : r ≡ withPhaseQuestions p e room
+  pub marks : r ≡ Done → m ≡ marksTo e (entryCount e)
+
+-- the letters that the marks stand for
+unfoldable pub lettersMarked : ℕ → List ℕ → List ℕ
+lettersMarked n m = listed n (λ q. unmarked (getD m q 0))
+
+-- 128 marks, and room for a string record
+pub record MarksFit (m d : List ℕ) : Type 0 where
+  pub marks : length m ≡ 128
+  pub room : 129 ≤ length d

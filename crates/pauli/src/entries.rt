@@ -1,14 +1,18 @@
 // Entries, byte pairs (letter, qubit), read into a mark for each qubit: 0 where no entry names it, 1 + its letter where one does,
 // 5 where more do. So a duplicate is found before anything is written.
 ghost use mathlib.Core.Path.{_≡_};
-ghost use lib.ListN.{length, getD, set};
+ghost use Prim.Native.Nat.{min};
+ghost use mathlib.Core.List.{_∷_, _++_};
+ghost use lib.ListN.{length, getD, set, drop};
 ghost use Rattle.pauli.specs.Entries.{entryCount};
-ghost use Rattle.pauli.specs.Marks.{markMore, marksTo, firstTwice, unmarked, MarkFits, Unmarked};
+ghost use Rattle.pauli.specs.Marks.{markMore, marksTo, firstTwice, unmarked, MarkFits, Unmarked, marksQuestion, Blank, EntriesRead, lettersMarked, MarksFit};
+ghost use Rattle.pauli.specs.Rows.{shorter};
 ghost use Rattle.pauli.specs.Questions.{evenQuestion, firstBadEntry, entryLettersQuestion, firstHighEntry, entryQubitsQuestion, entryQuestions, _andThen_};
-
 use crate::questions::check_byte;
+use crate::questions::check_room;
 use crate::refusal::Outcome;
 use crate::refusal::Refusal;
+use crate::rows::smaller;
 
 fn wide(x: u8) -> usize
     ensures { λ r. ⌜ r ≡ x ⌝ }
@@ -88,7 +92,7 @@ fn check_each_entry(entries: &[u8]) -> Outcome
 }
 
 // The questions put to a phase and to entries before their qubits are compared.
-pub fn check_entries(phase: u8, entries: &[u8]) -> Outcome
+pub(crate) fn check_entries(phase: u8, entries: &[u8]) -> Outcome
     ensures { λ r. ⌜ r ≡ entryQuestions phase (now (entries .entry)) ⌝ }
 {
     let first = check_byte(phase);
@@ -103,7 +107,7 @@ pub fn check_entries(phase: u8, entries: &[u8]) -> Outcome
 }
 
 // One more entry with this letter on this qubit.
-pub fn mark(marks: &mut [u8], letter: u8, qubit: usize)
+pub(crate) fn mark(marks: &mut [u8], letter: u8, qubit: usize)
     requires { ⌜ MarkFits (now marks) letter qubit ⌝ }
     ensures { λ _. ⌜ now (marks .exit) ≡ set (now (marks .entry)) qubit (markMore (getD (now (marks .entry)) qubit 0) letter) ⌝ }
 {
@@ -115,7 +119,7 @@ pub fn mark(marks: &mut [u8], letter: u8, qubit: usize)
 }
 
 // All entries marked.
-pub fn mark_entries(entries: &[u8], marks: &mut [u8])
+pub(crate) fn mark_entries(entries: &[u8], marks: &mut [u8])
     requires { ⌜ Unmarked (now entries) (now marks) ⌝ }
     ensures { λ _. ⌜ now (marks .exit) ≡ marksTo (now (entries .entry)) (entryCount (now (entries .entry))) ⌝ }
 {
@@ -130,7 +134,7 @@ pub fn mark_entries(entries: &[u8], marks: &mut [u8])
 }
 
 // The first qubit that is marked as named twice, or the number of marks.
-pub fn first_twice(marks: &[u8]) -> usize
+pub(crate) fn first_twice(marks: &[u8]) -> usize
     ensures { λ r. ⌜ r ≡ firstTwice (now (marks .entry)) ⌝ }
 {
     let mut i = 0;
@@ -143,9 +147,58 @@ pub fn first_twice(marks: &[u8]) -> usize
     i
 }
 
+// Question 12 by the marks.
+pub(crate) fn check_marks(marks: &[u8]) -> Outcome
+    ensures { λ r. ⌜ r ≡ marksQuestion (now (marks .entry)) ⌝ }
+{
+    let qubit = first_twice(marks);
+    if qubit < 128 {
+        return Outcome::Refused(Refusal::Duplicate { qubit });
+    }
+    Outcome::Done
+}
+
+// The questions put to a phase, entries and a destination, in their order; the entries are left marked.
+pub(crate) fn read_entries(phase: u8, entries: &[u8], marks: &mut [u8], room: usize) -> Outcome
+    requires { ⌜ Blank (now marks) ⌝ }
+    ensures { λ r. ⌜ EntriesRead phase (now (entries .entry)) room (now (marks .exit)) r ⌝ }
+{
+    let first = check_entries(phase, entries);
+    let Outcome::Done = first else {
+        return first;
+    };
+    mark_entries(entries, marks);
+    let second = check_marks(marks);
+    let Outcome::Done = second else {
+        return second;
+    };
+    check_room(129, room)
+}
+
 // The letter that a mark stands for.
 fn unmark(m: u8) -> u8
     ensures { λ r. ⌜ r ≡ unmarked m ⌝ }
 {
     if m == 0 { 0 } else { m - 1 }
+}
+
+// The letters that the marks stand for, over the front of dst.
+fn write_letters(marks: &[u8], dst: &mut [u8])
+    ensures { λ _. ⌜ now (dst .exit) ≡ lettersMarked (shorter (now (marks .entry)) (now (dst .entry))) (now (marks .entry)) ++ drop (shorter (now (marks .entry)) (now (dst .entry))) (now (dst .entry)) ⌝ }
+{
+    let n = smaller(marks.len(), dst.len());
+    let mut i = 0;
+    while i < n {
+        dst[i] = unmark(marks[i]);
+        i += 1;
+    }
+}
+
+// The string record with this phase and the letters that the marks stand for.
+pub(crate) fn write_marked(phase: u8, marks: &[u8], dst: &mut [u8])
+    requires { ⌜ MarksFit (now marks) (now dst) ⌝ }
+    ensures { λ _. ⌜ now (dst .exit) ≡ phase ∷ lettersMarked 128 (now (marks .entry)) ++ drop 129 (now (dst .entry)) ⌝ }
+{
+    write_letters(marks, &mut dst[1..129]);
+    dst[0] = phase;
 }

@@ -2,12 +2,13 @@
 // Copyright 2024 The PECOS Developers, Apache License, Version 2.0.
 ghost use mathlib.Core.Path.{_≡_};
 ghost use lib.ListN.{length};
-ghost use Rattle.pauli.specs.Answers.{ByteAnswered, FlagAnswered, yesOrNo};
-ghost use Rattle.pauli.specs.Layout.{WellFormed};
-ghost use Rattle.pauli.specs.Questions.{stringQuestions, stringsQuestions, getQuestions};
-ghost use Rattle.pauli.specs.Strings.{phaseOfRecord, letterOfRecord, recordsCommute};
+ghost use Rattle.pauli.specs.Answers.{ByteAnswered, FlagAnswered, Written, yesOrNo};
+ghost use Rattle.pauli.specs.Marks.{Blank};
+ghost use Rattle.pauli.specs.Questions.{stringQuestions, stringsQuestions, getQuestions, withPhaseQuestions};
+ghost use Rattle.pauli.specs.Strings.{phaseOfRecord, letterOfRecord, recordsCommute, entriesRecord};
 ghost use Rattle.pauli.specs.Writing.{Pair};
-
+use crate::entries::read_entries;
+use crate::entries::write_marked;
 use crate::questions::check_qubit;
 use crate::questions::check_string;
 use crate::questions::check_strings;
@@ -67,4 +68,24 @@ pub fn commutes_with(s: &[u8], t: &[u8]) -> Flag
         Outcome::Done => even_places(s, t),
         Outcome::Refused(why) => Flag::NoFlag(why),
     }
+}
+
+// The string of a phase and entries. The marks are a buffer of 128 zeros.
+fn string_of_entries(phase: u8, entries: &[u8], marks: &mut [u8], dst: &mut [u8]) -> Outcome
+    requires { ⌜ Blank (now marks) ⌝ }
+    ensures { λ r. ⌜ Written (withPhaseQuestions phase (now (entries .entry)) (length (now (dst .entry)))) (entriesRecord phase (now (entries .entry))) (now (dst .entry)) (now (dst .exit)) r ⌝ }
+{
+    let answer = read_entries(phase, entries, marks, dst.len());
+    if let Outcome::Done = answer {
+        write_marked(phase, marks, dst);
+    }
+    answer
+}
+
+// The string with this phase and these entries, byte pairs (letter, qubit).
+pub fn with_phase_and_paulis(phase: u8, entries: &[u8], dst: &mut [u8]) -> Outcome
+    ensures { λ r. ⌜ Written (withPhaseQuestions phase (now (entries .entry)) (length (now (dst .entry)))) (entriesRecord phase (now (entries .entry))) (now (dst .entry)) (now (dst .exit)) r ⌝ }
+{
+    let mut marks = [0u8; 128];
+    string_of_entries(phase, entries, &mut marks, dst)
 }

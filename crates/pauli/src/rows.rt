@@ -8,7 +8,7 @@ ghost use Rattle.pauli.specs.Questions.{firstBad};
 ghost use Rattle.pauli.specs.Rows.{phaseBytesProduct, placesOf, shorter, RowTimes, rowProduct, copied};
 ghost use Rattle.pauli.specs.Turns.{LetterByte, ForY, LetterTurns, PhaseTurns, anticommuting};
 
-fn smaller(a: usize, b: usize) -> usize
+pub fn smaller(a: usize, b: usize) -> usize
     ensures { λ r. ⌜ r ≡ min a b ⌝ }
 {
     if a < b { a } else { b }
