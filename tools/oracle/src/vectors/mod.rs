@@ -1,0 +1,1 @@
+//! Inputs of the vector files, the same on every run.
