@@ -1,6 +1,7 @@
 //! Answers calls, written as lines, by running PECOS's files.
 
 pub mod answer;
+pub mod check;
 pub mod gates;
 pub mod line;
 pub mod list;

@@ -1,1 +1,45 @@
-//! Inputs of the vector files, the same on every run.
+//! Inputs of the vector files, the same on every run, answered by the Rust.
+
+mod inputs;
+mod pauli;
+
+use crate::driver::answer::{Answer, answer, write_answer};
+use crate::driver::line::Call;
+pub use inputs::Random;
+
+/// The lines of one vector file.
+#[derive(Default)]
+pub struct Book {
+    pub text: String,
+}
+
+impl Book {
+    pub fn comment(&mut self, words: &str) {
+        self.text += &format!("# {words}\n");
+    }
+
+    /// A call that the Rust answers. Anything else is a slip in the inputs.
+    pub fn add(&mut self, call: Call) {
+        assert!(self.add_if_answered(&call), "not answered by the Rust: {}", call.write());
+    }
+
+    /// Whether the Rust answers the call; where it does not, nothing is written.
+    pub fn add_if_answered(&mut self, call: &Call) -> bool {
+        let answer = answer(call).expect("a known name");
+        if matches!(answer, Answer::Syntax | Answer::Outside) {
+            return false;
+        }
+        self.text += &format!("{} = {}\n", call.write(), write_answer(call, &answer));
+        true
+    }
+}
+
+/// The vector file of a name.
+pub fn vectors(name: &str) -> Option<String> {
+    let mut book = Book::default();
+    match name {
+        "pauli" => pauli::fill(&mut book),
+        _ => return None,
+    }
+    Some(book.text)
+}
