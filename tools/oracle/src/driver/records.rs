@@ -76,7 +76,7 @@ pub fn write_string(string: &PauliString) -> Option<Vec<u8>> {
     write_row(string, QUBITS)
 }
 
-pub fn tableau_length(width: usize) -> usize {
+pub const fn tableau_length(width: usize) -> usize {
     1 + 2 * width * (width + 1)
 }
 
