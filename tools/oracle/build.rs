@@ -24,7 +24,10 @@ fn module(folder: &Path, name: &str, file: &str) -> String {
     assert!(path.is_file(), "{} is missing", path.display());
     println!("cargo:rerun-if-changed={}", path.display());
     // The files are taken as they are, so their warnings are not ours.
-    format!("#[allow(warnings)]\n#[path = {:?}]\npub mod {name};\n", path.display().to_string())
+    format!(
+        "#[allow(warnings)]\n#[path = {:?}]\npub mod {name};\n",
+        path.display().to_string()
+    )
 }
 
 fn main() {
@@ -33,7 +36,11 @@ fn main() {
     let mut pauli = String::new();
     for (parent, name, file) in FILES {
         let text = module(&folder, name, file);
-        if parent.is_empty() { top += &text } else { pauli += &text }
+        if parent.is_empty() {
+            top += &text
+        } else {
+            pauli += &text
+        }
     }
     let text = format!("{top}pub mod pauli {{\n{pauli}}}\n");
     let out = PathBuf::from(env::var("OUT_DIR").unwrap()).join("pecos_files.rs");

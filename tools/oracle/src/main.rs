@@ -23,12 +23,19 @@ fn check_all() -> Result<(), String> {
     let text = io::read_to_string(io::stdin().lock()).map_err(|error| error.to_string())?;
     let tally = check::check(&text)?;
     print!("{}", tally.report());
-    if tally.disagree == 0 { Ok(()) } else { Err("the Rust disagrees".to_string()) }
+    if tally.disagree == 0 {
+        Ok(())
+    } else {
+        Err("the Rust disagrees".to_string())
+    }
 }
 
 fn write_vectors(name: &str) -> Result<(), String> {
     let text = vectors(name).ok_or(USAGE)?;
-    io::stdout().lock().write_all(text.as_bytes()).map_err(|error| error.to_string())
+    io::stdout()
+        .lock()
+        .write_all(text.as_bytes())
+        .map_err(|error| error.to_string())
 }
 
 fn main() -> ExitCode {

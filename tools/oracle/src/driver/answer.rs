@@ -64,7 +64,11 @@ pub fn write_answer(call: &Call, answer: &Answer) -> String {
         Answer::Outside => return "?".to_string(),
     };
     let after = destination_after(call, answer);
-    let after = if after == call.d { ".".to_string() } else { write_bytes(&after) };
+    let after = if after == call.d {
+        ".".to_string()
+    } else {
+        write_bytes(&after)
+    };
     format!("{number} {value} {after}")
 }
 

@@ -23,7 +23,11 @@ fn read_reply(call: &Call, text: &str) -> Result<(u64, u64, Vec<u8>), String> {
     let [number, value, after] = fields[..] else {
         return Err(format!("{text:?} is no reply"));
     };
-    let after = if after == "." { call.d.clone() } else { read_bytes(after)? };
+    let after = if after == "." {
+        call.d.clone()
+    } else {
+        read_bytes(after)?
+    };
     Ok((read_number(number)?, read_number(value)?, after))
 }
 
@@ -74,7 +78,9 @@ pub fn check(text: &str) -> Result<Tally, String> {
         if line.starts_with('#') || line.is_empty() {
             continue;
         }
-        tally.line(number + 1, line).map_err(|why| format!("line {}: {why}", number + 1))?;
+        tally
+            .line(number + 1, line)
+            .map_err(|why| format!("line {}: {why}", number + 1))?;
     }
     Ok(tally)
 }

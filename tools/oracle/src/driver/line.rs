@@ -12,7 +12,10 @@ pub struct Call {
 
 impl Call {
     pub fn new(name: &str) -> Call {
-        Call { name: name.to_string(), ..Call::default() }
+        Call {
+            name: name.to_string(),
+            ..Call::default()
+        }
     }
 
     pub fn b1(mut self, bytes: &[u8]) -> Call {
@@ -38,7 +41,11 @@ impl Call {
     /// The call as it is written, without an answer.
     pub fn write(&self) -> String {
         let [n1, n2, n3] = self.n;
-        let (b1, b2, d) = (write_bytes(&self.b1), write_bytes(&self.b2), write_bytes(&self.d));
+        let (b1, b2, d) = (
+            write_bytes(&self.b1),
+            write_bytes(&self.b2),
+            write_bytes(&self.d),
+        );
         format!("{} {b1} {b2} {n1} {n2} {n3} {d}", self.name)
     }
 
@@ -61,7 +68,8 @@ pub fn read_number(text: &str) -> Result<u64, String> {
     if text.is_empty() || !text.bytes().all(|c| c.is_ascii_digit()) {
         return Err(format!("{text:?} is no number"));
     }
-    text.parse().map_err(|_| format!("{text} is not below 2^64"))
+    text.parse()
+        .map_err(|_| format!("{text} is not below 2^64"))
 }
 
 fn read_pair(pair: &[u8]) -> Result<u8, String> {
@@ -107,7 +115,9 @@ pub fn read_bytes(text: &str) -> Result<Vec<u8>, String> {
 
 /// The end of the run of equal bytes that starts at `start`.
 fn run_end(bytes: &[u8], start: usize) -> usize {
-    let same = bytes[start..].iter().take_while(|byte| **byte == bytes[start]);
+    let same = bytes[start..]
+        .iter()
+        .take_while(|byte| **byte == bytes[start]);
     start + same.count()
 }
 
@@ -130,4 +140,39 @@ pub fn write_bytes(bytes: &[u8]) -> String {
         at = end;
     }
     text
+}
+
+#[cfg(test)]
+mod tests {
+    use super::*;
+
+    #[test]
+    fn a_count_belongs_to_the_pair_before_it() {
+        assert_eq!(read_bytes("0001*3"), Ok(vec![0, 1, 1, 1]));
+        assert_eq!(read_bytes("00*3a0"), Ok(vec![0, 0, 0, 0xa0]));
+        assert_eq!(read_bytes("-"), Ok(vec![]));
+        for bad in ["", "0", "0g", "AA", "*3", "00*", "00*0", "00-", "00*3*3"] {
+            assert!(read_bytes(bad).is_err(), "{bad}");
+        }
+    }
+
+    #[test]
+    fn a_repetition_is_written_where_no_digit_follows() {
+        assert_eq!(write_bytes(&[0; 128]), "00*128");
+        assert_eq!(write_bytes(&[0, 0, 0, 0, 0xa0]), "00*4a0");
+        assert_eq!(write_bytes(&[0, 0, 0, 0, 1]), "0000000001");
+        assert_eq!(write_bytes(&[1, 1, 1]), "010101");
+    }
+
+    #[test]
+    fn what_is_written_is_read_back() {
+        for first in [0, 1, 0x9f, 0xa0, 0xff] {
+            for second in [0, 1, 0x9f, 0xa0, 0xff] {
+                for count in 0..20 {
+                    let bytes = [vec![first; count], vec![second; 20 - count]].concat();
+                    assert_eq!(read_bytes(&write_bytes(&bytes)), Ok(bytes));
+                }
+            }
+        }
+    }
 }

@@ -54,7 +54,10 @@ pub fn letter_byte(letter: Pauli) -> u8 {
 pub fn read_row(bytes: &[u8]) -> Option<PauliString> {
     let (phase, letters) = bytes.split_first()?;
     let phase = phase_of(u64::from(*phase))?;
-    let letters: Option<Vec<Pauli>> = letters.iter().map(|byte| letter_of(u64::from(*byte))).collect();
+    let letters: Option<Vec<Pauli>> = letters
+        .iter()
+        .map(|byte| letter_of(u64::from(*byte)))
+        .collect();
     Some(PauliString::from_paulis_with_phase(phase, &letters?))
 }
 
@@ -69,7 +72,11 @@ pub fn write_row(string: &PauliString, qubits: usize) -> Option<Vec<u8>> {
 }
 
 pub fn read_string(bytes: &[u8]) -> Option<PauliString> {
-    if bytes.len() == STRING_LENGTH { read_row(bytes) } else { None }
+    if bytes.len() == STRING_LENGTH {
+        read_row(bytes)
+    } else {
+        None
+    }
 }
 
 pub fn write_string(string: &PauliString) -> Option<Vec<u8>> {

@@ -17,7 +17,9 @@ fn phase_product(call: &Call) -> Option<Answer> {
 }
 
 fn phase_conjugate(call: &Call) -> Option<Answer> {
-    Some(Answer::Value(phase_byte(phase_of(call.n[0])?.conjugate()).into()))
+    Some(Answer::Value(
+        phase_byte(phase_of(call.n[0])?.conjugate()).into(),
+    ))
 }
 
 /// The Rust's table of letters is private, so two strings of one letter are multiplied.
@@ -30,7 +32,9 @@ fn letter_product(call: &Call) -> Option<Answer> {
 }
 
 fn phase(call: &Call) -> Option<Answer> {
-    Some(Answer::Value(phase_byte(read_string(&call.b1)?.phase()).into()))
+    Some(Answer::Value(
+        phase_byte(read_string(&call.b1)?.phase()).into(),
+    ))
 }
 
 fn get(call: &Call) -> Option<Answer> {
@@ -39,7 +43,9 @@ fn get(call: &Call) -> Option<Answer> {
 }
 
 fn commutes_with(call: &Call) -> Option<Answer> {
-    Some(flag(read_string(&call.b1)?.commutes_with(&read_string(&call.b2)?)))
+    Some(flag(
+        read_string(&call.b1)?.commutes_with(&read_string(&call.b2)?),
+    ))
 }
 
 fn mul(call: &Call) -> Option<Answer> {

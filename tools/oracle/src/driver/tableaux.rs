@@ -29,7 +29,10 @@ fn image(call: &Call, half: Half) -> Option<Answer> {
         Half::Z => (width + slot, tableau.z_image(slot)),
     };
     let offset = 1 + row * (width + 1);
-    assert_eq!(write_row(image, width).as_deref(), Some(&call.b1[offset..offset + width + 1]));
+    assert_eq!(
+        write_row(image, width).as_deref(),
+        Some(&call.b1[offset..offset + width + 1])
+    );
     Some(Answer::Value(offset as u64))
 }
 
@@ -46,7 +49,10 @@ fn set_image(call: &Call, half: Half) -> Option<Answer> {
     };
     match set {
         Ok(()) => of_tableau(&tableau),
-        Err(error) => Some(Answer::Refused(if wide { 14 } else { 15 }, error.qubit as u64)),
+        Err(error) => Some(Answer::Refused(
+            if wide { 14 } else { 15 },
+            error.qubit as u64,
+        )),
     }
 }
 
@@ -65,7 +71,9 @@ fn extended_to(call: &Call) -> Option<Answer> {
 
 fn support_qubits(call: &Call) -> Option<Answer> {
     let support = read_tableau(&call.b1)?.support_qubits();
-    Some(counted(support.into_iter().map(|qubit| qubit as u8).collect()))
+    Some(counted(
+        support.into_iter().map(|qubit| qubit as u8).collect(),
+    ))
 }
 
 fn identity(call: &Call) -> Option<Answer> {

@@ -9,7 +9,9 @@ use crate::{ParsePauliStringError, PauliString};
 /// Whether every run of digits is a number below 128. In a sparse text that the Rust reads
 /// to its end, the runs of digits are the indices.
 fn indices_below_limit(text: &str) -> bool {
-    let runs = text.split(|c: char| !c.is_ascii_digit()).filter(|run| !run.is_empty());
+    let runs = text
+        .split(|c: char| !c.is_ascii_digit())
+        .filter(|run| !run.is_empty());
     runs.map(|run| run.trim_start_matches('0'))
         .all(|run| run.is_empty() || (run.len() <= 3 && run.parse::<usize>().unwrap() < QUBITS))
 }
@@ -24,18 +26,20 @@ fn sparse(text: &str) -> Option<Answer> {
     sparse_result(text, PauliString::from_sparse_str(text))
 }
 
-fn sparse_result(
-    text: &str,
-    result: Result<PauliString, ParsePauliStringError>,
-) -> Option<Answer> {
-    if indices_below_limit(text) { of_result(result) } else { None }
+fn sparse_result(text: &str, result: Result<PauliString, ParsePauliStringError>) -> Option<Answer> {
+    if indices_below_limit(text) {
+        of_result(result)
+    } else {
+        None
+    }
 }
 
-fn dense_result(
-    text: &str,
-    result: Result<PauliString, ParsePauliStringError>,
-) -> Option<Answer> {
-    if result.is_ok() || dense_below_limit(text) { of_result(result) } else { None }
+fn dense_result(text: &str, result: Result<PauliString, ParsePauliStringError>) -> Option<Answer> {
+    if result.is_ok() || dense_below_limit(text) {
+        of_result(result)
+    } else {
+        None
+    }
 }
 
 fn dense(text: &str) -> Option<Answer> {

@@ -226,11 +226,7 @@ pub mod gate_type {
         panic!("left out by document 01")
     }
 
-    pub const fn scale_2x2(
-        _: SingleQubitGateMatrix,
-        _: f64,
-        _: f64,
-    ) -> SingleQubitGateMatrix {
+    pub const fn scale_2x2(_: SingleQubitGateMatrix, _: f64, _: f64) -> SingleQubitGateMatrix {
         panic!("left out by document 01")
     }
 }

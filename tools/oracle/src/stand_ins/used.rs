@@ -80,7 +80,10 @@ pub mod qubit_support {
 
     pub fn assert_distinct_qubits<const N: usize>(gate: &str, qubits: [usize; N]) {
         for (place, qubit) in qubits.iter().enumerate() {
-            assert!(!qubits[..place].contains(qubit), "{gate} on equal qubits {qubits:?}");
+            assert!(
+                !qubits[..place].contains(qubit),
+                "{gate} on equal qubits {qubits:?}"
+            );
         }
     }
 }

@@ -42,8 +42,9 @@ impl Random {
 
     /// `count` letters other than I, at random qubits (fewer where a qubit comes twice).
     pub fn sparse_string(&mut self, phase: u8, count: usize) -> Vec<u8> {
-        let letters: Vec<(usize, u8)> =
-            (0..count).map(|_| (self.below(QUBITS), 1 + self.below(3) as u8)).collect();
+        let letters: Vec<(usize, u8)> = (0..count)
+            .map(|_| (self.below(QUBITS), 1 + self.below(3) as u8))
+            .collect();
         string(phase, &letters)
     }
 }

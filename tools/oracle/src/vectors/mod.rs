@@ -5,8 +5,8 @@ mod pauli;
 mod text;
 
 use crate::driver::answer::{Answer, answer, write_answer};
-use crate::driver::records::{QUBITS, tableau_length};
 use crate::driver::line::Call;
+use crate::driver::records::{QUBITS, tableau_length};
 pub use inputs::Random;
 
 /// A display text has the most bytes: some four for each letter of a record.
@@ -25,7 +25,11 @@ impl Book {
 
     /// A call that the Rust answers. Anything else is a slip in the inputs.
     pub fn add(&mut self, call: Call) {
-        assert!(self.add_if_answered(&call), "not answered by the Rust: {}", call.write());
+        assert!(
+            self.add_if_answered(&call),
+            "not answered by the Rust: {}",
+            call.write()
+        );
     }
 
     /// A call whose destination has exactly the room that its answer takes, and `more` bytes.

@@ -24,7 +24,9 @@ pub fn fill(book: &mut Book) {
 }
 
 fn phases_and_letters(book: &mut Book) {
-    book.comment("All products of phases and of letters (4 * phase + letter), conjugates, real phases.");
+    book.comment(
+        "All products of phases and of letters (4 * phase + letter), conjugates, real phases.",
+    );
     for name in ["phase_product", "letter_product"] {
         for left in 0..4 {
             for right in 0..4 {
@@ -44,7 +46,10 @@ fn reading_strings(book: &mut Book, random: &mut Random) {
     let mut records: Vec<Vec<u8>> = (0..4).map(|phase| string(phase, &[])).collect();
     records.extend((0..4).map(|phase| random.full_string(phase)));
     for letter in 0..4 {
-        records.push(string(0, &[(0, letter), (1, 3 - letter), (63, letter), (127, letter)]));
+        records.push(string(
+            0,
+            &[(0, letter), (1, 3 - letter), (63, letter), (127, letter)],
+        ));
     }
     for record in &records {
         book.add(Call::new("phase").b1(record));
@@ -55,13 +60,22 @@ fn reading_strings(book: &mut Book, random: &mut Random) {
     }
     let record = random.full_string(1);
     for _ in 0..24 {
-        book.add(Call::new("get").b1(&record).n(&[random.below(QUBITS) as u64]));
+        book.add(
+            Call::new("get")
+                .b1(&record)
+                .n(&[random.below(QUBITS) as u64]),
+        );
     }
 }
 
 fn both(book: &mut Book, left: &[u8], right: &[u8], more: usize) {
     book.add(Call::new("commutes_with").b1(left).b2(right));
-    book.add(Call::new("mul").b1(left).b2(right).d(&room(STRING_LENGTH, more)));
+    book.add(
+        Call::new("mul")
+            .b1(left)
+            .b2(right)
+            .d(&room(STRING_LENGTH, more)),
+    );
 }
 
 fn letter_pairs(book: &mut Book) {
@@ -80,7 +94,12 @@ fn phase_pairs(book: &mut Book, random: &mut Random) {
         for right in 0..4 {
             both(book, &string(left, &[]), &string(right, &[(0, 1)]), 0);
             both(book, &string(left, &[(0, 2)]), &string(right, &[(0, 1)]), 1);
-            both(book, &random.full_string(left), &random.full_string(right), 0);
+            both(
+                book,
+                &random.full_string(left),
+                &random.full_string(right),
+                0,
+            );
         }
     }
 }
@@ -89,8 +108,9 @@ fn phase_pairs(book: &mut Book, random: &mut Random) {
 fn anticommuting_places(book: &mut Book) {
     for count in [1, 2, 3, 4, 5, 63, 64, 126, 127, 128] {
         let left: Vec<(usize, u8)> = (0..QUBITS).map(|qubit| (qubit, 1)).collect();
-        let right: Vec<(usize, u8)> =
-            (0..QUBITS).map(|qubit| (qubit, if qubit < count { 2 } else { 1 })).collect();
+        let right: Vec<(usize, u8)> = (0..QUBITS)
+            .map(|qubit| (qubit, if qubit < count { 2 } else { 1 }))
+            .collect();
         both(book, &string(0, &left), &string(0, &right), 0);
         both(book, &string(0, &right), &string(0, &left), 5);
     }
@@ -119,9 +139,17 @@ fn random_pairs(book: &mut Book, random: &mut Random) {
 }
 
 fn entries(book: &mut Book, phase: u64, entries: &[(u8, u8)], more: usize) {
-    let bytes: Vec<u8> = entries.iter().flat_map(|(letter, qubit)| [*letter, *qubit]).collect();
+    let bytes: Vec<u8> = entries
+        .iter()
+        .flat_map(|(letter, qubit)| [*letter, *qubit])
+        .collect();
     let room = room(STRING_LENGTH, more);
-    book.add(Call::new("with_phase_and_paulis").b1(&bytes).n(&[phase]).d(&room));
+    book.add(
+        Call::new("with_phase_and_paulis")
+            .b1(&bytes)
+            .n(&[phase])
+            .d(&room),
+    );
 }
 
 fn entries_few(book: &mut Book) {
@@ -148,7 +176,10 @@ fn entries_few(book: &mut Book) {
 fn shuffled(random: &mut Random, count: usize) -> Vec<(u8, u8)> {
     let mut qubits: Vec<u8> = (0..QUBITS as u8).collect();
     random.shuffle(&mut qubits);
-    qubits[..count].iter().map(|qubit| (random.below(4) as u8, *qubit)).collect()
+    qubits[..count]
+        .iter()
+        .map(|qubit| (random.below(4) as u8, *qubit))
+        .collect()
 }
 
 fn entries_many(book: &mut Book, random: &mut Random) {
@@ -179,7 +210,12 @@ fn entries_twice(book: &mut Book, random: &mut Random) {
     entries(book, 0, &[(1, 3), (1, 3), (1, 5), (1, 5)], 0);
     entries(book, 0, &[(1, 5), (2, 3), (3, 5), (0, 3)], 0);
     entries(book, 0, &[(0, 9), (1, 8), (1, 7), (0, 9), (2, 1)], 3);
-    entries(book, 2, &[(1, 127), (1, 0), (1, 126), (1, 127), (2, 126)], 0);
+    entries(
+        book,
+        2,
+        &[(1, 127), (1, 0), (1, 126), (1, 127), (2, 126)],
+        0,
+    );
     entries(book, 1, &[(1, 4), (1, 4), (1, 4)], 0);
     for turn in 0..16 {
         let count = 2 + random.below(40);

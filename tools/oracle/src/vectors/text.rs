@@ -12,7 +12,9 @@ const SPACES: &[u8] = &[9, 10, 11, 12, 13, 32];
 pub fn fill(book: &mut Book) {
     let random = &mut Random::new(2);
     book.comment("Made by `oracle vectors text`: every answer is the Rust's. A text that the Rust");
-    book.comment("refuses as bad syntax is left out: its number and offset are not the Rust's to give.");
+    book.comment(
+        "refuses as bad syntax is left out: its number and offset are not the Rust's to give.",
+    );
     short_texts(book);
     longer_texts(book, random);
     made_texts(book, random);
@@ -58,7 +60,9 @@ fn longer_texts(book: &mut Book, random: &mut Random) {
 }
 
 fn some_space(random: &mut Random, least: usize) -> Vec<u8> {
-    (0..least + random.below(2)).map(|_| random.pick(SPACES)).collect()
+    (0..least + random.below(2))
+        .map(|_| random.pick(SPACES))
+        .collect()
 }
 
 /// A numeral of an index, now and then with a plus and leading zeros.
@@ -84,7 +88,9 @@ fn sparse_text(random: &mut Random, count: usize, limit: usize) -> Vec<u8> {
 }
 
 fn made_texts(book: &mut Book, random: &mut Random) {
-    book.comment("Sparse texts: prefixes, either case, every white space, pluses and zeros, duplicates.");
+    book.comment(
+        "Sparse texts: prefixes, either case, every white space, pluses and zeros, duplicates.",
+    );
     for turn in 0..240 {
         let limit = random.pick(&[4, 10, 30, QUBITS]);
         let text = sparse_text(random, 1 + turn % 6, limit);
@@ -98,7 +104,11 @@ fn made_texts(book: &mut Book, random: &mut Random) {
         let length = random.pick(&[1, 5, 12]);
         text.extend((0..length).map(|_| random.pick(b"IXYZixyz1")));
         text.extend(some_space(random, 0));
-        book.add(Call::new("from_dense_str").b1(&text).d(&room(STRING_LENGTH, turn % 4)));
+        book.add(
+            Call::new("from_dense_str")
+                .b1(&text)
+                .d(&room(STRING_LENGTH, turn % 4)),
+        );
         book.add_if_answered(&Call::new("from_str").b1(&text).d(&room(STRING_LENGTH, 0)));
     }
 }
@@ -150,7 +160,9 @@ fn writing(book: &mut Book, random: &mut Random) {
             write(book, &string(phase, &[(qubit, 1 + phase % 3)]), qubit % 3);
         }
         write(book, &random.full_string(phase), 0);
-        let all: Vec<(usize, u8)> = (0..QUBITS).map(|q| (q, 1 + random.below(3) as u8)).collect();
+        let all: Vec<(usize, u8)> = (0..QUBITS)
+            .map(|q| (q, 1 + random.below(3) as u8))
+            .collect();
         write(book, &string(phase, &all), 3);
     }
     for turn in 0..40 {
@@ -168,8 +180,12 @@ fn there_and_back(book: &mut Book, random: &mut Random) {
             1 => random.full_string(phase),
             _ => random.sparse_string(phase, 1 + turn % 7),
         };
-        let text = crate::driver::records::read_string(&record).unwrap().to_sparse_str();
-        let back = Call::new("from_str").b1(text.as_bytes()).d(&room(STRING_LENGTH, turn % 3));
+        let text = crate::driver::records::read_string(&record)
+            .unwrap()
+            .to_sparse_str();
+        let back = Call::new("from_str")
+            .b1(text.as_bytes())
+            .d(&room(STRING_LENGTH, turn % 3));
         book.add(back);
     }
 }
