@@ -1,7 +1,9 @@
 //! Inputs of the vector files, the same on every run, answered by the Rust.
 
+mod gates;
 mod inputs;
 mod pauli;
+mod tableaux;
 mod text;
 
 use crate::driver::answer::{Answer, answer, write_answer};
@@ -58,6 +60,9 @@ pub fn vectors(name: &str) -> Option<String> {
     match name {
         "pauli" => pauli::fill(&mut book),
         "text" => text::fill(&mut book),
+        "tableaux" => tableaux::fill(&mut book),
+        "gates" => gates::fill(&mut book),
+        "lists" => gates::fill_lists(&mut book),
         _ => return None,
     }
     Some(book.text)
