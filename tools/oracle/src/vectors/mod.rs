@@ -1,0 +1,69 @@
+//! Inputs of the vector files, the same on every run, answered by the Rust.
+
+mod gates;
+mod inputs;
+mod pauli;
+mod tableaux;
+mod text;
+
+use crate::driver::answer::{Answer, answer, write_answer};
+use crate::driver::line::Call;
+use crate::driver::records::{QUBITS, tableau_length};
+pub use inputs::Random;
+
+/// A display text has the most bytes: some four for each letter of a record.
+const ROOM_FOR_ALL: usize = 5 * tableau_length(QUBITS);
+
+/// The lines of one vector file.
+#[derive(Default)]
+pub struct Book {
+    pub text: String,
+}
+
+impl Book {
+    pub fn comment(&mut self, words: &str) {
+        self.text += &format!("# {words}\n");
+    }
+
+    /// A call that the Rust answers. Anything else is a slip in the inputs.
+    pub fn add(&mut self, call: Call) {
+        assert!(
+            self.add_if_answered(&call),
+            "not answered by the Rust: {}",
+            call.write()
+        );
+    }
+
+    /// A call whose destination has exactly the room that its answer takes, and `more` bytes.
+    pub fn add_sized(&mut self, call: &Call, more: usize) {
+        let roomy = call.clone().d(&vec![0; ROOM_FOR_ALL]);
+        let Some(Answer::Written(_, bytes)) = answer(&roomy) else {
+            panic!("nothing written by {}", call.write());
+        };
+        self.add(call.clone().d(&inputs::room(bytes.len(), more)));
+    }
+
+    /// Whether the Rust answers the call; where it does not, nothing is written.
+    pub fn add_if_answered(&mut self, call: &Call) -> bool {
+        let answer = answer(call).expect("a known name");
+        if matches!(answer, Answer::Syntax | Answer::Outside) {
+            return false;
+        }
+        self.text += &format!("{} = {}\n", call.write(), write_answer(call, &answer));
+        true
+    }
+}
+
+/// The vector file of a name.
+pub fn vectors(name: &str) -> Option<String> {
+    let mut book = Book::default();
+    match name {
+        "pauli" => pauli::fill(&mut book),
+        "text" => text::fill(&mut book),
+        "tableaux" => tableaux::fill(&mut book),
+        "gates" => gates::fill(&mut book),
+        "lists" => gates::fill_lists(&mut book),
+        _ => return None,
+    }
+    Some(book.text)
+}
