@@ -1,0 +1,27 @@
+// Lines of test vectors, for a program that calls a function on each and compares.
+//
+// A case is one line, its fields separated by one space:
+//
+//     NAME BYTES BYTES NUM NUM NUM BYTES = NUM NUM BYTES
+//
+// the function's name, two byte arguments, three numbers, the destination before the call; then the
+// reply expected: its number, its value, and the destination after the call, `.` where it is as
+// before. BYTES is pairs of lowercase hex digits, each of which may be followed by `*` and how often
+// it stands, or `-` for no bytes. NUM is decimal, below 2^64. A line that starts with `#` is a
+// comment, and an empty line says nothing.
+//
+// No function has a `requires`: what is not a case is answered as malformed.
+mod decode;
+mod scan;
+
+pub use check::same;
+pub use decode::Decoded;
+pub use decode::Number;
+pub use decode::bytes;
+pub use decode::decimal;
+pub use scan::field;
+pub use scan::fields;
+pub use scan::is_named;
+pub use scan::line_at;
+pub use scan::next_line;
+pub use scan::stop;
