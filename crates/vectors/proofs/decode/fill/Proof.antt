@@ -9,7 +9,7 @@ abbrev Inv-loop : tie.InvT-loop
 Inv-loop part₀ x i₀ part i = length part ≡ length part₀
 
 abbrev μ-loop : tie.MeasureT-loop
-μ-loop part₀ x i₀ part i = length part - i
+μ-loop part₀ x i₀ part i = length part₀ - i
 
 pub fill-spec : {M : Type 1} → statement M
 fill-spec =
