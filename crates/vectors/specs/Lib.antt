@@ -1,2 +1,3 @@
 -- What the contracts of `vectors` cite. Assumes nothing.
 pub mod Bounds
+pub mod Cases

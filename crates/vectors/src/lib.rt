@@ -12,16 +12,25 @@
 //
 // No function has a `requires`: what is not a case is answered as malformed.
 mod decode;
+mod reading;
 mod scan;
+mod tally;
 
 pub use check::same;
 pub use decode::Decoded;
 pub use decode::Number;
 pub use decode::bytes;
 pub use decode::decimal;
+pub use reading::Case;
+pub use reading::Kind;
+pub use reading::read_case;
 pub use scan::field;
 pub use scan::fields;
 pub use scan::is_named;
 pub use scan::line_at;
 pub use scan::next_line;
 pub use scan::stop;
+pub use tally::Outcome;
+pub use tally::Reply;
+pub use tally::Tally;
+pub use tally::compared;
