@@ -1,6 +1,9 @@
 // One line as a case.
 ghost use mathlib.Core.Path.{_≡_};
-ghost use Rattle.vectors.specs.Cases.{Sized, Empty};
+ghost use Prim.Native.Nat.{_≤_};
+ghost use lib.ListN.{length};
+ghost use Rattle.vectors.specs.Cases.{Sized, Empty, Filled};
+use crate::decode::Decoded;
 use crate::decode::Number;
 use crate::decode::bytes;
 use crate::decode::decimal;
@@ -94,7 +97,11 @@ fn is_shaped(line: &[u8]) -> bool {
 
 // Which field spells the destination after the call: that of the destination before it, for `.`.
 fn after_field(line: &[u8]) -> usize {
-    if check::same(field(line, 10), b".") { 6 } else { 10 }
+    if check::same(field(line, 10), b".") {
+        6
+    } else {
+        10
+    }
 }
 
 struct Numbers {
@@ -143,6 +150,39 @@ fn read_numbers(line: &[u8]) -> Numbers {
     }
 }
 
+// Puts the bytes of field `k` at the front of `buf`.
+fn field_bytes(line: &[u8], k: usize, buf: &mut [u8]) -> Decoded
+    ensures { λ r. ⌜ r .len ≤ length (now (buf .entry)) ⌝ }
+{
+    bytes(field(line, k), buf)
+}
+
+struct Lengths {
+    ok: bool,
+    a: usize,
+    b: usize,
+    d: usize,
+    e: usize,
+}
+
+// Puts the bytes of a line at the fronts of the four buffers.
+fn read_bytes(line: &[u8], a: &mut [u8], b: &mut [u8], d: &mut [u8], e: &mut [u8]) -> Lengths
+    ensures { λ r. ⌜ Filled r (now (a .entry)) (now (b .entry)) (now (d .entry)) (now (e .entry)) ⌝ }
+{
+    let after = after_field(line);
+    let in_a = field_bytes(line, 1, a);
+    let in_b = field_bytes(line, 2, b);
+    let in_d = field_bytes(line, 6, d);
+    let in_e = field_bytes(line, after, e);
+    Lengths {
+        ok: in_a.ok & in_b.ok & in_d.ok & in_e.ok,
+        a: in_a.len,
+        b: in_b.len,
+        d: in_d.len,
+        e: in_e.len,
+    }
+}
+
 // Reads a line, and puts its bytes at the fronts of the four buffers.
 pub fn read_case(line: &[u8], a: &mut [u8], b: &mut [u8], d: &mut [u8], e: &mut [u8]) -> Case
     ensures { λ r. ⌜ Sized r (now (a .entry)) (now (b .entry)) (now (d .entry)) (now (e .entry)) ⌝ }
@@ -153,20 +193,20 @@ pub fn read_case(line: &[u8], a: &mut [u8], b: &mut [u8], d: &mut [u8], e: &mut 
     if !is_shaped(line) {
         return no_case(Kind::Malformed);
     }
-    let in_a = bytes(field(line, 1), a);
-    let in_b = bytes(field(line, 2), b);
-    let in_d = bytes(field(line, 6), d);
-    let in_e = bytes(field(line, after_field(line)), e);
     let k = read_numbers(line);
-    if !(in_a.ok & in_b.ok & in_d.ok & in_e.ok & k.ok) {
+    if !k.ok {
+        return no_case(Kind::Malformed);
+    }
+    let l = read_bytes(line, a, b, d, e);
+    if !l.ok {
         return no_case(Kind::Malformed);
     }
     Case {
         kind: Kind::Case,
-        a_len: in_a.len,
-        b_len: in_b.len,
-        d_len: in_d.len,
-        e_len: in_e.len,
+        a_len: l.a,
+        b_len: l.b,
+        d_len: l.d,
+        e_len: l.e,
         n1: k.n1,
         n2: k.n2,
         n3: k.n3,

@@ -31,7 +31,11 @@ pub fn next_line(text: &[u8], at: usize) -> usize
     ensures { λ r. ⌜ Passed (now (text .entry)) at r ⌝ }
 {
     let end = stop(text, at, b'\n');
-    if end < text.len() { end + 1 } else { text.len() }
+    if end < text.len() {
+        end + 1
+    } else {
+        text.len()
+    }
 }
 
 // Where field `k` of a line starts, counted from 0, or the line's length where there are fewer.
