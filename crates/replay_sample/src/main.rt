@@ -61,10 +61,10 @@ fn run_in(line: &[u8], a: &mut [u8], b: &mut [u8], d: &mut [u8], e: &mut [u8]) -
 }
 
 fn run(line: &[u8]) -> Outcome {
-    let mut a = [0u8; 65536];
-    let mut b = [0u8; 65536];
-    let mut d = [0u8; 65536];
-    let mut e = [0u8; 65536];
+    let mut a = vectors::field_room();
+    let mut b = vectors::field_room();
+    let mut d = vectors::field_room();
+    let mut e = vectors::field_room();
     run_in(line, &mut a, &mut b, &mut d, &mut e)
 }
 
@@ -79,8 +79,8 @@ fn replay(text: &[u8]) -> Tally {
 }
 
 fn main() {
-    let mut text = [0u8; 2097152];
+    let mut text = vectors::text_room();
     let n = io::read_full(0, &mut text);
     let tally = replay(&text[..n]);
-    tally.finish(n == 2097152);
+    tally.finish(n == text.len());
 }

@@ -3,6 +3,16 @@ ghost use Prim.Native.Nat.{_-_, _≤_};
 ghost use lib.ListN.{length};
 ghost use Rattle.vectors.specs.Bounds.{Reached, Passed};
 
+// Room for all of a program's input. A contract that gave the length would have the check count it.
+pub fn text_room() -> [u8; 2097152] {
+    [0; 2097152]
+}
+
+// Room for the bytes of one field.
+pub fn field_room() -> [u8; 65536] {
+    [0; 65536]
+}
+
 // Where the first `x` at or after `at` is, or the length of `s`.
 pub fn stop(s: &[u8], at: usize, x: u8) -> usize
     ensures { λ r. ⌜ Reached (now (s .entry)) at r ⌝ }
