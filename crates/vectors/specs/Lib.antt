@@ -1,3 +1,4 @@
 -- What the contracts of `vectors` cite. Assumes nothing.
 pub mod Bounds
 pub mod Cases
+pub mod Verdicts

@@ -1,4 +1,5 @@
 // What comes of each line, counted and printed.
+ghost use Rattle.vectors.specs.Verdicts.{Judged};
 use crate::reading::Case;
 use libc::STDOUT_FILENO;
 
@@ -18,7 +19,9 @@ pub enum Outcome {
 
 // Whether the reply and the destination are those that the case expects. `e` is what the
 // destination `d` should hold, whole, so that bytes that should be as before are compared too.
-pub fn compared(case: Case, reply: Reply, d: &[u8], e: &[u8]) -> Outcome {
+pub fn compared(case: Case, reply: Reply, d: &[u8], e: &[u8]) -> Outcome
+    ensures { λ r. ⌜ Judged case reply (now (d .entry)) (now (e .entry)) r ⌝ }
+{
     let Reply::Of(number, value) = reply else {
         return Outcome::Unknown;
     };

@@ -1,0 +1,2 @@
+-- Laws that the proofs of `vectors` cite. Assumes nothing.
+pub mod Judging
