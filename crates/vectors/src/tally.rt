@@ -1,5 +1,7 @@
 // What comes of each line, counted and printed.
+ghost use mathlib.Core.Path.{_≡_};
 ghost use Rattle.vectors.specs.Verdicts.{Judged};
+ghost use Rattle.vectors.specs.Tallies.{next, Tallied};
 use crate::reading::Case;
 use libc::STDOUT_FILENO;
 
@@ -38,7 +40,9 @@ pub fn compared(case: Case, reply: Reply, d: &[u8], e: &[u8]) -> Outcome
     }
 }
 
-fn more(n: u64) -> u64 {
+fn more(n: u64) -> u64
+    ensures { λ r. ⌜ r ≡ next n ⌝ }
+{
     std::num::wrapping_add_u64(n, 1)
 }
 
@@ -58,7 +62,9 @@ impl Tally {
         }
     }
 
-    fn blank(self) -> Tally {
+    fn blank(self) -> Tally
+        ensures { λ r. ⌜ Tallied Outcome.Blank self r ⌝ }
+    {
         Tally {
             lines: more(self.lines),
             cases: self.cases,
@@ -66,7 +72,9 @@ impl Tally {
         }
     }
 
-    fn matched(self) -> Tally {
+    fn matched(self) -> Tally
+        ensures { λ r. ⌜ Tallied Outcome.Match self r ⌝ }
+    {
         Tally {
             lines: more(self.lines),
             cases: more(self.cases),
@@ -74,7 +82,9 @@ impl Tally {
         }
     }
 
-    fn mismatched(self, why: &[u8]) -> Tally {
+    fn mismatched(self, why: &[u8]) -> Tally
+        ensures { λ r. ⌜ Tallied Outcome.Mismatch self r ⌝ }
+    {
         let line = more(self.lines);
         io::write_all(STDOUT_FILENO, b"line ");
         io::print_decimal(STDOUT_FILENO, line);
@@ -87,7 +97,9 @@ impl Tally {
     }
 
     // Counts the next line, and prints its number where it fails.
-    pub fn with(self, outcome: Outcome) -> Tally {
+    pub fn with(self, outcome: Outcome) -> Tally
+        ensures { λ r. ⌜ Tallied outcome self r ⌝ }
+    {
         match outcome {
             Outcome::Blank => self.blank(),
             Outcome::Match => self.matched(),
