@@ -6,9 +6,10 @@
 //
 // the function's name, two byte arguments, three numbers, the destination before the call; then the
 // reply expected: its number, its value, and the destination after the call, `.` where it is as
-// before. BYTES is pairs of lowercase hex digits, each of which may be followed by `*` and how often
-// it stands, or `-` for no bytes. NUM is decimal, below 2^64. A line that starts with `#` is a
-// comment, and an empty line says nothing.
+// before. A name is lowercase letters, digits and `_`. BYTES is pairs of lowercase hex digits, or `-`
+// for no bytes. A pair may be followed by `*` and how often it stands, in decimal, at least 1; a comma
+// may end that count, and has to where the next pair starts with a decimal digit. NUM is decimal,
+// below 2^64. A line that starts with `#` is a comment, and an empty line says nothing.
 //
 // No function has a `requires`: what is not a case is answered as malformed.
 mod decode;
