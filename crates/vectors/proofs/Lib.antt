@@ -1,0 +1,3 @@
+-- Laws that the proofs of `vectors` cite. Assumes nothing.
+pub mod Judging
+pub mod Tallying

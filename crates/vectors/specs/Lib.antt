@@ -1,0 +1,5 @@
+-- What the contracts of `vectors` cite. Assumes nothing.
+pub mod Bounds
+pub mod Cases
+pub mod Verdicts
+pub mod Tallies

@@ -1,0 +1,133 @@
+// What comes of each line, counted and printed.
+ghost use mathlib.Core.Path.{_≡_};
+ghost use Rattle.vectors.specs.Verdicts.{Judged};
+ghost use Rattle.vectors.specs.Tallies.{next, Tallied};
+use crate::reading::Case;
+use libc::STDOUT_FILENO;
+
+// What a function under test answers, or that no function has the name.
+pub enum Reply {
+    Of(u64, u64),
+    Unknown,
+}
+
+pub enum Outcome {
+    Blank,
+    Match,
+    Mismatch,
+    Malformed,
+    Unknown,
+}
+
+// Whether the reply and the destination are those that the case expects. `e` is what the
+// destination `d` should hold, whole, so that bytes that should be as before are compared too.
+pub fn compared(case: Case, reply: Reply, d: &[u8], e: &[u8]) -> Outcome
+    ensures { λ r. ⌜ Judged case reply (now (d .entry)) (now (e .entry)) r ⌝ }
+{
+    let Reply::Of(number, value) = reply else {
+        return Outcome::Unknown;
+    };
+    if number != case.number {
+        return Outcome::Mismatch;
+    }
+    if value != case.value {
+        return Outcome::Mismatch;
+    }
+    if check::same(d, e) {
+        Outcome::Match
+    } else {
+        Outcome::Mismatch
+    }
+}
+
+fn more(n: u64) -> u64
+    ensures { λ r. ⌜ r ≡ next n ⌝ }
+{
+    std::num::wrapping_add_u64(n, 1)
+}
+
+// Lines, cases and mismatches so far. Each line that is not blank is a case.
+pub struct Tally {
+    pub lines: u64,
+    pub cases: u64,
+    pub mismatches: u64,
+}
+
+impl Tally {
+    pub fn new() -> Tally {
+        Tally {
+            lines: 0,
+            cases: 0,
+            mismatches: 0,
+        }
+    }
+
+    fn blank(self) -> Tally
+        ensures { λ r. ⌜ Tallied Outcome.Blank self r ⌝ }
+    {
+        Tally {
+            lines: more(self.lines),
+            cases: self.cases,
+            mismatches: self.mismatches,
+        }
+    }
+
+    fn matched(self) -> Tally
+        ensures { λ r. ⌜ Tallied Outcome.Match self r ⌝ }
+    {
+        Tally {
+            lines: more(self.lines),
+            cases: more(self.cases),
+            mismatches: self.mismatches,
+        }
+    }
+
+    fn mismatched(self, why: &[u8]) -> Tally
+        ensures { λ r. ⌜ Tallied Outcome.Mismatch self r ⌝ }
+    {
+        let line = more(self.lines);
+        io::write_all(STDOUT_FILENO, b"line ");
+        io::print_decimal(STDOUT_FILENO, line);
+        io::write_all(STDOUT_FILENO, why);
+        Tally {
+            lines: line,
+            cases: more(self.cases),
+            mismatches: more(self.mismatches),
+        }
+    }
+
+    // Counts the next line, and prints its number where it fails.
+    pub fn with(self, outcome: Outcome) -> Tally
+        ensures { λ r. ⌜ Tallied outcome self r ⌝ }
+    {
+        match outcome {
+            Outcome::Blank => self.blank(),
+            Outcome::Match => self.matched(),
+            Outcome::Mismatch => self.mismatched(b": mismatch\n"),
+            Outcome::Malformed => self.mismatched(b": malformed\n"),
+            Outcome::Unknown => self.mismatched(b": unknown function\n"),
+        }
+    }
+
+    // An input that fills its buffer may be cut short: that is a mismatch.
+    fn cut(self, full: bool) -> Tally {
+        if !full {
+            return self;
+        }
+        io::write_all(STDOUT_FILENO, b"the input is too long\n");
+        Tally {
+            lines: self.lines,
+            cases: self.cases,
+            mismatches: more(self.mismatches),
+        }
+    }
+
+    // Prints the counts. `full` says that the input filled its buffer.
+    pub fn finish(self, full: bool) {
+        let all = self.cut(full);
+        io::print_decimal(STDOUT_FILENO, all.cases);
+        io::write_all(STDOUT_FILENO, b" cases, ");
+        io::print_decimal(STDOUT_FILENO, all.mismatches);
+        io::write_all(STDOUT_FILENO, b" mismatches\n");
+    }
+}
