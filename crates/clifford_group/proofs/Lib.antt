@@ -1,1 +1,4 @@
 pub mod Singles
+pub mod Commuting
+pub mod Images
+pub mod Apply
