@@ -55,16 +55,22 @@ alike-sym t u e q l h = sym (e q l h)
 pub alike-trans : (t u v : Tableau) → Alike t u → Alike u v → Alike t v
 alike-trans t u v e f q l h = e q l h ∙ f q l h
 
-pub alike-same : (t u : Tableau) → Same t u → Alike t u
+-- one width and the same rows: the same images
+pub image-same : (t u : Tableau) → Same t u → (q : ℕ) (l : Letter) → imageOf t q l ≡ imageOf u q l
 unfolding rowImage
-alike-same t u e q l k = go (decLt q (t .width))
+image-same t u e q l = elim (decLt q (t .width)) [
+  | yes h ↦ image-own t q l h ∙ row h l ∙ sym (image-own u q l (subst (λ w. q < w) (e .width) h))
+  | no h ↦ image-above t q l (omega arith) ∙ sym (image-above u q l (omega (arith, e .width)))
+]
   where
-    go : Dec (q < t .width) → imageOf t q l ≡ imageOf u q l
-    go (yes h) = alike-rows t u q k (own X (e .xImage q h)) (own Z (e .zImage q h)) l
-      where
-        own : (l : Letter) → rowImage t q l ≡ rowImage u q l → imageOf t q l ≡ imageOf u q l
-        own l r = image-own t q l h ∙ r ∙ sym (image-own u q l (subst (λ w. q < w) (e .width) h))
-    go (no h) = image-above t q l (omega arith) ∙ sym (image-above u q l (omega (arith, e .width)))
+    row : q < t .width → (l : Letter) → rowImage t q l ≡ rowImage u q l
+    row h I = refl
+    row h X = e .xImage q h
+    row h Z = e .zImage q h
+    row h Y = ap₂ (λ x z. scale PlusI (mul x z)) (e .xImage q h) (e .zImage q h)
+
+pub alike-same : (t u : Tableau) → Same t u → Alike t u
+alike-same t u e q l h = image-same t u e q l
 
 pub same-alike : (t u : Tableau) → t .width ≡ u .width → t .width ≤ qubits → Alike t u → Same t u
 unfolding rowImage

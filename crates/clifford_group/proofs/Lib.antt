@@ -2,3 +2,4 @@ pub mod Singles
 pub mod Commuting
 pub mod Images
 pub mod Apply
+pub mod Valid

@@ -120,6 +120,11 @@ pub record Proper (t : Tableau) : Type 0 where
   pub xWithin : (q : ℕ) → q < t .width → Within (t .width) (t .xImage q)
   pub zWithin : (q : ℕ) → q < t .width → Within (t .width) (t .zImage q)
 
+-- a valid tableau of that kind: it stands for a Clifford operation
+pub record Clifford (t : Tableau) : Type 0 where
+  pub proper : Proper t
+  pub valid : isValid t ≡ true
+
 -- one width, and the same rows
 pub record Same (t u : Tableau) : Type 0 where
   pub width : t .width ≡ u .width
