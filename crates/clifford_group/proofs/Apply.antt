@@ -48,7 +48,8 @@ pub apply-scale : (t : Tableau) (p : Phase) (s : PauliString) → apply t (scale
 unfolding apply
 apply-scale = applyTo-scale qubits
 
-applyTo-none : (k : ℕ) (t : Tableau) (s : PauliString) → ((q : ℕ) → q < k → s .letters q ≡ I) → applyTo k t s ≡ scale (s .phase) identityString
+-- no letters below k: the phase alone
+pub applyTo-none : (k : ℕ) (t : Tableau) (s : PauliString) → ((q : ℕ) → q < k → s .letters q ≡ I) → applyTo k t s ≡ scale (s .phase) identityString
 unfolding applyTo scale identityString
 applyTo-none zero t s h = string-ext _ _ (sym (·-one (s .phase))) (λ q. refl)
 applyTo-none (suc k) t s h =

@@ -1,7 +1,7 @@
 -- Strings that commute: what keeps it, and the test `commute`.
 use mathlib.Core.Path.{_≡_, refl, sym, ap, _∙_}
-use mathlib.Core.Bool.{Bool, true, false, not, true≢false}
-use Rattle.pauli_group.specs.Phase.{Phase, PlusOne, MinusOne, _·_, isReal, sign}
+use mathlib.Core.Bool.{Bool, true, false, not}
+use Rattle.pauli_group.specs.Phase.{Phase, PlusOne, _·_, sign}
 use Rattle.pauli_group.specs.PauliString.{PauliString, mul, identityString, scale, commute, commutationSign}
 use Rattle.pauli_group.proofs.Strings.{scale-scale, scale-one, scale-mul, mul-scale, mul-assoc, identity-mul, mul-identity, mul-swap, sign-only, commute-sign}
 
@@ -30,12 +30,16 @@ pub scale-both : (p q : Phase) (s t : PauliString) → mul (scale p s) (scale q 
 scale-both p q s t = scale-mul p s (scale q t) ∙ ap (scale p) (mul-scale q s t) ∙ scale-scale p q (mul s t)
 
 -- ---- the test answers what the products say
-tested : (b c : Bool) → sign (not b) ≡ sign (not c) → b ≡ c
+pub sign-injective : (b c : Bool) → sign b ≡ sign c → b ≡ c
 unfolding sign
-tested true true e = refl
-tested true false e = cc
-tested false true e = cc
-tested false false e = refl
+sign-injective true true e = refl
+sign-injective true false e = cc
+sign-injective false true e = cc
+sign-injective false false e = refl
 
-pub mul-commute : (s t : PauliString) (b : Bool) → mul s t ≡ scale (sign (not b)) (mul t s) → commute s t ≡ b
-mul-commute s t b e = tested (commute s t) b (sym (commute-sign s t) ∙ sym (sign-only (sign (not b)) s t e))
+pub mul-commute : (s t : PauliString) (b : Bool) → mul s t ≡ scale (sign b) (mul t s) → commute s t ≡ not b
+mul-commute s t b e = flip (commute s t) (sign-injective (not (commute s t)) b (sym (commute-sign s t) ∙ sym (sign-only (sign b) s t e)))
+  where
+    flip : (c : Bool) → not c ≡ b → c ≡ not b
+    flip true e = ap not e
+    flip false e = ap not e

@@ -3,3 +3,4 @@ pub mod Commuting
 pub mod Images
 pub mod Apply
 pub mod Valid
+pub mod Conjugation

@@ -109,7 +109,7 @@ qubit-rows t q v = go
 
 rows-qubit : (t : Tableau) (q : ℕ) → RowsMultiply t q → validQubit t q ≡ true
 unfolding validQubit rowImage letterProduct letterPhase letterMul _·_ negate sign
-rows-qubit t q m = both-and _ _ (both-and _ _ (real X) (real Z)) (ap not (mul-commute (t .xImage q) (t .zImage q) false turned))
+rows-qubit t q m = both-and _ _ (both-and _ _ (real X) (real Z)) (ap not (mul-commute (t .xImage q) (t .zImage q) true turned))
   where
     real : (l : Letter) → isReal ((rowImage t q l) .phase) ≡ true
     real l = squares-real (rowImage t q l) (m l l ∙ ap₂ (λ p a. scale p (rowImage t q a)) (letterPhase-self l) (letterMul-self l) ∙ scale-one identityString)
@@ -151,7 +151,7 @@ unfolding validPair rowImage sign
 rows-pair t q r m = both-and _ _ (both-and _ _ (test X X) (test X Z)) (both-and _ _ (test Z X) (test Z Z))
   where
     test : (a b : Letter) → commute (rowImage t q a) (rowImage t r b) ≡ true
-    test a b = mul-commute (rowImage t q a) (rowImage t r b) true (m a b ∙ sym (scale-one (mul (rowImage t r b) (rowImage t q a))))
+    test a b = mul-commute (rowImage t q a) (rowImage t r b) false (m a b ∙ sym (scale-one (mul (rowImage t r b) (rowImage t q a))))
 
 -- ---- the test and the rule
 pub test-valid : (t : Tableau) → isValid t ≡ true → Valid t
