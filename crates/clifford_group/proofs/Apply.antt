@@ -49,12 +49,15 @@ unfolding apply
 apply-scale = applyTo-scale qubits
 
 -- no letters below k: the phase alone
-pub applyTo-none : (k : ℕ) (t : Tableau) (s : PauliString) → ((q : ℕ) → q < k → s .letters q ≡ I) → applyTo k t s ≡ scale (s .phase) identityString
+applyTo-none : (k : ℕ) (t : Tableau) (s : PauliString) → ((q : ℕ) → q < k → s .letters q ≡ I) → applyTo k t s ≡ scale (s .phase) identityString
 unfolding applyTo scale identityString
 applyTo-none zero t s h = string-ext _ _ (sym (·-one (s .phase))) (λ q. refl)
 applyTo-none (suc k) t s h =
     ap₂ mul (applyTo-none k t s (λ q l. h q (omega arith))) (ap (imageOf t k) (h k (omega arith)) ∙ image-I t k)
     ∙ mul-identity (scale (s .phase) identityString)
+
+pub applyTo-start : (t : Tableau) (s : PauliString) → applyTo zero t s ≡ scale (s .phase) identityString
+applyTo-start t s = applyTo-none zero t s (λ q l. absurd (not-suc-le-zero l))
 
 pub apply-identity : (t : Tableau) → apply t identityString ≡ identityString
 unfolding apply identityString

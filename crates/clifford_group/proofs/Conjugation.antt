@@ -3,7 +3,7 @@
 use mathlib.Core.Path.{_≡_, refl, sym, ap, ap₂, _∙_, subst}
 use mathlib.Core.Bool.{Bool, true}
 use Prim.Native.Nat.{ℕ, zero, suc, _≤_, _<_}
-use native.Mathlib.Nat.{le-refl, not-suc-le-zero}
+use native.Mathlib.Nat.{le-refl}
 use native.Mathlib.Omega.{arith}
 use native.Mathlib.Decide.{decLt}
 use Rattle.pauli_group.specs.Phase.{Phase, PlusOne, _·_, isReal, sign}
@@ -14,22 +14,18 @@ use Rattle.pauli_group.proofs.Strings.{string-ext, scale-scale, scale-one, scal
 use Rattle.clifford_group.specs.Tableau.{Tableau, imageOf, applyTo, apply, letterOf, Clifford}
 use Rattle.clifford_group.proofs.Singles.{letter-bits}
 use Rattle.clifford_group.proofs.Commuting.{Commuting, commuting-identity, commuting-scale, commuting-mul, exchange, scale-both, sign-injective}
-use Rattle.clifford_group.proofs.Apply.{applyTo-none, apply-letters, apply-scale, apply-identity, apply-single}
+use Rattle.clifford_group.proofs.Apply.{applyTo-start, apply-letters, apply-scale, apply-identity, apply-single}
 use Rattle.clifford_group.proofs.Valid.{ValidTo, valid-everywhere}
 
 -- the letters' products alone, with the product of the two phases
 joined : PauliString → PauliString → PauliString
 joined s u = record { phase = s .phase · u .phase; letters = λ q. letterMul (s .letters q) (u .letters q) }
 
--- what apply starts with
-start : (t : Tableau) (s : PauliString) → applyTo zero t s ≡ scale (s .phase) identityString
-start t s = applyTo-none zero t s (λ q l. absurd (not-suc-le-zero l))
-
 module _ (t : Tableau) (v : ValidTo qubits t) where
   -- an image commutes with all that was made of lower qubits
   applyTo-apart : (k r : ℕ) → k ≤ r → r < qubits → (s : PauliString) (b : Letter) → Commuting (imageOf t r b) (applyTo k t s)
   unfolding applyTo
-  applyTo-apart zero r h l s b = subst (Commuting (imageOf t r b)) (sym (start t s)) (commuting-scale (s .phase) (imageOf t r b) identityString (commuting-identity (imageOf t r b)))
+  applyTo-apart zero r h l s b = subst (Commuting (imageOf t r b)) (sym (applyTo-start t s)) (commuting-scale (s .phase) (imageOf t r b) identityString (commuting-identity (imageOf t r b)))
   applyTo-apart (suc k) r h l s b =
       commuting-mul (imageOf t r b) (applyTo k t s) (imageOf t k (s .letters k)) (applyTo-apart k r (omega arith) l s b)
       (v .apart r k b (s .letters k) l (omega arith) (omega arith))
@@ -38,8 +34,8 @@ module _ (t : Tableau) (v : ValidTo qubits t) where
       → mul (applyTo k t s) (applyTo k t u) ≡ scale (productTo k (λ q. letterPhase (s .letters q) (u .letters q))) (applyTo k t (joined s u))
   unfolding joined applyTo productTo
   applyTo-mul zero h s u =
-      ap₂ mul (start t s) (start t u) ∙ scale-both (s .phase) (u .phase) identityString identityString
-      ∙ ap (scale (s .phase · u .phase)) (identity-mul identityString) ∙ sym (start t (joined s u)) ∙ sym (scale-one (applyTo zero t (joined s u)))
+      ap₂ mul (applyTo-start t s) (applyTo-start t u) ∙ scale-both (s .phase) (u .phase) identityString identityString
+      ∙ ap (scale (s .phase · u .phase)) (identity-mul identityString) ∙ sym (applyTo-start t (joined s u)) ∙ sym (scale-one (applyTo zero t (joined s u)))
   applyTo-mul (suc k) h s u =
       exchange (applyTo k t s) (imageOf t k (s .letters k)) (applyTo k t u) (imageOf t k (u .letters k)) (applyTo-apart k k (le-refl k) h u (s .letters k))
       ∙ ap₂ mul (applyTo-mul k (omega arith) s u) (v .together k (s .letters k) (u .letters k) h)

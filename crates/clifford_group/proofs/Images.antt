@@ -38,24 +38,23 @@ image-Y t q k = elim (decLt q (t .width)) [
       ∙ ap₂ (λ x z. scale PlusI (mul x z)) (sym (image-above t q X (omega arith))) (sym (image-above t q Z (omega arith)))
 ]
 
--- ---- tableaux with the same images
-abbrev pub Alike : Tableau → Tableau → Type 0
-Alike t u = (q : ℕ) (l : Letter) → q < qubits → imageOf t q l ≡ imageOf u q l
+-- ---- the generators X and Z
+pub data Generator : Type 0 where
+  ofX ofZ : Generator
 
--- the images of X and Z decide
-pub alike-rows : (t u : Tableau) (q : ℕ) → q < qubits → imageOf t q X ≡ imageOf u q X → imageOf t q Z ≡ imageOf u q Z → (l : Letter) → imageOf t q l ≡ imageOf u q l
-alike-rows t u q h x z I = image-I t q ∙ sym (image-I u q)
-alike-rows t u q h x z X = x
-alike-rows t u q h x z Z = z
-alike-rows t u q h x z Y = image-Y t q h ∙ ap₂ (λ x z. scale PlusI (mul x z)) x z ∙ sym (image-Y u q h)
+abbrev pub generator : Generator → Letter
+generator ofX = X
+generator ofZ = Z
 
-pub alike-sym : (t u : Tableau) → Alike t u → Alike u t
-alike-sym t u e q l h = sym (e q l h)
+-- their images decide those of every letter
+pub image-generators : (t u : Tableau) (q : ℕ) → q < qubits → ((g : Generator) → imageOf t q (generator g) ≡ imageOf u q (generator g))
+    → (l : Letter) → imageOf t q l ≡ imageOf u q l
+image-generators t u q h e I = image-I t q ∙ sym (image-I u q)
+image-generators t u q h e X = e ofX
+image-generators t u q h e Z = e ofZ
+image-generators t u q h e Y = image-Y t q h ∙ ap₂ (λ x z. scale PlusI (mul x z)) (e ofX) (e ofZ) ∙ sym (image-Y u q h)
 
-pub alike-trans : (t u v : Tableau) → Alike t u → Alike u v → Alike t v
-alike-trans t u v e f q l h = e q l h ∙ f q l h
-
--- one width and the same rows: the same images
+-- ---- the same rows, and the same images
 pub image-same : (t u : Tableau) → Same t u → (q : ℕ) (l : Letter) → imageOf t q l ≡ imageOf u q l
 unfolding rowImage
 image-same t u e q l = elim (decLt q (t .width)) [
@@ -69,41 +68,63 @@ image-same t u e q l = elim (decLt q (t .width)) [
     row h Z = e .zImage q h
     row h Y = ap₂ (λ x z. scale PlusI (mul x z)) (e .xImage q h) (e .zImage q h)
 
+pub same-images : (t u : Tableau) → t .width ≡ u .width → ((q : ℕ) (g : Generator) → q < t .width → imageOf t q (generator g) ≡ imageOf u q (generator g)) → Same t u
+unfolding rowImage
+same-images t u w e = record { width = w; xImage = λ q h. row q h ofX; zImage = λ q h. row q h ofZ }
+  where
+    row : (q : ℕ) → q < t .width → (g : Generator) → rowImage t q (generator g) ≡ rowImage u q (generator g)
+    row q h g = sym (image-own t q (generator g) h) ∙ e q g h ∙ image-own u q (generator g) (subst (λ v. q < v) w h)
+
+-- tableaux, of whatever widths, with the same images
+abbrev pub Alike : Tableau → Tableau → Type 0
+Alike t u = (q : ℕ) (l : Letter) → q < qubits → imageOf t q l ≡ imageOf u q l
+
 pub alike-same : (t u : Tableau) → Same t u → Alike t u
 alike-same t u e q l h = image-same t u e q l
 
 pub same-alike : (t u : Tableau) → t .width ≡ u .width → t .width ≤ qubits → Alike t u → Same t u
-unfolding rowImage
-same-alike t u w n e = record {
-  width = w;
-  xImage = λ q h. row q h X;
-  zImage = λ q h. row q h Z;
-}
-  where
-    row : (q : ℕ) → q < t .width → (l : Letter) → rowImage t q l ≡ rowImage u q l
-    row q h l = sym (image-own t q l h) ∙ e q l (le-trans h n) ∙ image-own u q l (subst (λ v. q < v) w h)
+same-alike t u w n e = same-images t u w (λ q g h. e q (generator g) (le-trans h n))
 
 -- ---- widening, the identity
-pub alike-widen : (n : ℕ) (t : Tableau) → Alike (widen n t) t
+image-widen : (n : ℕ) (t : Tableau) (q : ℕ) (g : Generator) → imageOf (widen n t) q (generator g) ≡ imageOf t q (generator g)
 unfolding widen rowImage
-alike-widen n t q l k = elim (decLt q (max (t .width) n)) [
-  | yes h ↦ alike-rows (widen n t) t q k (image-own (widen n t) q X h) (image-own (widen n t) q Z h) l
-  | no h ↦ image-above (widen n t) q l (omega arith) ∙ sym (image-above t q l (omega arith))
+image-widen n t q g = elim (decLt q (max (t .width) n)) [
+  | yes h ↦ image-own (widen n t) q (generator g) h ∙ row g
+  | no h ↦ image-above (widen n t) q (generator g) (omega arith) ∙ sym (image-above t q (generator g) (omega arith))
 ]
+  where
+    row : (g : Generator) → rowImage (widen n t) q (generator g) ≡ imageOf t q (generator g)
+    row ofX = refl
+    row ofZ = refl
+
+pub alike-widen : (n : ℕ) (t : Tableau) → Alike (widen n t) t
+alike-widen n t q l h = image-generators (widen n t) t q h (image-widen n t q) l
+
+-- a smaller n changes nothing
+pub widen-narrow : (n : ℕ) (t : Tableau) → n ≤ t .width → Same (widen n t) t
+unfolding widen
+widen-narrow n t h = same-images (widen n t) t (omega arith) (λ q g l. image-widen n t q g)
 
 -- an identity's images are the letters themselves
 pub image-identity : (w q : ℕ) (l : Letter) → q < qubits → imageOf (identityTableau w) q l ≡ single l q
 unfolding identityTableau rowImage
-image-identity w q l k = elim (decLt q w) [
-  | yes h ↦ alike-rows (identityTableau w) none q k (image-own (identityTableau w) q X h ∙ sym (through X)) (image-own (identityTableau w) q Z h ∙ sym (through Z)) l ∙ through l
-  | no h ↦ image-above (identityTableau w) q l (omega arith)
-]
+image-identity w q l h = image-generators (identityTableau w) none q h each l ∙ through l
   where
     none : Tableau
     none = identityTableau zero
 
     through : (l : Letter) → imageOf none q l ≡ single l q
     through l = image-above none q l zero-le
+
+    row : (g : Generator) → rowImage (identityTableau w) q (generator g) ≡ single (generator g) q
+    row ofX = refl
+    row ofZ = refl
+
+    each : (g : Generator) → imageOf (identityTableau w) q (generator g) ≡ imageOf none q (generator g)
+    each g = elim (decLt q w) [
+      | yes k ↦ image-own (identityTableau w) q (generator g) k ∙ row g
+      | no k ↦ image-above (identityTableau w) q (generator g) (omega arith)
+    ] ∙ sym (through (generator g))
 
 -- ---- the images of a proper tableau have no letter at n or above, for a qubit below n
 pub within-image : (t : Tableau) → Proper t → (n : ℕ) → t .width ≤ n → (q : ℕ) → q < n → (l : Letter) → Within n (imageOf t q l)

@@ -4,3 +4,5 @@ pub mod Images
 pub mod Apply
 pub mod Valid
 pub mod Conjugation
+pub mod Identity
+pub mod Compose

@@ -46,13 +46,15 @@ apply t s = applyTo qubits t s
 unfoldable pub widen : ℕ → Tableau → Tableau
 widen n t = record { width = max (t .width) n; xImage = λ q. imageOf t q X; zImage = λ q. imageOf t q Z }
 
--- row r of a after b is a, applied to b's row r
-unfoldable pub after : Tableau → Tableau → Tableau
-after a b = record { width = b .width; xImage = λ r. apply a (b .xImage r); zImage = λ r. apply a (b .zImage r) }
-
--- Both are widened to the larger width. So b acts first.
+-- Widen both to the larger width; row r is a applied to b's row r. So b acts first.
 unfoldable pub compose : Tableau → Tableau → Tableau
-compose a b = after (widen (max (a .width) (b .width)) a) (widen (max (a .width) (b .width)) b)
+compose a b =
+    let n : ℕ = max (a .width) (b .width) in
+    record {
+      width = n;
+      xImage = λ r. apply (widen n a) (widen n b .xImage r);
+      zImage = λ r. apply (widen n a) (widen n b .zImage r);
+    }
 
 -- ---- validity
 
