@@ -6,3 +6,5 @@ pub mod Valid
 pub mod Conjugation
 pub mod Identity
 pub mod Compose
+pub mod Pigeonhole
+pub mod Inverse
