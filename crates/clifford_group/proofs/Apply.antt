@@ -10,9 +10,9 @@ use Rattle.pauli_group.specs.Letter.{Letter, I}
 use Rattle.pauli_group.specs.PauliString.{PauliString, qubits, mul, identityString, scale, single, Within}
 use Rattle.pauli_group.proofs.Laws.{·-one}
 use Rattle.pauli_group.proofs.Strings.{string-ext, scale-one, scale-mul, identity-mul, mul-identity, within-identity, within-mul}
-use Rattle.clifford_group.specs.Tableau.{Tableau, identityTableau, imageOf, applyTo, apply, widen, Proper, Same}
+use Rattle.clifford_group.specs.Tableau.{Tableau, identityTableau, imageOf, applyTo, apply, widen, Proper}
 use Rattle.clifford_group.proofs.Singles.{single-at, single-off}
-use Rattle.clifford_group.proofs.Images.{image-I, Alike, alike-same, alike-widen, within-image}
+use Rattle.clifford_group.proofs.Images.{image-I, Alike, alike-widen, within-image}
 
 -- ---- what apply sees
 applyTo-local : (k : ℕ) (t u : Tableau) (s v : PauliString) → s .phase ≡ v .phase
@@ -34,9 +34,6 @@ apply-letters t s v p h = apply-local t t s v p (λ q l. ap (imageOf t q) (h q l
 
 pub apply-widen : (n : ℕ) (t : Tableau) (s : PauliString) → apply (widen n t) s ≡ apply t s
 apply-widen n t = apply-alike (widen n t) t (alike-widen n t)
-
-pub apply-same : (t u : Tableau) → Same t u → (s : PauliString) → apply t s ≡ apply u s
-apply-same t u e = apply-alike t u (alike-same t u e)
 
 -- ---- phases, the identity, single letters
 applyTo-scale : (k : ℕ) (t : Tableau) (p : Phase) (s : PauliString) → applyTo k t (scale p s) ≡ scale p (applyTo k t s)

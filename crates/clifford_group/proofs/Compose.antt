@@ -9,8 +9,8 @@ use Rattle.pauli_group.specs.Phase.{PlusI}
 use Rattle.pauli_group.specs.Letter.{Letter, I, X, Z, Y, letterPhase, letterMul}
 use Rattle.pauli_group.specs.PauliString.{PauliString, qubits, mul, identityString, scale, single, Within}
 use Rattle.clifford_group.specs.Tableau.{Tableau, identityTableau, rowImage, imageOf, applyTo, apply, widen, compose, Proper, Clifford, Same}
-use Rattle.clifford_group.proofs.Images.{image-own, image-above, image-I, image-Y, image-same, Generator, ofX, ofZ, generator, same-images, image-identity, within-image}
-use Rattle.clifford_group.proofs.Apply.{applyTo-start, apply-same, apply-widen, apply-scale, apply-identity, apply-single, within-apply}
+use Rattle.clifford_group.proofs.Images.{image-own, image-above, image-I, image-Y, Generator, ofX, ofZ, generator, same-images, image-identity, within-image}
+use Rattle.clifford_group.proofs.Apply.{applyTo-start, apply-widen, apply-scale, apply-identity, apply-single, within-apply}
 use Rattle.clifford_group.proofs.Valid.{ValidTo, valid-fewer, valid-test, valid-everywhere}
 use Rattle.clifford_group.proofs.Conjugation.{apply-mul}
 use Rattle.clifford_group.proofs.Identity.{width-identity, apply-identityTableau}
@@ -81,20 +81,6 @@ compose-identity w t n l = same-images (compose t (identityTableau w)) t wide
     wide = omega (arith, width-compose t (identityTableau w), width-identity w)
 
 -- ---- what composition keeps
-pub compose-same : (a a′ b b′ : Tableau) → Same a a′ → Same b b′ → Same (compose a b) (compose a′ b′)
-unfolding compose widen
-compose-same a a′ b b′ e f = record {
-  width = wide;
-  xImage = λ q h. row q X;
-  zImage = λ q h. row q Z;
-}
-  where
-    wide : max (a .width) (b .width) ≡ max (a′ .width) (b′ .width)
-    wide = ap₂ max (e .width) (f .width)
-
-    row : (q : ℕ) (l : Letter) → apply (widen (max (a .width) (b .width)) a) (imageOf b q l) ≡ apply (widen (max (a′ .width) (b′ .width)) a′) (imageOf b′ q l)
-    row q l = apply-widen _ a (imageOf b q l) ∙ apply-same a a′ e (imageOf b q l) ∙ ap (apply a′) (image-same b b′ f q l) ∙ sym (apply-widen _ a′ (imageOf b′ q l))
-
 pub proper-compose : (a b : Tableau) → Proper a → Proper b → Proper (compose a b)
 unfolding compose widen
 proper-compose a b p r = record {

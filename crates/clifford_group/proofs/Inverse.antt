@@ -46,7 +46,7 @@ inverse-row t q g h = image-own (inverse t) q (generator g) h ∙ row g
     row ofZ = refl
 
 -- ---- of any tableau: proper
-within-transposed : (t : Tableau) (bit : Letter → Bool) (q : ℕ) → Within (t .width) (transposed t bit q)
+pub within-transposed : (t : Tableau) (bit : Letter → Bool) (q : ℕ) → Within (t .width) (transposed t bit q)
 unfolding transposed
 within-transposed t bit q c h = ap (λ b. cond b (letterOf (bit (t .zImage c .letters q)) (bit (t .xImage c .letters q))) I) (le-ltb c (t .width) h)
 

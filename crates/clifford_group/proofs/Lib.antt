@@ -8,3 +8,5 @@ pub mod Identity
 pub mod Compose
 pub mod Pigeonhole
 pub mod Inverse
+pub mod Same
+pub mod Homomorphism

@@ -12,10 +12,10 @@ use Rattle.pauli_group.specs.Letter.{Letter, I, X, Z, Y, letterProduct, letterP
 use Rattle.pauli_group.specs.PauliString.{PauliString, qubits, mul, identityString, scale, single, commute, commutationSign, Within}
 use Rattle.pauli_group.proofs.Laws.{letterMul-self, letterPhase-self}
 use Rattle.pauli_group.proofs.Strings.{scale-scale, scale-one, scale-mul, mul-scale, mul-assoc, identity-mul, mul-identity, mul-swap, sign-sym, sign-single, real-squares, squares-real, commute-mul, anticommute-mul}
-use Rattle.clifford_group.specs.Tableau.{Tableau, identityTableau, rowImage, imageOf, widen, allTo, validQubit, validPair, isValid, Proper, Clifford, Same}
+use Rattle.clifford_group.specs.Tableau.{Tableau, identityTableau, rowImage, imageOf, widen, allTo, validQubit, validPair, isValid, Proper, Clifford}
 use Rattle.clifford_group.proofs.Singles.{mul-singles, sign-apart}
 use Rattle.clifford_group.proofs.Commuting.{Commuting, commuting-sign, commuting-identity, commuting-scale, commuting-mul, mul-commute}
-use Rattle.clifford_group.proofs.Images.{image-own, image-above, image-same, Alike, alike-widen, within-image}
+use Rattle.clifford_group.proofs.Images.{image-own, image-above, alike-widen, within-image}
 
 -- the images of the first n qubits multiply as their letters do: on one qubit by the letter products, and on two they commute
 pub record ValidTo (n : ℕ) (t : Tableau) : Type 0 where
@@ -233,11 +233,6 @@ test-equal t u f g = equal (isValid t) (isValid u) (λ e. valid-test u (f (test-
     equal true b f g = sym (f refl)
     equal false true f g = g refl
     equal false false f g = refl
-
-pub isValid-same : (t u : Tableau) → Same t u → isValid t ≡ isValid u
-isValid-same t u e = test-equal t u
-    (λ v. subst (λ w. ValidTo w u) (e .width) (valid-images (t .width) t u (λ q l h. image-same t u e q l) v))
-    (λ v. valid-images (t .width) u t (λ q l h. sym (image-same t u e q l)) (subst (λ w. ValidTo w u) (sym (e .width)) v))
 
 -- the rule over the own rows, and over all rows of a widening
 pub isValid-widen : (n : ℕ) → n ≤ qubits → (t : Tableau) → Proper t → isValid (widen n t) ≡ isValid t

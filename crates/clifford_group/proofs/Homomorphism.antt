@@ -1,0 +1,59 @@
+-- What validity amounts to: a tableau is valid exactly when `apply` is multiplicative. And which tableaux `apply` tells apart.
+use mathlib.Core.Path.{_≡_, refl, sym, ap, ap₂, _∙_}
+use mathlib.Core.Bool.{true}
+use mathlib.Core.Logic.{_≢_, _↔_}
+use Prim.Native.Nat.{ℕ, _≤_, _<_, max}
+use native.Mathlib.Omega.{arith}
+use Rattle.pauli_group.specs.Letter.{Letter, letterPhase, letterMul}
+use Rattle.pauli_group.specs.PauliString.{PauliString, qubits, mul, scale, single, Within}
+use Rattle.pauli_group.proofs.Strings.{within-single}
+use Rattle.clifford_group.specs.Tableau.{Tableau, imageOf, apply, widen, isValid, Proper, Clifford, Same}
+use Rattle.clifford_group.proofs.Singles.{mul-singles, sign-apart}
+use Rattle.clifford_group.proofs.Commuting.{commuting-sign}
+use Rattle.clifford_group.proofs.Images.{Alike, alike-widen, same-alike}
+use Rattle.clifford_group.proofs.Apply.{apply-widen, apply-scale, apply-single}
+use Rattle.clifford_group.proofs.Valid.{ValidTo, valid-fewer, valid-test}
+use Rattle.clifford_group.proofs.Conjugation.{apply-mul}
+use Rattle.clifford_group.proofs.Same.{apply-same}
+
+-- over the strings of a record
+abbrev pub Multiplicative : Tableau → Type 0
+Multiplicative t = (s u : PauliString) → Within qubits s → Within qubits u → apply t (mul s u) ≡ mul (apply t s) (apply t u)
+
+pub multiplicative-valid : (t : Tableau) → t .width ≤ qubits → Multiplicative t → isValid t ≡ true
+multiplicative-valid t n m = valid-test t (valid-fewer (t .width) qubits t n everywhere)
+  where
+    product : (q r : ℕ) (a b : Letter) → q < qubits → r < qubits → mul (imageOf t q a) (imageOf t r b) ≡ apply t (mul (single a q) (single b r))
+    product q r a b h k =
+        ap₂ mul (sym (apply-single t a q h)) (sym (apply-single t b r k))
+        ∙ sym (m (single a q) (single b r) (within-single qubits a q h) (within-single qubits b r k))
+
+    everywhere : ValidTo qubits t
+    everywhere = record {
+      together = λ q a b h. product q q a b h h ∙ ap (apply t) (mul-singles a b q h) ∙ apply-scale t (letterPhase a b) (single (letterMul a b) q)
+          ∙ ap (scale (letterPhase a b)) (apply-single t (letterMul a b) q h);
+      apart = λ q r a b h k d. product q r a b h k ∙ ap (apply t) (commuting-sign (single a q) (single b r) (sign-apart a b q r k d)) ∙ sym (product r q b a k h);
+    }
+
+pub valid-iff-multiplicative : (t : Tableau) → Proper t → (isValid t ≡ true) ↔ Multiplicative t
+valid-iff-multiplicative t p = ((λ v s u hs hu. apply-mul t (record { proper = p; valid = v }) s u), multiplicative-valid t (p .narrow))
+
+-- ---- two tableaux that send strings alike
+abbrev pub SendAlike : Tableau → Tableau → Type 0
+SendAlike a b = (s : PauliString) → Within qubits s → apply a s ≡ apply b s
+
+abbrev pub SameWidened : Tableau → Tableau → Type 0
+SameWidened a b = Same (widen (max (a .width) (b .width)) a) (widen (max (a .width) (b .width)) b)
+
+pub alike-iff-same : (a b : Tableau) → a .width ≤ qubits → b .width ≤ qubits → SendAlike a b ↔ SameWidened a b
+alike-iff-same a b h k = (same, alike)
+  where
+    n : ℕ
+    n = max (a .width) (b .width)
+
+    same : SendAlike a b → SameWidened a b
+    same e = same-alike (widen n a) (widen n b) (unfold widen in omega arith) (unfold widen in omega arith)
+        (λ q l m. alike-widen n a q l m ∙ sym (apply-single a l q m) ∙ e (single l q) (within-single qubits l q m) ∙ apply-single b l q m ∙ sym (alike-widen n b q l m))
+
+    alike : SameWidened a b → SendAlike a b
+    alike e s m = sym (apply-widen n a s) ∙ apply-same (widen n a) (widen n b) e s ∙ apply-widen n b s
