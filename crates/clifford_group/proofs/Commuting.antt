@@ -3,7 +3,7 @@ use mathlib.Core.Path.{_≡_, refl, sym, ap, _∙_}
 use mathlib.Core.Bool.{Bool, true, false, not}
 use Rattle.pauli_group.specs.Phase.{Phase, PlusOne, _·_, sign}
 use Rattle.pauli_group.specs.PauliString.{PauliString, mul, identityString, scale, commute, commutationSign}
-use Rattle.pauli_group.proofs.Strings.{scale-scale, scale-one, scale-mul, mul-scale, mul-assoc, identity-mul, mul-identity, mul-swap, sign-only, commute-sign}
+use Rattle.pauli_group.proofs.Strings.{scale-scale, scale-one, scale-mul, mul-scale, mul-assoc, identity-mul, mul-identity, mul-swap, sign-only, sign-sym, commute-sign}
 
 abbrev pub Commuting : PauliString → PauliString → Type 0
 Commuting s t = mul s t ≡ mul t s
@@ -37,9 +37,14 @@ sign-injective true false e = cc
 sign-injective false true e = cc
 sign-injective false false e = refl
 
-pub mul-commute : (s t : PauliString) (b : Bool) → mul s t ≡ scale (sign b) (mul t s) → commute s t ≡ not b
-mul-commute s t b e = flip (commute s t) (sign-injective (not (commute s t)) b (sym (commute-sign s t) ∙ sym (sign-only (sign b) s t e)))
+pub mul-commute : (s t : PauliString) (b : Bool) → mul s t ≡ scale (sign (not b)) (mul t s) → commute s t ≡ b
+mul-commute s t b e = not-injective (commute s t) b (sign-injective (not (commute s t)) (not b) (sym (commute-sign s t) ∙ sym (sign-only (sign (not b)) s t e)))
   where
-    flip : (c : Bool) → not c ≡ b → c ≡ not b
-    flip true e = ap not e
-    flip false e = ap not e
+    not-injective : (b c : Bool) → not b ≡ not c → b ≡ c
+    not-injective true true e = refl
+    not-injective true false e = sym e
+    not-injective false true e = sym e
+    not-injective false false e = refl
+
+pub commute-sym : (s t : PauliString) → commute s t ≡ commute t s
+commute-sym s t = mul-commute s t (commute t s) (mul-swap s t ∙ ap (λ p. scale p (mul t s)) (sign-sym s t ∙ commute-sign t s))

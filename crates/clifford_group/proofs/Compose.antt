@@ -11,7 +11,7 @@ use Rattle.pauli_group.specs.PauliString.{PauliString, qubits, mul, identityStr
 use Rattle.clifford_group.specs.Tableau.{Tableau, identityTableau, rowImage, imageOf, applyTo, apply, widen, compose, Proper, Clifford, Same}
 use Rattle.clifford_group.proofs.Images.{image-own, image-above, image-I, image-Y, Generator, ofX, ofZ, generator, same-images, image-identity, within-image}
 use Rattle.clifford_group.proofs.Apply.{applyTo-start, apply-widen, apply-scale, apply-identity, apply-single, within-apply}
-use Rattle.clifford_group.proofs.Valid.{ValidTo, valid-fewer, valid-test, valid-everywhere}
+use Rattle.clifford_group.proofs.Multiply.{ImagesMultiply, multiply-everywhere, everywhere-valid}
 use Rattle.clifford_group.proofs.Conjugation.{apply-mul}
 use Rattle.clifford_group.proofs.Identity.{width-identity, apply-identityTableau}
 
@@ -98,13 +98,13 @@ proper-compose a b p r = record {
         (within-apply a p n (omega arith) (imageOf b q l) (λ c m k. within-image b r n (omega arith) q h l c m))
 
 pub clifford-compose : (a b : Tableau) → Clifford a → Clifford b → Clifford (compose a b)
-clifford-compose a b c d = record { proper = proper; valid = valid-test (compose a b) (valid-fewer (compose a b .width) qubits (compose a b) (proper .narrow) everywhere) }
+clifford-compose a b c d = record { proper = proper; valid = everywhere-valid (compose a b) (proper .narrow) everywhere }
   where
     proper : Proper (compose a b)
     proper = proper-compose a b (c .proper) (d .proper)
 
-    v : ValidTo qubits b
-    v = valid-everywhere b d
+    v : ImagesMultiply qubits b
+    v = multiply-everywhere b d
 
     image : (q : ℕ) (l : Letter) → q < qubits → imageOf (compose a b) q l ≡ apply a (imageOf b q l)
     image q l h = image-compose a b q h c l
@@ -112,7 +112,7 @@ clifford-compose a b c d = record { proper = proper; valid = valid-test (compose
     product : (q r : ℕ) (l m : Letter) → q < qubits → r < qubits → mul (imageOf (compose a b) q l) (imageOf (compose a b) r m) ≡ apply a (mul (imageOf b q l) (imageOf b r m))
     product q r l m h k = ap₂ mul (image q l h) (image r m k) ∙ sym (apply-mul a c (imageOf b q l) (imageOf b r m))
 
-    everywhere : ValidTo qubits (compose a b)
+    everywhere : ImagesMultiply qubits (compose a b)
     everywhere = record {
       together = λ q l m h. product q q l m h h ∙ ap (apply a) (v .together q l m h) ∙ apply-scale a (letterPhase l m) (imageOf b q (letterMul l m)) ∙ ap (scale (letterPhase l m)) (sym (image q (letterMul l m) h));
       apart = λ q r l m h k d. product q r l m h k ∙ ap (apply a) (v .apart q r l m h k d) ∙ sym (product r q m l k h);

@@ -15,13 +15,13 @@ use Rattle.clifford_group.specs.Tableau.{Tableau, imageOf, applyTo, appl
 use Rattle.clifford_group.proofs.Singles.{letter-bits}
 use Rattle.clifford_group.proofs.Commuting.{Commuting, commuting-identity, commuting-scale, commuting-mul, exchange, scale-both, sign-injective}
 use Rattle.clifford_group.proofs.Apply.{applyTo-start, apply-letters, apply-scale, apply-identity, apply-single}
-use Rattle.clifford_group.proofs.Valid.{ValidTo, valid-everywhere}
+use Rattle.clifford_group.proofs.Multiply.{ImagesMultiply, multiply-everywhere}
 
 -- the letters' products alone, with the product of the two phases
 joined : PauliString → PauliString → PauliString
 joined s u = record { phase = s .phase · u .phase; letters = λ q. letterMul (s .letters q) (u .letters q) }
 
-module _ (t : Tableau) (v : ValidTo qubits t) where
+module _ (t : Tableau) (v : ImagesMultiply qubits t) where
   -- an image commutes with all that was made of lower qubits
   applyTo-apart : (k r : ℕ) → k ≤ r → r < qubits → (s : PauliString) (b : Letter) → Commuting (imageOf t r b) (applyTo k t s)
   unfolding applyTo
@@ -52,7 +52,7 @@ module _ (t : Tableau) (v : ValidTo qubits t) where
 -- ---- what a valid tableau keeps
 module _ (t : Tableau) (c : Clifford t) where
   pub apply-mul : (s u : PauliString) → apply t (mul s u) ≡ mul (apply t s) (apply t u)
-  apply-mul = apply-mul-everywhere t (valid-everywhere t c)
+  apply-mul = apply-mul-everywhere t (multiply-everywhere t c)
 
   pub sign-apply : (s u : PauliString) → commutationSign (apply t s) (apply t u) ≡ commutationSign s u
   sign-apply s u =

@@ -12,7 +12,7 @@ use Rattle.clifford_group.proofs.Singles.{mul-singles, sign-apart}
 use Rattle.clifford_group.proofs.Commuting.{commuting-sign}
 use Rattle.clifford_group.proofs.Images.{Alike, alike-widen, same-alike}
 use Rattle.clifford_group.proofs.Apply.{apply-widen, apply-scale, apply-single}
-use Rattle.clifford_group.proofs.Valid.{ValidTo, valid-fewer, valid-test}
+use Rattle.clifford_group.proofs.Multiply.{ImagesMultiply, everywhere-valid}
 use Rattle.clifford_group.proofs.Conjugation.{apply-mul}
 use Rattle.clifford_group.proofs.Same.{apply-same}
 
@@ -21,14 +21,14 @@ abbrev pub Multiplicative : Tableau → Type 0
 Multiplicative t = (s u : PauliString) → Within qubits s → Within qubits u → apply t (mul s u) ≡ mul (apply t s) (apply t u)
 
 pub multiplicative-valid : (t : Tableau) → t .width ≤ qubits → Multiplicative t → isValid t ≡ true
-multiplicative-valid t n m = valid-test t (valid-fewer (t .width) qubits t n everywhere)
+multiplicative-valid t n m = everywhere-valid t n everywhere
   where
     product : (q r : ℕ) (a b : Letter) → q < qubits → r < qubits → mul (imageOf t q a) (imageOf t r b) ≡ apply t (mul (single a q) (single b r))
     product q r a b h k =
         ap₂ mul (sym (apply-single t a q h)) (sym (apply-single t b r k))
         ∙ sym (m (single a q) (single b r) (within-single qubits a q h) (within-single qubits b r k))
 
-    everywhere : ValidTo qubits t
+    everywhere : ImagesMultiply qubits t
     everywhere = record {
       together = λ q a b h. product q q a b h h ∙ ap (apply t) (mul-singles a b q h) ∙ apply-scale t (letterPhase a b) (single (letterMul a b) q)
           ∙ ap (scale (letterPhase a b)) (apply-single t (letterMul a b) q h);

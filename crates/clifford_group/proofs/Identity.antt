@@ -17,7 +17,7 @@ use Rattle.clifford_group.specs.Tableau.{Tableau, identityTableau, image
 use Rattle.clifford_group.proofs.Singles.{mul-singles, sign-apart}
 use Rattle.clifford_group.proofs.Commuting.{commuting-sign}
 use Rattle.clifford_group.proofs.Images.{image-own, image-identity, within-image}
-use Rattle.clifford_group.proofs.Valid.{ValidTo, valid-fewer, valid-test, isValid-widen}
+use Rattle.clifford_group.proofs.Multiply.{ImagesMultiply, everywhere-valid, isValid-widen}
 
 pub width-identity : (w : ℕ) → identityTableau w .width ≡ w
 unfolding identityTableau
@@ -70,8 +70,8 @@ pub proper-identity : (w : ℕ) → w ≤ qubits → Proper (identityTableau w)
 unfolding identityTableau
 proper-identity w h = record { narrow = h; xWithin = λ q l. within-single w X q l; zWithin = λ q l. within-single w Z q l }
 
-pub valid-singles : (w : ℕ) → ValidTo qubits (identityTableau w)
-valid-singles w = record {
+pub multiply-identity : (w : ℕ) → ImagesMultiply qubits (identityTableau w)
+multiply-identity w = record {
   together = λ q a b h. ap₂ mul (image-identity w q a h) (image-identity w q b h) ∙ mul-singles a b q h ∙ ap (scale (letterPhase a b)) (sym (image-identity w q (letterMul a b) h));
   apart = λ q r a b h k d. ap₂ mul (image-identity w q a h) (image-identity w r b k) ∙ commuting-sign (single a q) (single b r) (sign-apart a b q r k d)
       ∙ ap₂ mul (sym (image-identity w r b k)) (sym (image-identity w q a h));
@@ -80,7 +80,7 @@ valid-singles w = record {
 pub clifford-identity : (w : ℕ) → w ≤ qubits → Clifford (identityTableau w)
 clifford-identity w h = record {
   proper = proper-identity w h;
-  valid = valid-test (identityTableau w) (unfold identityTableau in valid-fewer w qubits (identityTableau w) h (valid-singles w));
+  valid = everywhere-valid (identityTableau w) (proper-identity w h .narrow) (multiply-identity w);
 }
 
 -- ---- widening

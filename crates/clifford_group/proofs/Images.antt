@@ -46,6 +46,15 @@ abbrev pub generator : Generator → Letter
 generator ofX = X
 generator ofZ = Z
 
+abbrev pub row : Tableau → Generator → ℕ → PauliString
+row t ofX = t .xImage
+row t ofZ = t .zImage
+
+pub image-row : (t : Tableau) (q : ℕ) (g : Generator) → q < t .width → imageOf t q (generator g) ≡ row t g q
+unfolding rowImage
+image-row t q ofX h = image-own t q X h
+image-row t q ofZ h = image-own t q Z h
+
 -- their images decide those of every letter
 pub image-generators : (t u : Tableau) (q : ℕ) → q < qubits → ((g : Generator) → imageOf t q (generator g) ≡ imageOf u q (generator g))
     → (l : Letter) → imageOf t q l ≡ imageOf u q l

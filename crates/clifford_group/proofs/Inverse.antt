@@ -18,9 +18,9 @@ use Rattle.clifford_group.proofs.Singles.{single-off, mul-singles, sign
 use Rattle.clifford_group.proofs.Commuting.{commuting-sign, sign-injective}
 use Rattle.clifford_group.proofs.Images.{image-own, image-above, image-identity, image-generators, Generator, ofX, ofZ, generator, same-images, Alike, within-image}
 use Rattle.clifford_group.proofs.Apply.{apply-alike, apply-letters, apply-scale, apply-single, apply-within}
-use Rattle.clifford_group.proofs.Valid.{ValidTo, valid-fewer, valid-test, valid-everywhere}
+use Rattle.clifford_group.proofs.Multiply.{ImagesMultiply, everywhere-valid}
 use Rattle.clifford_group.proofs.Conjugation.{apply-mul, sign-image, letters-injective, apply-injective}
-use Rattle.clifford_group.proofs.Identity.{width-identity, apply-identityTableau, valid-singles}
+use Rattle.clifford_group.proofs.Identity.{width-identity, apply-identityTableau}
 use Rattle.clifford_group.proofs.Compose.{width-compose, compose-generator, image-compose, apply-compose}
 use Rattle.clifford_group.proofs.Pigeonhole.{reached}
 
@@ -151,9 +151,9 @@ module _ (t : Tableau) (c : Clifford t) where
   within-product q r a b h k = within-mul qubits (imageOf (inverse t) q a) (imageOf (inverse t) r b) (within q a h) (within r b k)
 
   pub clifford-inverse : Clifford (inverse t)
-  clifford-inverse = record { proper = proper; valid = valid-test (inverse t) (valid-fewer (inverse t .width) qubits (inverse t) (proper .narrow) everywhere) }
+  clifford-inverse = record { proper = proper; valid = everywhere-valid (inverse t) (proper .narrow) everywhere }
     where
-      everywhere : ValidTo qubits (inverse t)
+      everywhere : ImagesMultiply qubits (inverse t)
       everywhere = record {
         together = λ q a b h. apply-injective t c _ _ (within-product q q a b h h) (within-scale qubits (letterPhase a b) _ (within q (letterMul a b) h))
             (product-sent q q a b h h ∙ mul-singles a b q h ∙ sym (apply-scale t (letterPhase a b) _ ∙ ap (scale (letterPhase a b)) (image-sent q (letterMul a b) h)));

@@ -3,6 +3,7 @@ pub mod Commuting
 pub mod Images
 pub mod Apply
 pub mod Valid
+pub mod Multiply
 pub mod Conjugation
 pub mod Identity
 pub mod Compose

@@ -5,44 +5,60 @@ use Prim.Native.Nat.{ℕ, _≤_, _<_, max}
 use native.Mathlib.Decide.{decLt}
 use native.Mathlib.Omega.{arith}
 use lib.Dec.{ltb}
-use Rattle.pauli_group.specs.Phase.{conjugate}
+use Rattle.pauli_group.specs.Phase.{conjugate, isReal}
 use Rattle.pauli_group.specs.Letter.{Letter, I, X, Z}
-use Rattle.pauli_group.specs.PauliString.{PauliString, qubits, Within}
+use Rattle.pauli_group.specs.PauliString.{PauliString, qubits, commute, Within}
 use Rattle.pauli_group.proofs.Strings.{string-ext}
 use Rattle.clifford_group.specs.Tableau.{Tableau, imageOf, apply, widen, compose, isValid, hasX, hasZ, letterOf, transposed, inverseRow, inverse, Proper, Clifford, Same}
-use Rattle.clifford_group.proofs.Images.{image-same, alike-same}
+use Rattle.clifford_group.proofs.Images.{Generator, ofX, ofZ, row, image-same, alike-same}
 use Rattle.clifford_group.proofs.Apply.{apply-alike, apply-widen}
-use Rattle.clifford_group.proofs.Valid.{ValidTo, valid-images, test-equal}
+use Rattle.clifford_group.proofs.Valid.{Valid, test-equal}
 use Rattle.clifford_group.proofs.Inverse.{within-transposed}
 
 pub same-refl : (t : Tableau) → Same t t
 same-refl t = record { width = refl; xImage = λ q h. refl; zImage = λ q h. refl }
+
+pub same-sym : (t u : Tableau) → Same t u → Same u t
+same-sym t u e = record { width = sym (e .width); xImage = λ q h. sym (e .xImage q (below q h)); zImage = λ q h. sym (e .zImage q (below q h)) }
+  where
+    below : (q : ℕ) → q < u .width → q < t .width
+    below q = subst (λ w. q < w) (sym (e .width))
+
+pub same-trans : (t u v : Tableau) → Same t u → Same u v → Same t v
+same-trans t u v e f = record {
+  width = e .width ∙ f .width;
+  xImage = λ q h. e .xImage q h ∙ f .xImage q (subst (λ w. q < w) (e .width) h);
+  zImage = λ q h. e .zImage q h ∙ f .zImage q (subst (λ w. q < w) (e .width) h);
+}
 
 -- ---- what two that are the same share
 module _ (t u : Tableau) (e : Same t u) where
   below : (q : ℕ) → q < u .width → q < t .width
   below q = subst (λ w. q < w) (sym (e .width))
 
-  pub same-sym : Same u t
-  same-sym = record { width = sym (e .width); xImage = λ q h. sym (e .xImage q (below q h)); zImage = λ q h. sym (e .zImage q (below q h)) }
+  row-same : (g : Generator) (q : ℕ) → q < u .width → row t g q ≡ row u g q
+  row-same ofX q h = e .xImage q (below q h)
+  row-same ofZ q h = e .zImage q (below q h)
 
   pub apply-same : (s : PauliString) → apply t s ≡ apply u s
   apply-same = apply-alike t u (alike-same t u e)
 
-  pub isValid-same : isValid t ≡ isValid u
-  isValid-same = test-equal t u
-      (λ v. subst (λ w. ValidTo w u) (e .width) (valid-images (t .width) t u (λ q l h. image-same t u e q l) v))
-      (λ v. valid-images (t .width) u t (λ q l h. sym (image-same t u e q l)) (subst (λ w. ValidTo w u) (sym (e .width)) v))
+  pub valid-same : Valid t → Valid u
+  valid-same v = record {
+    real = λ g q h. ap (λ (s : PauliString). isReal (s .phase)) (sym (row-same g q h)) ∙ v .real g q (below q h);
+    anticommuting = λ q h. ap₂ commute (sym (row-same ofX q h)) (sym (row-same ofZ q h)) ∙ v .anticommuting q (below q h);
+    commuting = λ g k q r h l d. ap₂ commute (sym (row-same g q h)) (sym (row-same k r l)) ∙ v .commuting g k q r (below q h) (below r l) d;
+  }
 
   pub proper-same : Proper t → Proper u
   proper-same p = record {
     narrow = subst (λ w. w ≤ qubits) (e .width) (p .narrow);
-    xWithin = λ q h. subst (λ w. Within w (u .xImage q)) (e .width) (subst (Within (t .width)) (e .xImage q (below q h)) (p .xWithin q (below q h)));
-    zWithin = λ q h. subst (λ w. Within w (u .zImage q)) (e .width) (subst (Within (t .width)) (e .zImage q (below q h)) (p .zWithin q (below q h)));
+    xWithin = λ q h. moved ofX q h (p .xWithin q (below q h));
+    zWithin = λ q h. moved ofZ q h (p .zWithin q (below q h));
   }
-
-  pub clifford-same : Clifford t → Clifford u
-  clifford-same c = record { proper = proper-same (c .proper); valid = sym isValid-same ∙ c .valid }
+    where
+      moved : (g : Generator) (q : ℕ) → q < u .width → Within (t .width) (row t g q) → Within (u .width) (row u g q)
+      moved g q h i = subst (λ w. Within w (row u g q)) (e .width) (subst (Within (t .width)) (row-same g q h) i)
 
   pub widen-same : (n : ℕ) → Same (widen n t) (widen n u)
   unfolding widen
@@ -71,12 +87,11 @@ module _ (t u : Tableau) (e : Same t u) where
           (ap (λ (s : PauliString). conjugate (s .phase)) (apply-same (transposed t bit q) ∙ ap (apply u) (transposed-same bit q)))
           (λ c. ap (λ (s : PauliString). s .letters c) (transposed-same bit q))
 
-pub same-trans : (t u v : Tableau) → Same t u → Same u v → Same t v
-same-trans t u v e f = record {
-  width = e .width ∙ f .width;
-  xImage = λ q h. e .xImage q h ∙ f .xImage q (subst (λ w. q < w) (e .width) h);
-  zImage = λ q h. e .zImage q h ∙ f .zImage q (subst (λ w. q < w) (e .width) h);
-}
+pub isValid-same : (t u : Tableau) → Same t u → isValid t ≡ isValid u
+isValid-same t u e = test-equal t u (valid-same t u e) (valid-same u t (same-sym t u e))
+
+pub clifford-same : (t u : Tableau) → Same t u → Clifford t → Clifford u
+clifford-same t u e c = record { proper = proper-same t u e (c .proper); valid = sym (isValid-same t u e) ∙ c .valid }
 
 pub compose-same : (a a′ b b′ : Tableau) → Same a a′ → Same b b′ → Same (compose a b) (compose a′ b′)
 unfolding compose widen
