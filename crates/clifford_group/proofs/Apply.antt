@@ -2,15 +2,15 @@
 use mathlib.Core.Path.{_≡_, refl, sym, ap, ap₂, _∙_, subst}
 use mathlib.Core.Logic.{_≢_}
 use Prim.Native.Nat.{ℕ, zero, suc, _≤_, _<_}
-use native.Mathlib.Nat.{le-refl, not-suc-le-zero}
+use native.Mathlib.Nat.{not-suc-le-zero}
 use native.Mathlib.Omega.{arith}
 use native.Mathlib.Decide.{ℕ-discrete, decLt}
-use Rattle.pauli_group.specs.Phase.{Phase, PlusOne}
+use Rattle.pauli_group.specs.Phase.{Phase}
 use Rattle.pauli_group.specs.Letter.{Letter, I}
 use Rattle.pauli_group.specs.PauliString.{PauliString, qubits, mul, identityString, scale, single, Within}
 use Rattle.pauli_group.proofs.Laws.{·-one}
 use Rattle.pauli_group.proofs.Strings.{string-ext, scale-one, scale-mul, identity-mul, mul-identity, within-identity, within-mul}
-use Rattle.clifford_group.specs.Tableau.{Tableau, identityTableau, imageOf, applyTo, apply, widen, Proper}
+use Rattle.clifford_group.specs.Tableau.{Tableau, imageOf, applyTo, apply, widen, Proper}
 use Rattle.clifford_group.proofs.Singles.{single-at, single-off}
 use Rattle.clifford_group.proofs.Images.{image-I, Alike, alike-widen, within-image}
 
@@ -29,7 +29,8 @@ apply-local = applyTo-local qubits
 pub apply-alike : (t u : Tableau) → Alike t u → (s : PauliString) → apply t s ≡ apply u s
 apply-alike t u e s = apply-local t u s s refl (λ q h. e q (s .letters q) h)
 
-pub apply-letters : (t : Tableau) (s v : PauliString) → s .phase ≡ v .phase → ((q : ℕ) → q < qubits → s .letters q ≡ v .letters q) → apply t s ≡ apply t v
+pub apply-letters : (t : Tableau) (s v : PauliString) → s .phase ≡ v .phase → ((q : ℕ) → q < qubits → s .letters q ≡ v .letters q)
+    → apply t s ≡ apply t v
 apply-letters t s v p h = apply-local t t s v p (λ q l. ap (imageOf t q) (h q l))
 
 pub apply-widen : (n : ℕ) (t : Tableau) (s : PauliString) → apply (widen n t) s ≡ apply t s
@@ -39,14 +40,16 @@ apply-widen n t = apply-alike (widen n t) t (alike-widen n t)
 applyTo-scale : (k : ℕ) (t : Tableau) (p : Phase) (s : PauliString) → applyTo k t (scale p s) ≡ scale p (applyTo k t s)
 unfolding applyTo scale
 applyTo-scale zero t p s = refl
-applyTo-scale (suc k) t p s = ap (λ u. mul u (imageOf t k (s .letters k))) (applyTo-scale k t p s) ∙ scale-mul p (applyTo k t s) (imageOf t k (s .letters k))
+applyTo-scale (suc k) t p s =
+    ap (λ u. mul u (imageOf t k (s .letters k))) (applyTo-scale k t p s) ∙ scale-mul p (applyTo k t s) (imageOf t k (s .letters k))
 
 pub apply-scale : (t : Tableau) (p : Phase) (s : PauliString) → apply t (scale p s) ≡ scale p (apply t s)
 unfolding apply
 apply-scale = applyTo-scale qubits
 
 -- no letters below k: the phase alone
-applyTo-none : (k : ℕ) (t : Tableau) (s : PauliString) → ((q : ℕ) → q < k → s .letters q ≡ I) → applyTo k t s ≡ scale (s .phase) identityString
+applyTo-none : (k : ℕ) (t : Tableau) (s : PauliString) → ((q : ℕ) → q < k → s .letters q ≡ I)
+    → applyTo k t s ≡ scale (s .phase) identityString
 unfolding applyTo scale identityString
 applyTo-none zero t s h = string-ext _ _ (sym (·-one (s .phase))) (λ q. refl)
 applyTo-none (suc k) t s h =
@@ -60,7 +63,8 @@ pub apply-identity : (t : Tableau) → apply t identityString ≡ identityString
 unfolding apply identityString
 apply-identity t = applyTo-none qubits t identityString (λ q l. refl) ∙ scale-one identityString
 
-applyTo-at : (k j : ℕ) (t : Tableau) (s : PauliString) → j < k → ((q : ℕ) → q ≢ j → s .letters q ≡ I) → applyTo k t s ≡ scale (s .phase) (imageOf t j (s .letters j))
+applyTo-at : (k j : ℕ) (t : Tableau) (s : PauliString) → j < k → ((q : ℕ) → q ≢ j → s .letters q ≡ I)
+    → applyTo k t s ≡ scale (s .phase) (imageOf t j (s .letters j))
 unfolding applyTo
 applyTo-at zero j t s l h = absurd (not-suc-le-zero l)
 applyTo-at (suc k) j t s l h = elim (ℕ-discrete j k) [
@@ -75,13 +79,16 @@ unfolding apply single
 apply-single t l j h = applyTo-at qubits j t (single l j) h (single-off l j) ∙ scale-one _ ∙ ap (imageOf t j) (single-at l j)
 
 -- ---- letters at n or above
-applyTo-within : (k n : ℕ) (t : Tableau) (s : PauliString) → ((q : ℕ) → q < k → Within n (imageOf t q (s .letters q))) → Within n (applyTo k t s)
+applyTo-within : (k n : ℕ) (t : Tableau) (s : PauliString) → ((q : ℕ) → q < k → Within n (imageOf t q (s .letters q)))
+    → Within n (applyTo k t s)
 unfolding applyTo
 applyTo-within zero n t s h = λ q m. refl
-applyTo-within (suc k) n t s h = within-mul n (applyTo k t s) (imageOf t k (s .letters k)) (applyTo-within k n t s (λ q l. h q (omega arith))) (h k (omega arith))
+applyTo-within (suc k) n t s h =
+    within-mul n (applyTo k t s) (imageOf t k (s .letters k)) (applyTo-within k n t s (λ q l. h q (omega arith))) (h k (omega arith))
 
 -- a proper tableau makes no letter at n or above of a string that has none from there to `qubits`
-pub within-apply : (t : Tableau) → Proper t → (n : ℕ) → t .width ≤ n → (s : PauliString) → ((q : ℕ) → n ≤ q → q < qubits → s .letters q ≡ I) → Within n (apply t s)
+pub within-apply : (t : Tableau) → Proper t → (n : ℕ) → t .width ≤ n → (s : PauliString)
+    → ((q : ℕ) → n ≤ q → q < qubits → s .letters q ≡ I) → Within n (apply t s)
 unfolding apply
 within-apply t p n w s h = applyTo-within qubits n t s each
   where

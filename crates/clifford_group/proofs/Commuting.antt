@@ -3,7 +3,8 @@ use mathlib.Core.Path.{_≡_, refl, sym, ap, _∙_}
 use mathlib.Core.Bool.{Bool, true, false, not}
 use Rattle.pauli_group.specs.Phase.{Phase, PlusOne, _·_, sign}
 use Rattle.pauli_group.specs.PauliString.{PauliString, mul, identityString, scale, commute, commutationSign}
-use Rattle.pauli_group.proofs.Strings.{scale-scale, scale-one, scale-mul, mul-scale, mul-assoc, identity-mul, mul-identity, mul-swap, sign-only, sign-sym, commute-sign}
+use Rattle.pauli_group.proofs.Strings.{scale-scale, scale-one, scale-mul, mul-scale, mul-assoc, identity-mul, mul-identity, mul-swap}
+use Rattle.pauli_group.proofs.Strings.{sign-only, sign-sym, commute-sign}
 
 abbrev pub Commuting : PauliString → PauliString → Type 0
 Commuting s t = mul s t ≡ mul t s
@@ -24,7 +25,8 @@ commuting-mul s t u e f =
 -- (a b) (c d) = (a c) (b d) where b and c commute
 pub exchange : (a b c d : PauliString) → Commuting b c → mul (mul a b) (mul c d) ≡ mul (mul a c) (mul b d)
 exchange a b c d e =
-    mul-assoc a b (mul c d) ∙ ap (mul a) (sym (mul-assoc b c d) ∙ ap (λ v. mul v d) e ∙ mul-assoc c b d) ∙ sym (mul-assoc a c (mul b d))
+    mul-assoc a b (mul c d) ∙ ap (mul a) (sym (mul-assoc b c d) ∙ ap (λ v. mul v d) e ∙ mul-assoc c b d)
+    ∙ sym (mul-assoc a c (mul b d))
 
 pub scale-both : (p q : Phase) (s t : PauliString) → mul (scale p s) (scale q t) ≡ scale (p · q) (mul s t)
 scale-both p q s t = scale-mul p s (scale q t) ∙ ap (scale p) (mul-scale q s t) ∙ scale-scale p q (mul s t)
@@ -38,7 +40,8 @@ sign-injective false true e = cc
 sign-injective false false e = refl
 
 pub mul-commute : (s t : PauliString) (b : Bool) → mul s t ≡ scale (sign (not b)) (mul t s) → commute s t ≡ b
-mul-commute s t b e = not-injective (commute s t) b (sign-injective (not (commute s t)) (not b) (sym (commute-sign s t) ∙ sym (sign-only (sign (not b)) s t e)))
+mul-commute s t b e =
+    not-injective (commute s t) b (sign-injective (not (commute s t)) (not b) (sym (commute-sign s t) ∙ sym (sign-only (sign (not b)) s t e)))
   where
     not-injective : (b c : Bool) → not b ≡ not c → b ≡ c
     not-injective true true e = refl

@@ -1,16 +1,16 @@
 -- What validity amounts to: a tableau is valid exactly when `apply` is multiplicative. And which tableaux `apply` tells apart.
-use mathlib.Core.Path.{_≡_, refl, sym, ap, ap₂, _∙_}
+use mathlib.Core.Path.{_≡_, sym, ap, ap₂, _∙_}
 use mathlib.Core.Bool.{true}
-use mathlib.Core.Logic.{_≢_, _↔_}
+use mathlib.Core.Logic.{_↔_}
 use Prim.Native.Nat.{ℕ, _≤_, _<_, max}
 use native.Mathlib.Omega.{arith}
 use Rattle.pauli_group.specs.Letter.{Letter, letterPhase, letterMul}
 use Rattle.pauli_group.specs.PauliString.{PauliString, qubits, mul, scale, single, Within}
 use Rattle.pauli_group.proofs.Strings.{within-single}
-use Rattle.clifford_group.specs.Tableau.{Tableau, imageOf, apply, widen, isValid, Proper, Clifford, Same}
+use Rattle.clifford_group.specs.Tableau.{Tableau, imageOf, apply, widen, isValid, Proper, Same}
 use Rattle.clifford_group.proofs.Singles.{mul-singles, sign-apart}
 use Rattle.clifford_group.proofs.Commuting.{commuting-sign}
-use Rattle.clifford_group.proofs.Images.{Alike, alike-widen, same-alike}
+use Rattle.clifford_group.proofs.Images.{alike-widen, same-alike}
 use Rattle.clifford_group.proofs.Apply.{apply-widen, apply-scale, apply-single}
 use Rattle.clifford_group.proofs.Multiply.{ImagesMultiply, everywhere-valid}
 use Rattle.clifford_group.proofs.Conjugation.{apply-mul}
@@ -23,20 +23,26 @@ Multiplicative t = (s u : PauliString) → Within qubits s → Within qubits u �
 pub multiplicative-valid : (t : Tableau) → t .width ≤ qubits → Multiplicative t → isValid t ≡ true
 multiplicative-valid t n m = everywhere-valid t n everywhere
   where
-    product : (q r : ℕ) (a b : Letter) → q < qubits → r < qubits → mul (imageOf t q a) (imageOf t r b) ≡ apply t (mul (single a q) (single b r))
+    product : (q r : ℕ) (a b : Letter) → q < qubits → r < qubits
+        → mul (imageOf t q a) (imageOf t r b) ≡ apply t (mul (single a q) (single b r))
     product q r a b h k =
         ap₂ mul (sym (apply-single t a q h)) (sym (apply-single t b r k))
         ∙ sym (m (single a q) (single b r) (within-single qubits a q h) (within-single qubits b r k))
 
     everywhere : ImagesMultiply qubits t
     everywhere = record {
-      together = λ q a b h. product q q a b h h ∙ ap (apply t) (mul-singles a b q h) ∙ apply-scale t (letterPhase a b) (single (letterMul a b) q)
+      together =
+          λ q a b h. product q q a b h h ∙ ap (apply t) (mul-singles a b q h)
+          ∙ apply-scale t (letterPhase a b) (single (letterMul a b) q)
           ∙ ap (scale (letterPhase a b)) (apply-single t (letterMul a b) q h);
-      apart = λ q r a b h k d. product q r a b h k ∙ ap (apply t) (commuting-sign (single a q) (single b r) (sign-apart a b q r k d)) ∙ sym (product r q b a k h);
+      apart =
+          λ q r a b h k d. product q r a b h k ∙ ap (apply t) (commuting-sign (single a q) (single b r) (sign-apart a b q r k d))
+          ∙ sym (product r q b a k h);
     }
 
 pub valid-iff-multiplicative : (t : Tableau) → Proper t → (isValid t ≡ true) ↔ Multiplicative t
-valid-iff-multiplicative t p = ((λ v s u hs hu. apply-mul t (record { proper = p; valid = v }) s u), multiplicative-valid t (p .narrow))
+valid-iff-multiplicative t p =
+    ((λ v s u hs hu. apply-mul t (record { proper = p; valid = v }) s u), multiplicative-valid t (p .narrow))
 
 -- ---- two tableaux that send strings alike
 abbrev pub SendAlike : Tableau → Tableau → Type 0

@@ -1,22 +1,22 @@
 -- The identity tableau: valid, proper, and it sends every string to itself. Widening keeps both.
-use mathlib.Core.Path.{_≡_, refl, sym, ap, ap₂, _∙_, subst}
-use mathlib.Core.Bool.{Bool, true, false, cond}
-use Prim.Native.Nat.{ℕ, zero, suc, _≤_, _<_, max, zero-le}
-use native.Mathlib.Nat.{le-refl, le-trans}
+use mathlib.Core.Path.{_≡_, refl, sym, ap, ap₂, _∙_}
+use mathlib.Core.Bool.{cond}
+use Prim.Native.Nat.{ℕ, zero, suc, _≤_, max, zero-le}
+use native.Mathlib.Nat.{le-refl}
 use native.Mathlib.Omega.{arith}
 use native.Mathlib.Decide.{ℕ-discrete, decLt}
 use lib.Dec.{ltb, eqb}
 use borrow.Author.Tests.{lt-ltb, le-ltb, eq-eqb, ne-eqb}
-use Rattle.pauli_group.specs.Phase.{Phase, PlusOne, _·_}
-use Rattle.pauli_group.specs.Letter.{Letter, I, X, Z, letterPhase, letterMul}
+use Rattle.pauli_group.specs.Phase.{PlusOne, _·_}
+use Rattle.pauli_group.specs.Letter.{I, X, Z, letterPhase, letterMul}
 use Rattle.pauli_group.specs.PauliString.{PauliString, qubits, productTo, phaseOfLetters, mul, scale, single, Within}
 use Rattle.pauli_group.proofs.Laws.{·-one, letterMul-I, I-letterMul, letterPhase-I, I-letterPhase}
 use Rattle.pauli_group.proofs.Products.{productTo-one}
 use Rattle.pauli_group.proofs.Strings.{string-ext, within-single}
-use Rattle.clifford_group.specs.Tableau.{Tableau, identityTableau, imageOf, applyTo, apply, widen, Proper, Clifford}
+use Rattle.clifford_group.specs.Tableau.{Tableau, identityTableau, applyTo, apply, widen, Proper, Clifford}
 use Rattle.clifford_group.proofs.Singles.{mul-singles, sign-apart}
 use Rattle.clifford_group.proofs.Commuting.{commuting-sign}
-use Rattle.clifford_group.proofs.Images.{image-own, image-identity, within-image}
+use Rattle.clifford_group.proofs.Images.{image-identity, within-image}
 use Rattle.clifford_group.proofs.Multiply.{ImagesMultiply, everywhere-valid, isValid-widen}
 
 pub width-identity : (w : ℕ) → identityTableau w .width ≡ w
@@ -41,7 +41,8 @@ cut-step k s = string-ext (mul (cut k s) (single (s .letters k) k)) (cut (suc k)
     phases : s .phase · PlusOne · productTo qubits (λ q. letterPhase (cond (ltb q k) (s .letters q) I) (cond (eqb q k) (s .letters k) I)) ≡ s .phase
     phases = ap (λ p. s .phase · PlusOne · p) (productTo-one qubits _ (λ q l. place q)) ∙ ·-one (s .phase · PlusOne) ∙ ·-one (s .phase)
 
-    letters : (q : ℕ) → letterMul (cond (ltb q k) (s .letters q) I) (cond (eqb q k) (s .letters k) I) ≡ cond (ltb q (suc k)) (s .letters q) I
+    letters : (q : ℕ)
+        → letterMul (cond (ltb q k) (s .letters q) I) (cond (eqb q k) (s .letters k) I) ≡ cond (ltb q (suc k)) (s .letters q) I
     letters q = elim (decLt q k) [
       | yes l ↦ simp (lt-ltb q k l, ne-eqb q k (omega arith), lt-ltb q (suc k) (omega arith), letterMul-I)
       | no l ↦ elim (ℕ-discrete q k) [
@@ -72,8 +73,12 @@ proper-identity w h = record { narrow = h; xWithin = λ q l. within-single w X q
 
 pub multiply-identity : (w : ℕ) → ImagesMultiply qubits (identityTableau w)
 multiply-identity w = record {
-  together = λ q a b h. ap₂ mul (image-identity w q a h) (image-identity w q b h) ∙ mul-singles a b q h ∙ ap (scale (letterPhase a b)) (sym (image-identity w q (letterMul a b) h));
-  apart = λ q r a b h k d. ap₂ mul (image-identity w q a h) (image-identity w r b k) ∙ commuting-sign (single a q) (single b r) (sign-apart a b q r k d)
+  together =
+      λ q a b h. ap₂ mul (image-identity w q a h) (image-identity w q b h) ∙ mul-singles a b q h
+      ∙ ap (scale (letterPhase a b)) (sym (image-identity w q (letterMul a b) h));
+  apart =
+      λ q r a b h k d. ap₂ mul (image-identity w q a h) (image-identity w r b k)
+      ∙ commuting-sign (single a q) (single b r) (sign-apart a b q r k d)
       ∙ ap₂ mul (sym (image-identity w r b k)) (sym (image-identity w q a h));
 }
 

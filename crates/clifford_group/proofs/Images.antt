@@ -2,7 +2,7 @@
 -- images below `qubits` are alike; widening keeps all images.
 use mathlib.Core.Path.{_≡_, refl, sym, ap, ap₂, _∙_, subst}
 use mathlib.Core.Bool.{cond}
-use Prim.Native.Nat.{ℕ, zero, suc, _≤_, _<_, max, zero-le}
+use Prim.Native.Nat.{ℕ, zero, _≤_, _<_, max, zero-le}
 use native.Mathlib.Nat.{le-trans}
 use native.Mathlib.Omega.{arith}
 use native.Mathlib.Decide.{decLt}
@@ -23,7 +23,8 @@ unfolding imageOf
 image-above t q l h = ap (λ b. cond b (rowImage t q l) (single l q)) (le-ltb q (t .width) h)
 
 pub image-I : (t : Tableau) (q : ℕ) → imageOf t q I ≡ identityString
-image-I t q = elim (decLt q (t .width)) [ yes h ↦ image-own t q I h ∙ (unfold rowImage in refl) | no h ↦ image-above t q I (omega arith) ∙ single-I q ]
+image-I t q =
+    elim (decLt q (t .width)) [ yes h ↦ image-own t q I h ∙ (unfold rowImage in refl) | no h ↦ image-above t q I (omega arith) ∙ single-I q ]
 
 single-Y : (q : ℕ) → q < qubits → single Y q ≡ scale PlusI (mul (single X q) (single Z q))
 unfolding letterProduct letterPhase letterMul _·_ negate turn
@@ -77,7 +78,8 @@ image-same t u e q l = elim (decLt q (t .width)) [
     row h Z = e .zImage q h
     row h Y = ap₂ (λ x z. scale PlusI (mul x z)) (e .xImage q h) (e .zImage q h)
 
-pub same-images : (t u : Tableau) → t .width ≡ u .width → ((q : ℕ) (g : Generator) → q < t .width → imageOf t q (generator g) ≡ imageOf u q (generator g)) → Same t u
+pub same-images : (t u : Tableau) → t .width ≡ u .width
+    → ((q : ℕ) (g : Generator) → q < t .width → imageOf t q (generator g) ≡ imageOf u q (generator g)) → Same t u
 unfolding rowImage
 same-images t u w e = record { width = w; xImage = λ q h. row q h ofX; zImage = λ q h. row q h ofZ }
   where

@@ -1,22 +1,22 @@
 -- The inverse of a valid tableau is valid, of the same width, and an inverse from both sides.
-use mathlib.Core.Path.{_≡_, refl, sym, ap, ap₂, _∙_, subst}
-use mathlib.Core.Bool.{Bool, true, false, cond}
-use mathlib.Core.Logic.{_≢_}
-use Prim.Native.Nat.{ℕ, zero, suc, _≤_, _<_, max}
-use native.Mathlib.Nat.{le-refl, le-trans}
+use mathlib.Core.Path.{_≡_, refl, sym, ap, ap₂, _∙_}
+use mathlib.Core.Bool.{Bool, false, cond}
+use Prim.Native.Nat.{ℕ, _≤_, _<_}
+use native.Mathlib.Nat.{le-trans}
 use native.Mathlib.Omega.{arith}
 use native.Mathlib.Decide.{decLt}
-use lib.Dec.{ltb}
 use borrow.Author.Tests.{lt-ltb, le-ltb}
-use Rattle.pauli_group.specs.Phase.{Phase, PlusOne, _·_, conjugate, sign}
+use Rattle.pauli_group.specs.Phase.{Phase, PlusOne, conjugate}
 use Rattle.pauli_group.specs.Letter.{Letter, I, X, Z, letterPhase, letterMul, anticommute}
-use Rattle.pauli_group.specs.PauliString.{PauliString, qubits, mul, scale, single, commutationSign, Within}
+use Rattle.pauli_group.specs.PauliString.{PauliString, qubits, mul, scale, single, Within}
 use Rattle.pauli_group.proofs.Laws.{·-one, conjugate-·}
 use Rattle.pauli_group.proofs.Strings.{string-ext, sign-sym, sign-single, sign-local, within-mul, within-scale, within-single}
-use Rattle.clifford_group.specs.Tableau.{Tableau, identityTableau, rowImage, imageOf, apply, compose, hasX, hasZ, letterOf, transposed, inverseRow, inverse, Proper, Clifford, Same}
+use Rattle.clifford_group.specs.Tableau.{Tableau, identityTableau, rowImage, imageOf, apply, compose, hasX, hasZ, letterOf}
+use Rattle.clifford_group.specs.Tableau.{transposed, inverseRow, inverse, Proper, Clifford, Same}
 use Rattle.clifford_group.proofs.Singles.{single-off, mul-singles, sign-apart, letter-bits, hasX-anticommute, hasZ-anticommute}
 use Rattle.clifford_group.proofs.Commuting.{commuting-sign, sign-injective}
-use Rattle.clifford_group.proofs.Images.{image-own, image-above, image-identity, image-generators, Generator, ofX, ofZ, generator, same-images, Alike, within-image}
+use Rattle.clifford_group.proofs.Images.{image-own, image-above, image-identity, image-generators, Generator, ofX, ofZ}
+use Rattle.clifford_group.proofs.Images.{generator, same-images, Alike, within-image}
 use Rattle.clifford_group.proofs.Apply.{apply-alike, apply-letters, apply-scale, apply-single, apply-within}
 use Rattle.clifford_group.proofs.Multiply.{ImagesMultiply, everywhere-valid}
 use Rattle.clifford_group.proofs.Conjugation.{apply-mul, sign-image, letters-injective, apply-injective}
@@ -48,7 +48,8 @@ inverse-row t q g h = image-own (inverse t) q (generator g) h ∙ row g
 -- ---- of any tableau: proper
 pub within-transposed : (t : Tableau) (bit : Letter → Bool) (q : ℕ) → Within (t .width) (transposed t bit q)
 unfolding transposed
-within-transposed t bit q c h = ap (λ b. cond b (letterOf (bit (t .zImage c .letters q)) (bit (t .xImage c .letters q))) I) (le-ltb c (t .width) h)
+within-transposed t bit q c h =
+    ap (λ b. cond b (letterOf (bit (t .zImage c .letters q)) (bit (t .xImage c .letters q))) I) (le-ltb c (t .width) h)
 
 pub proper-inverse : (t : Tableau) → t .width ≤ qubits → Proper (inverse t)
 unfolding inverse inverseRow
@@ -59,18 +60,23 @@ proper-inverse t n = record { narrow = n; xWithin = λ q h. within-transposed t 
 columnLetter : Tableau → Letter → ℕ → ℕ → Letter
 columnLetter t l q c = letterOf (anticommute (imageOf t c Z .letters q) l) (anticommute (imageOf t c X .letters q) l)
 
-transposed-letters : (t : Tableau) (g : Generator) (q c : ℕ) → q < t .width → transposed t (columnBit g) q .letters c ≡ columnLetter t (generator g) q c
+transposed-letters : (t : Tableau) (g : Generator) (q c : ℕ) → q < t .width
+    → transposed t (columnBit g) q .letters c ≡ columnLetter t (generator g) q c
 unfolding transposed columnLetter rowImage anticommute letterOf
 transposed-letters t g q c h = go (decLt c (t .width))
   where
     own : c < t .width → (l : Letter) → columnBit g (rowImage t c l .letters q) ≡ anticommute (imageOf t c l .letters q) (generator g)
-    own k l = sym (ap (λ (s : PauliString). anticommute (s .letters q) (generator g)) (image-own t c l k) ∙ bit-anticommute g (rowImage t c l .letters q))
+    own k l =
+        sym (ap (λ (s : PauliString). anticommute (s .letters q) (generator g)) (image-own t c l k) ∙ bit-anticommute g (rowImage t c l .letters q))
 
     above : t .width ≤ c → (l : Letter) → false ≡ anticommute (imageOf t c l .letters q) (generator g)
-    above k l = sym (ap (λ (s : PauliString). anticommute (s .letters q) (generator g)) (image-above t c l k) ∙ ap (λ a. anticommute a (generator g)) (single-off l c q (omega arith)))
+    above k l =
+        sym (ap (λ (s : PauliString). anticommute (s .letters q) (generator g)) (image-above t c l k) ∙ ap (λ a. anticommute a (generator g)) (single-off l c q (omega arith)))
 
     go : Dec (c < t .width) → transposed t (columnBit g) q .letters c ≡ columnLetter t (generator g) q c
-    go (yes k) = ap (λ b. cond b (letterOf (columnBit g (t .zImage c .letters q)) (columnBit g (t .xImage c .letters q))) I) (lt-ltb c (t .width) k) ∙ ap₂ letterOf (own k Z) (own k X)
+    go (yes k) =
+        ap (λ b. cond b (letterOf (columnBit g (t .zImage c .letters q)) (columnBit g (t .xImage c .letters q))) I) (lt-ltb c (t .width) k)
+        ∙ ap₂ letterOf (own k Z) (own k X)
     go (no k) = within-transposed t (columnBit g) q c (omega arith) ∙ ap₂ letterOf (above (omega arith) Z) (above (omega arith) X)
 
 -- letters with phase +1
@@ -79,7 +85,8 @@ plain a = record { phase = PlusOne; letters = a }
 
 module _ (t : Tableau) (c : Clifford t) where
   -- letters that are sent to those of a single letter are the column's
-  column-only : (l : Letter) (q : ℕ) → q < qubits → (a : ℕ → Letter) → ((d : ℕ) → d < qubits → single l q .letters d ≡ apply t (plain a) .letters d)
+  column-only : (l : Letter) (q : ℕ) → q < qubits → (a : ℕ → Letter)
+      → ((d : ℕ) → d < qubits → single l q .letters d ≡ apply t (plain a) .letters d)
       → (d : ℕ) → d < qubits → a d ≡ columnLetter t l q d
   unfolding plain columnLetter
   column-only l q h a e d k = letter-bits (a d) ∙ ap₂ letterOf (bit Z) (bit X)
@@ -90,7 +97,8 @@ module _ (t : Tableau) (c : Clifford t) where
           ∙ sign-sym (single l q) (imageOf t d m) ∙ sign-single (imageOf t d m) l q h)
 
   -- and there are such letters, so the column's are sent there
-  column-sent : (l : Letter) (q : ℕ) → q < qubits → (s : PauliString) → s .phase ≡ PlusOne → ((d : ℕ) → d < qubits → s .letters d ≡ columnLetter t l q d)
+  column-sent : (l : Letter) (q : ℕ) → q < qubits → (s : PauliString) → s .phase ≡ PlusOne
+      → ((d : ℕ) → d < qubits → s .letters d ≡ columnLetter t l q d)
       → (d : ℕ) → apply t s .letters d ≡ single l q .letters d
   unfolding plain
   column-sent l q h s p e d = elim (decLt d qubits) [
@@ -118,7 +126,8 @@ module _ (t : Tableau) (c : Clifford t) where
       row : inverseRow t (columnBit g) q ≡ scale p body
       row = string-ext (inverseRow t (columnBit g) q) (scale p body) (sym (·-one p)) (λ d. refl)
 
-  generator-sent : (q : ℕ) (g : Generator) → q < qubits → imageOf (compose t (inverse t)) q (generator g) ≡ imageOf (identityTableau (t .width)) q (generator g)
+  generator-sent : (q : ℕ) (g : Generator) → q < qubits
+      → imageOf (compose t (inverse t)) q (generator g) ≡ imageOf (identityTableau (t .width)) q (generator g)
   generator-sent q g h = compose-generator t (inverse t) q h g ∙ sent ∙ sym (image-identity (t .width) q (generator g) h)
     where
       sent : apply t (imageOf (inverse t) q (generator g)) ≡ single (generator g) q
@@ -134,7 +143,8 @@ module _ (t : Tableau) (c : Clifford t) where
   image-sent q l h = sym (image-compose t (inverse t) q h c l) ∙ alike-inverse q l h ∙ image-identity (t .width) q l h
 
   pub compose-inverse : Same (compose t (inverse t)) (identityTableau (t .width))
-  compose-inverse = same-images (compose t (inverse t)) (identityTableau (t .width)) (omega (arith, width-compose t (inverse t), width-inverse t, width-identity (t .width)))
+  compose-inverse =
+      same-images (compose t (inverse t)) (identityTableau (t .width)) (omega (arith, width-compose t (inverse t), width-inverse t, width-identity (t .width)))
       (λ q g h. generator-sent q g (omega (arith, c .proper .narrow, width-compose t (inverse t), width-inverse t)))
 
   -- ---- it is valid: what is sent to equal strings is equal
@@ -144,10 +154,13 @@ module _ (t : Tableau) (c : Clifford t) where
   within : (q : ℕ) (l : Letter) → q < qubits → Within qubits (imageOf (inverse t) q l)
   within q l h = within-image (inverse t) proper qubits (proper .narrow) q h l
 
-  product-sent : (q r : ℕ) (a b : Letter) → q < qubits → r < qubits → apply t (mul (imageOf (inverse t) q a) (imageOf (inverse t) r b)) ≡ mul (single a q) (single b r)
-  product-sent q r a b h k = apply-mul t c (imageOf (inverse t) q a) (imageOf (inverse t) r b) ∙ ap₂ mul (image-sent q a h) (image-sent r b k)
+  product-sent : (q r : ℕ) (a b : Letter) → q < qubits → r < qubits
+      → apply t (mul (imageOf (inverse t) q a) (imageOf (inverse t) r b)) ≡ mul (single a q) (single b r)
+  product-sent q r a b h k =
+      apply-mul t c (imageOf (inverse t) q a) (imageOf (inverse t) r b) ∙ ap₂ mul (image-sent q a h) (image-sent r b k)
 
-  within-product : (q r : ℕ) (a b : Letter) → q < qubits → r < qubits → Within qubits (mul (imageOf (inverse t) q a) (imageOf (inverse t) r b))
+  within-product : (q r : ℕ) (a b : Letter) → q < qubits → r < qubits
+      → Within qubits (mul (imageOf (inverse t) q a) (imageOf (inverse t) r b))
   within-product q r a b h k = within-mul qubits (imageOf (inverse t) q a) (imageOf (inverse t) r b) (within q a h) (within r b k)
 
   pub clifford-inverse : Clifford (inverse t)
@@ -155,7 +168,8 @@ module _ (t : Tableau) (c : Clifford t) where
     where
       everywhere : ImagesMultiply qubits (inverse t)
       everywhere = record {
-        together = λ q a b h. apply-injective t c _ _ (within-product q q a b h h) (within-scale qubits (letterPhase a b) _ (within q (letterMul a b) h))
+        together =
+            λ q a b h. apply-injective t c _ _ (within-product q q a b h h) (within-scale qubits (letterPhase a b) _ (within q (letterMul a b) h))
             (product-sent q q a b h h ∙ mul-singles a b q h ∙ sym (apply-scale t (letterPhase a b) _ ∙ ap (scale (letterPhase a b)) (image-sent q (letterMul a b) h)));
         apart = λ q r a b h k d. apply-injective t c _ _ (within-product q r a b h k) (within-product r q b a k h)
             (product-sent q r a b h k ∙ commuting-sign (single a q) (single b r) (sign-apart a b q r k d) ∙ sym (product-sent r q b a k h));
@@ -164,13 +178,17 @@ module _ (t : Tableau) (c : Clifford t) where
   -- ---- from the other side
   pub apply-inverse : (s : PauliString) → Within qubits s → apply t (apply (inverse t) s) ≡ s
   apply-inverse s h =
-      sym (apply-compose t (inverse t) c s) ∙ apply-alike (compose t (inverse t)) (identityTableau (t .width)) alike-inverse s ∙ apply-identityTableau (t .width) s h
+      sym (apply-compose t (inverse t) c s) ∙ apply-alike (compose t (inverse t)) (identityTableau (t .width)) alike-inverse s
+      ∙ apply-identityTableau (t .width) s h
 
   pub inverse-apply : (s : PauliString) → Within qubits s → apply (inverse t) (apply t s) ≡ s
-  inverse-apply s h = apply-injective t c (apply (inverse t) (apply t s)) s (apply-within (inverse t) proper (apply t s)) h (apply-inverse (apply t s) (apply-within t (c .proper) s))
+  inverse-apply s h =
+      apply-injective t c (apply (inverse t) (apply t s)) s (apply-within (inverse t) proper (apply t s)) h (apply-inverse (apply t s) (apply-within t (c .proper) s))
 
   pub inverse-compose : Same (compose (inverse t) t) (identityTableau (t .width))
-  inverse-compose = same-images (compose (inverse t) t) (identityTableau (t .width)) (omega (arith, width-compose (inverse t) t, width-inverse t, width-identity (t .width)))
+  inverse-compose =
+      same-images (compose (inverse t) t) (identityTableau (t .width)) (omega (arith, width-compose (inverse t) t, width-inverse t, width-identity (t .width)))
       (λ q g h. let k : q < qubits = omega (arith, c .proper .narrow, width-compose (inverse t) t, width-inverse t) in
       compose-generator (inverse t) t q k g ∙ ap (apply (inverse t)) (sym (apply-single t (generator g) q k))
-      ∙ inverse-apply (single (generator g) q) (within-single qubits (generator g) q k) ∙ sym (image-identity (t .width) q (generator g) k))
+      ∙ inverse-apply (single (generator g) q) (within-single qubits (generator g) q k)
+      ∙ sym (image-identity (t .width) q (generator g) k))

@@ -3,20 +3,22 @@
 use mathlib.Core.Path.{_≡_, refl, sym, ap, ap₂, _∙_}
 use mathlib.Core.Bool.{true, false}
 use mathlib.Core.Logic.{_≢_}
-use Prim.Native.Nat.{ℕ, _≤_, _<_, max}
-use native.Mathlib.Nat.{le-refl, le-trans}
+use Prim.Native.Nat.{ℕ, _≤_, _<_}
+use native.Mathlib.Nat.{le-trans}
 use native.Mathlib.Omega.{arith}
 use native.Mathlib.Decide.{decLt}
-use Rattle.pauli_group.specs.Phase.{PlusOne, MinusOne, PlusI, MinusI, negate, turn, _·_, isReal, sign}
+use Rattle.pauli_group.specs.Phase.{MinusOne, PlusI, negate, turn, _·_, sign}
 use Rattle.pauli_group.specs.Letter.{Letter, I, X, Z, Y, letterProduct, letterPhase, letterMul, anticommute}
-use Rattle.pauli_group.specs.PauliString.{PauliString, qubits, mul, identityString, scale, single, commute}
+use Rattle.pauli_group.specs.PauliString.{PauliString, qubits, mul, identityString, scale, single}
 use Rattle.pauli_group.proofs.Laws.{letterMul-self, letterPhase-self}
 use Rattle.pauli_group.proofs.Strings.{scale-scale, scale-one, scale-mul, mul-scale, mul-assoc, identity-mul, mul-identity}
 use Rattle.pauli_group.proofs.Strings.{sign-single, real-squares, squares-real, commute-mul, anticommute-mul}
 use Rattle.clifford_group.specs.Tableau.{Tableau, rowImage, imageOf, widen, isValid, Proper, Clifford}
 use Rattle.clifford_group.proofs.Singles.{mul-singles, sign-apart}
-use Rattle.clifford_group.proofs.Commuting.{Commuting, commuting-sign, commuting-identity, commuting-scale, commuting-mul, mul-commute}
-use Rattle.clifford_group.proofs.Images.{image-own, image-above, image-I, Generator, ofX, ofZ, generator, row, image-row, alike-widen, within-image}
+use Rattle.clifford_group.proofs.Commuting.{Commuting, commuting-sign, commuting-identity, commuting-scale, commuting-mul}
+use Rattle.clifford_group.proofs.Commuting.{mul-commute}
+use Rattle.clifford_group.proofs.Images.{image-own, image-above, image-I, Generator, ofX, ofZ, generator, row, image-row}
+use Rattle.clifford_group.proofs.Images.{alike-widen, within-image}
 use Rattle.clifford_group.proofs.Valid.{Valid, test-valid, valid-test, test-equal}
 
 -- the images of the first n qubits: on one qubit they multiply by the letter products, and on two they commute
@@ -76,14 +78,16 @@ rows-together t v q h = go
     go Y Y = simp (mul-scale, scale-mul, scale-scale, scale-one, mul-assoc, mul-identity, zz, xx, z-x′)
 
 -- ---- two qubits: what commutes with the X and the Z image of a qubit commutes with the image of each letter
-row-commutes : (s : PauliString) (t : Tableau) (q : ℕ) → ((g : Generator) → Commuting s (row t g q)) → (a : Letter) → Commuting s (rowImage t q a)
+row-commutes : (s : PauliString) (t : Tableau) (q : ℕ) → ((g : Generator) → Commuting s (row t g q)) → (a : Letter)
+    → Commuting s (rowImage t q a)
 unfolding rowImage
 row-commutes s t q e I = commuting-identity s
 row-commutes s t q e X = e ofX
 row-commutes s t q e Z = e ofZ
 row-commutes s t q e Y = commuting-scale PlusI s _ (commuting-mul s _ _ (e ofX) (e ofZ))
 
-rows-apart : (t : Tableau) → Valid t → (q r : ℕ) → q < t .width → r < t .width → q ≢ r → (a b : Letter) → Commuting (rowImage t q a) (rowImage t r b)
+rows-apart : (t : Tableau) → Valid t → (q r : ℕ) → q < t .width → r < t .width → q ≢ r → (a b : Letter)
+    → Commuting (rowImage t q a) (rowImage t r b)
 rows-apart t v q r h k d a b =
     row-commutes (rowImage t q a) t r
     (λ g. sym (row-commutes (row t g r) t q (λ j. sym (commute-mul (row t j q) (row t g r) (v .commuting j g q r h k d))) a)) b
@@ -92,9 +96,11 @@ rows-apart t v q r h k d a b =
 pub valid-multiply : (t : Tableau) → Valid t → ImagesMultiply (t .width) t
 valid-multiply t v = record {
   together = λ q a b h.
-      ap₂ mul (image-own t q a h) (image-own t q b h) ∙ rows-together t v q h a b ∙ ap (scale (letterPhase a b)) (sym (image-own t q (letterMul a b) h));
+      ap₂ mul (image-own t q a h) (image-own t q b h) ∙ rows-together t v q h a b
+      ∙ ap (scale (letterPhase a b)) (sym (image-own t q (letterMul a b) h));
   apart = λ q r a b h k d.
-      ap₂ mul (image-own t q a h) (image-own t r b k) ∙ rows-apart t v q r h k d a b ∙ ap₂ mul (sym (image-own t r b k)) (sym (image-own t q a h));
+      ap₂ mul (image-own t q a h) (image-own t r b k) ∙ rows-apart t v q r h k d a b
+      ∙ ap₂ mul (sym (image-own t r b k)) (sym (image-own t q a h));
 }
 
 pub multiply-valid : (t : Tableau) → ImagesMultiply (t .width) t → Valid t
@@ -108,16 +114,21 @@ multiply-valid t m = record {
       (own g k q r h l ∙ m .apart q r (generator g) (generator k) h l d ∙ sym (own k g r q l h) ∙ sym (scale-one (mul (row t k r) (row t g q))));
 }
   where
-    own : (g k : Generator) (q r : ℕ) → q < t .width → r < t .width → mul (row t g q) (row t k r) ≡ mul (imageOf t q (generator g)) (imageOf t r (generator k))
+    own : (g k : Generator) (q r : ℕ) → q < t .width → r < t .width
+        → mul (row t g q) (row t k r) ≡ mul (imageOf t q (generator g)) (imageOf t r (generator k))
     own g k q r h l = ap₂ mul (sym (image-row t q g h)) (sym (image-row t r k l))
 
     squared : (l : Letter) (q : ℕ) → q < t .width → mul (imageOf t q l) (imageOf t q l) ≡ identityString
-    squared l q h = m .together q l l h ∙ ap₂ (λ p a. scale p (imageOf t q a)) (letterPhase-self l) (letterMul-self l) ∙ scale-one (imageOf t q I) ∙ image-I t q
+    squared l q h =
+        m .together q l l h ∙ ap₂ (λ p a. scale p (imageOf t q a)) (letterPhase-self l) (letterMul-self l) ∙ scale-one (imageOf t q I)
+        ∙ image-I t q
 
 -- ---- that sees images alone
-pub multiply-images : (n : ℕ) (t u : Tableau) → ((q : ℕ) (l : Letter) → q < n → imageOf t q l ≡ imageOf u q l) → ImagesMultiply n t → ImagesMultiply n u
+pub multiply-images : (n : ℕ) (t u : Tableau) → ((q : ℕ) (l : Letter) → q < n → imageOf t q l ≡ imageOf u q l) → ImagesMultiply n t
+    → ImagesMultiply n u
 multiply-images n t u e m = record {
-  together = λ q a b h. ap₂ mul (sym (e q a h)) (sym (e q b h)) ∙ m .together q a b h ∙ ap (scale (letterPhase a b)) (e q (letterMul a b) h);
+  together =
+      λ q a b h. ap₂ mul (sym (e q a h)) (sym (e q b h)) ∙ m .together q a b h ∙ ap (scale (letterPhase a b)) (e q (letterMul a b) h);
   apart = λ q r a b h k d. ap₂ mul (sym (e q a h)) (sym (e r b k)) ∙ m .apart q r a b h k d ∙ ap₂ mul (e r b k) (e q a h);
 }
 
@@ -151,7 +162,8 @@ multiply-everywhere t c = record {
         (sign-single (imageOf t q a) b r k ∙ ap (λ l. sign (anticommute l b)) (within-image t (c .proper) (t .width) (omega arith) q i a r j) ∙ (unfold sign anticommute in refl))
         ∙ ap (λ s. mul s (imageOf t q a)) (sym (above r b j))
 
-    rows : (q r : ℕ) (a b : Letter) → q < qubits → r < qubits → q ≢ r → Dec (q < t .width) → Dec (r < t .width) → Commuting (imageOf t q a) (imageOf t r b)
+    rows : (q r : ℕ) (a b : Letter) → q < qubits → r < qubits → q ≢ r → Dec (q < t .width) → Dec (r < t .width)
+        → Commuting (imageOf t q a) (imageOf t r b)
     rows q r a b h k d (yes i) (yes j) = m .apart q r a b i j d
     rows q r a b h k d (yes i) (no j) = beside q r a b k i (omega arith)
     rows q r a b h k d (no i) (yes j) = sym (beside r q b a h j (omega arith))

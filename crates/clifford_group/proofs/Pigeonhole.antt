@@ -29,13 +29,15 @@ squeeze v w = elim (decLt w v) [ yes l ↦ w | no l ↦ pred w ]
 
 squeeze-lt : (k v w : ℕ) → w ≢ v → w < suc k → v < suc k → squeeze v w < k
 unfolding squeeze
-squeeze-lt k v w d hw hv = elim (decLt w v) as (λ b. (elim b as (λ c. ℕ) [ yes l ↦ w | no l ↦ pred w ]) < k) [ yes l ↦ omega arith | no l ↦ omega arith ]
+squeeze-lt k v w d hw hv =
+    elim (decLt w v) as (λ b. (elim b as (λ c. ℕ) [ yes l ↦ w | no l ↦ pred w ]) < k) [ yes l ↦ omega arith | no l ↦ omega arith ]
 
 squeeze-injective : (v w u : ℕ) → w ≢ v → u ≢ v → squeeze v w ≡ squeeze v u → w ≡ u
 unfolding squeeze
 squeeze-injective v w u d e h = go (decLt w v) (decLt u v) h
   where
-    go : (b : Dec (w < v)) (c : Dec (u < v)) → _≡_ {A = ℕ} (elim b [ yes l ↦ w | no l ↦ pred w ]) (elim c [ yes l ↦ u | no l ↦ pred u ]) → w ≡ u
+    go : (b : Dec (w < v)) (c : Dec (u < v))
+        → _≡_ {A = ℕ} (elim b [ yes l ↦ w | no l ↦ pred w ]) (elim c [ yes l ↦ u | no l ↦ pred u ]) → w ≡ u
     go (yes b) (yes c) h = h
     go (yes b) (no c) h = omega arith
     go (no b) (yes c) h = omega arith
@@ -51,7 +53,8 @@ pigeonhole (suc k) f h =
     step (find f (f (suc k)) (suc k))
     (λ r. pigeonhole k (λ i. squeeze (f (suc k)) (f i)) (λ i l. squeeze-lt k (f (suc k)) (f i) (r i (omega arith)) (h i (omega arith)) (h (suc k) (le-refl (suc k)))))
   where
-    step : Found f (f (suc k)) (suc k) ⊎ Absent f (f (suc k)) (suc k) → (Absent f (f (suc k)) (suc k) → Repeats (λ i. squeeze (f (suc k)) (f i)) k) → Repeats f (suc k)
+    step : Found f (f (suc k)) (suc k) ⊎ Absent f (f (suc k)) (suc k)
+        → (Absent f (f (suc k)) (suc k) → Repeats (λ i. squeeze (f (suc k)) (f i)) k) → Repeats f (suc k)
     step (inl w) rest = (w .0, suc k, w .1, le-refl (suc k), w .2)
     step (inr r) rest =
         let w = rest r in
@@ -113,7 +116,8 @@ module _ (n : ℕ) (f : (ℕ → Letter) → ℕ → Letter) where
   iterate zero a = a
   iterate (suc i) a = f (iterate i a)
 
-  back : ((a b : ℕ → Letter) → Agree (f a) (f b) → Agree a b) → (a : ℕ → Letter) (i j : ℕ) → i < j → Agree (iterate i a) (iterate j a) → (b : ℕ → Letter) × Agree a (f b)
+  back : ((a b : ℕ → Letter) → Agree (f a) (f b) → Agree a b) → (a : ℕ → Letter) (i j : ℕ) → i < j → Agree (iterate i a) (iterate j a)
+      → (b : ℕ → Letter) × Agree a (f b)
   unfolding iterate
   back apart a zero zero l h = absurd (not-suc-le-zero l)
   back apart a zero (suc j) l h = (iterate j a, h)

@@ -9,7 +9,8 @@ use Rattle.pauli_group.specs.Phase.{conjugate, isReal}
 use Rattle.pauli_group.specs.Letter.{Letter, I, X, Z}
 use Rattle.pauli_group.specs.PauliString.{PauliString, qubits, commute, Within}
 use Rattle.pauli_group.proofs.Strings.{string-ext}
-use Rattle.clifford_group.specs.Tableau.{Tableau, imageOf, apply, widen, compose, isValid, hasX, hasZ, letterOf, transposed, inverseRow, inverse, Proper, Clifford, Same}
+use Rattle.clifford_group.specs.Tableau.{Tableau, imageOf, apply, widen, compose, isValid, hasX, hasZ, letterOf, transposed}
+use Rattle.clifford_group.specs.Tableau.{inverseRow, inverse, Proper, Clifford, Same}
 use Rattle.clifford_group.proofs.Images.{Generator, ofX, ofZ, row, image-same, alike-same}
 use Rattle.clifford_group.proofs.Apply.{apply-alike, apply-widen}
 use Rattle.clifford_group.proofs.Valid.{Valid, test-equal}
@@ -19,7 +20,8 @@ pub same-refl : (t : Tableau) → Same t t
 same-refl t = record { width = refl; xImage = λ q h. refl; zImage = λ q h. refl }
 
 pub same-sym : (t u : Tableau) → Same t u → Same u t
-same-sym t u e = record { width = sym (e .width); xImage = λ q h. sym (e .xImage q (below q h)); zImage = λ q h. sym (e .zImage q (below q h)) }
+same-sym t u e =
+    record { width = sym (e .width); xImage = λ q h. sym (e .xImage q (below q h)); zImage = λ q h. sym (e .zImage q (below q h)) }
   where
     below : (q : ℕ) → q < u .width → q < t .width
     below q = subst (λ w. q < w) (sym (e .width))
@@ -47,7 +49,8 @@ module _ (t u : Tableau) (e : Same t u) where
   valid-same v = record {
     real = λ g q h. ap (λ (s : PauliString). isReal (s .phase)) (sym (row-same g q h)) ∙ v .real g q (below q h);
     anticommuting = λ q h. ap₂ commute (sym (row-same ofX q h)) (sym (row-same ofZ q h)) ∙ v .anticommuting q (below q h);
-    commuting = λ g k q r h l d. ap₂ commute (sym (row-same g q h)) (sym (row-same k r l)) ∙ v .commuting g k q r (below q h) (below r l) d;
+    commuting =
+        λ g k q r h l d. ap₂ commute (sym (row-same g q h)) (sym (row-same k r l)) ∙ v .commuting g k q r (below q h) (below r l) d;
   }
 
   pub proper-same : Proper t → Proper u
@@ -62,7 +65,8 @@ module _ (t u : Tableau) (e : Same t u) where
 
   pub widen-same : (n : ℕ) → Same (widen n t) (widen n u)
   unfolding widen
-  widen-same n = record { width = ap (λ w. max w n) (e .width); xImage = λ q h. image-same t u e q X; zImage = λ q h. image-same t u e q Z }
+  widen-same n =
+      record { width = ap (λ w. max w n) (e .width); xImage = λ q h. image-same t u e q X; zImage = λ q h. image-same t u e q Z }
 
   -- the inverse reads the own rows alone
   transposed-same : (bit : Letter → Bool) (q : ℕ) → transposed t bit q ≡ transposed u bit q
@@ -101,7 +105,8 @@ compose-same a a′ b b′ e f = record {
   zImage = λ q h. row q Z;
 }
   where
-    row : (q : ℕ) (l : Letter) → apply (widen (max (a .width) (b .width)) a) (imageOf b q l) ≡ apply (widen (max (a′ .width) (b′ .width)) a′) (imageOf b′ q l)
+    row : (q : ℕ) (l : Letter)
+        → apply (widen (max (a .width) (b .width)) a) (imageOf b q l) ≡ apply (widen (max (a′ .width) (b′ .width)) a′) (imageOf b′ q l)
     row q l =
         apply-widen (max (a .width) (b .width)) a (imageOf b q l) ∙ apply-same a a′ e (imageOf b q l)
         ∙ ap (apply a′) (image-same b b′ f q l) ∙ sym (apply-widen (max (a′ .width) (b′ .width)) a′ (imageOf b′ q l))

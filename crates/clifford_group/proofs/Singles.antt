@@ -1,13 +1,13 @@
 -- Strings of one letter: their products and signs; and a letter is known by its signs with X and Z.
-use mathlib.Core.Path.{_≡_, refl, sym, ap, ap₂, _∙_}
+use mathlib.Core.Path.{_≡_, refl, sym, ap, _∙_}
 use mathlib.Core.Bool.{Bool, true, false, cond}
 use mathlib.Core.Logic.{_≢_}
 use Prim.Native.Nat.{ℕ, _<_}
 use lib.Dec.{eqb}
 use borrow.Author.Tests.{eq-eqb, ne-eqb}
 use Rattle.pauli_group.specs.Phase.{Phase, PlusOne, _·_, sign}
-use Rattle.pauli_group.specs.Letter.{Letter, I, X, Z, Y, letterProduct, letterPhase, letterMul, anticommute}
-use Rattle.pauli_group.specs.PauliString.{PauliString, qubits, productTo, phaseOfLetters, mul, identityString, scale, single, commutationSign}
+use Rattle.pauli_group.specs.Letter.{Letter, I, X, Z, letterProduct, letterPhase, letterMul, anticommute}
+use Rattle.pauli_group.specs.PauliString.{qubits, productTo, phaseOfLetters, mul, identityString, scale, single, commutationSign}
 use Rattle.pauli_group.proofs.Finite.{letters, bools, law1}
 use Rattle.pauli_group.proofs.Laws.{·-comm, one-·}
 use Rattle.pauli_group.proofs.Products.{productTo-at}
@@ -32,9 +32,11 @@ unfolding single
 single-off l q c d = ap (λ b. cond b l I) (ne-eqb c q d)
 
 -- two letters on one qubit multiply as letters do
-pub mul-singles : (l m : Letter) (q : ℕ) → q < qubits → mul (single l q) (single m q) ≡ scale (letterPhase l m) (single (letterMul l m) q)
+pub mul-singles : (l m : Letter) (q : ℕ) → q < qubits
+    → mul (single l q) (single m q) ≡ scale (letterPhase l m) (single (letterMul l m) q)
 unfolding mul scale single phaseOfLetters letterMul letterPhase letterProduct
-mul-singles l m q h = string-ext (mul (single l q) (single m q)) (scale (letterPhase l m) (single (letterMul l m) q)) phases (λ c. place (eqb c q))
+mul-singles l m q h =
+    string-ext (mul (single l q) (single m q)) (scale (letterPhase l m) (single (letterMul l m) q)) phases (λ c. place (eqb c q))
   where
     factor : (b : Bool) → Phase
     factor b = letterPhase (cond b l I) (cond b m I)

@@ -7,7 +7,7 @@ use native.Mathlib.Nat.{not-suc-le-zero}
 use native.Mathlib.Omega.{arith}
 use native.Mathlib.Decide.{ℕ-discrete, decLt}
 use Rattle.pauli_group.specs.Phase.{isReal}
-use Rattle.pauli_group.specs.PauliString.{PauliString, commute}
+use Rattle.pauli_group.specs.PauliString.{commute}
 use Rattle.clifford_group.specs.Tableau.{Tableau, allTo, validQubit, validPair, isValid}
 use Rattle.clifford_group.proofs.Commuting.{commute-sym}
 use Rattle.clifford_group.proofs.Images.{Generator, ofX, ofZ, row}

@@ -4,7 +4,7 @@ use mathlib.Core.Path.{_≡_}
 use mathlib.Core.Bool.{Bool, true, false, cond, not, _&&_}
 use Prim.Native.Nat.{ℕ, zero, suc, _≤_, _<_, max}
 use lib.Dec.{ltb}
-use Rattle.pauli_group.specs.Phase.{Phase, PlusOne, PlusI, conjugate, isReal}
+use Rattle.pauli_group.specs.Phase.{PlusOne, PlusI, conjugate, isReal}
 use Rattle.pauli_group.specs.Letter.{Letter, I, X, Z, Y}
 use Rattle.pauli_group.specs.PauliString.{PauliString, qubits, mul, identityString, scale, single, commute, Within}
 
