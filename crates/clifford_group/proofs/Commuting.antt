@@ -1,10 +1,15 @@
--- Strings that commute: what keeps it, and the test `commute`.
+-- Strings that commute: which do, what keeps it, and the test `commute`.
 use mathlib.Core.Path.{_≡_, refl, sym, ap, _∙_}
 use mathlib.Core.Bool.{Bool, true, false, not}
+use mathlib.Core.Logic.{_≢_}
+use Prim.Native.Nat.{ℕ, _<_}
 use Rattle.pauli_group.specs.Phase.{Phase, PlusOne, _·_, sign}
-use Rattle.pauli_group.specs.PauliString.{PauliString, mul, identityString, scale, commute, commutationSign}
+use Rattle.pauli_group.specs.Letter.{Letter, I, anticommute}
+use Rattle.pauli_group.specs.PauliString.{PauliString, qubits, mul, identityString, scale, single, commute, commutationSign}
 use Rattle.pauli_group.proofs.Strings.{scale-scale, scale-one, scale-mul, mul-scale, mul-assoc, identity-mul, mul-identity, mul-swap}
 use Rattle.pauli_group.proofs.Strings.{sign-only, sign-sym, commute-sign}
+use Rattle.pauli_group.proofs.Strings.{sign-single}
+use Rattle.clifford_group.proofs.Singles.{single-off}
 
 abbrev pub Commuting : PauliString → PauliString → Type 0
 Commuting s t = mul s t ≡ mul t s
@@ -21,6 +26,14 @@ commuting-scale p s t e = mul-scale p s t ∙ ap (scale p) e ∙ sym (scale-mul 
 pub commuting-mul : (s t u : PauliString) → Commuting s t → Commuting s u → Commuting s (mul t u)
 commuting-mul s t u e f =
     sym (mul-assoc s t u) ∙ ap (λ v. mul v u) e ∙ mul-assoc t s u ∙ ap (mul t) f ∙ sym (mul-assoc t u s)
+
+-- a string and a letter on a qubit where the string has none
+pub commuting-free : (s : PauliString) (l : Letter) (q : ℕ) → q < qubits → s .letters q ≡ I → Commuting s (single l q)
+unfolding sign anticommute
+commuting-free s l q h e = commuting-sign s (single l q) (sign-single s l q h ∙ ap (λ a. sign (anticommute a l)) e)
+
+pub commuting-singles : (a b : Letter) (q r : ℕ) → r < qubits → q ≢ r → Commuting (single a q) (single b r)
+commuting-singles a b q r h d = commuting-free (single a q) b r h (single-off a q r (λ e. d (sym e)))
 
 -- (a b) (c d) = (a c) (b d) where b and c commute
 pub exchange : (a b c d : PauliString) → Commuting b c → mul (mul a b) (mul c d) ≡ mul (mul a c) (mul b d)
@@ -41,7 +54,8 @@ sign-injective false false e = refl
 
 pub mul-commute : (s t : PauliString) (b : Bool) → mul s t ≡ scale (sign (not b)) (mul t s) → commute s t ≡ b
 mul-commute s t b e =
-    not-injective (commute s t) b (sign-injective (not (commute s t)) (not b) (sym (commute-sign s t) ∙ sym (sign-only (sign (not b)) s t e)))
+    not-injective (commute s t) b
+    (sign-injective (not (commute s t)) (not b) (sym (commute-sign s t) ∙ sym (sign-only (sign (not b)) s t e)))
   where
     not-injective : (b c : Bool) → not b ≡ not c → b ≡ c
     not-injective true true e = refl

@@ -28,7 +28,8 @@ module _ (a b : Tableau) (q : ℕ) (h : q < qubits) where
   compose-generator g = elim (decLt q (max (a .width) (b .width))) [
     | yes k ↦ image-own (compose a b) q (generator g) k ∙ row g ∙ apply-widen (max (a .width) (b .width)) a (imageOf b q (generator g))
     | no k ↦ image-above (compose a b) q (generator g) (omega arith)
-        ∙ sym (ap (apply a) (image-above b q (generator g) (omega arith)) ∙ apply-single a (generator g) q h ∙ image-above a q (generator g) (omega arith))
+        ∙ sym (ap (apply a) (image-above b q (generator g) (omega arith))
+        ∙ apply-single a (generator g) q h ∙ image-above a q (generator g) (omega arith))
   ]
     where
       row : (g : Generator)
@@ -43,7 +44,8 @@ module _ (a b : Tableau) (q : ℕ) (h : q < qubits) where
   image-compose c Z = compose-generator ofZ
   image-compose c Y =
       image-Y (compose a b) q h ∙ ap₂ (λ x z. scale PlusI (mul x z)) (compose-generator ofX) (compose-generator ofZ)
-      ∙ sym (ap (apply a) (image-Y b q h) ∙ apply-scale a PlusI (mul (imageOf b q X) (imageOf b q Z)) ∙ ap (scale PlusI) (apply-mul a c (imageOf b q X) (imageOf b q Z)))
+      ∙ sym (ap (apply a) (image-Y b q h) ∙ apply-scale a PlusI (mul (imageOf b q X) (imageOf b q Z))
+      ∙ ap (scale PlusI) (apply-mul a c (imageOf b q X) (imageOf b q Z)))
 
 -- ---- strings are sent by b, then a
 applyTo-compose : (k : ℕ) → k ≤ qubits → (a b : Tableau) → Clifford a → (s : PauliString)

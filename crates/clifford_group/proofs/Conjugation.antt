@@ -29,7 +29,8 @@ module _ (t : Tableau) (v : ImagesMultiply qubits t) where
   applyTo-apart : (k r : ℕ) → k ≤ r → r < qubits → (s : PauliString) (b : Letter) → Commuting (imageOf t r b) (applyTo k t s)
   unfolding applyTo
   applyTo-apart zero r h l s b =
-      subst (Commuting (imageOf t r b)) (sym (applyTo-start t s)) (commuting-scale (s .phase) (imageOf t r b) identityString (commuting-identity (imageOf t r b)))
+      subst (Commuting (imageOf t r b)) (sym (applyTo-start t s))
+      (commuting-scale (s .phase) (imageOf t r b) identityString (commuting-identity (imageOf t r b)))
   applyTo-apart (suc k) r h l s b =
       commuting-mul (imageOf t r b) (applyTo k t s) (imageOf t k (s .letters k)) (applyTo-apart k r (omega arith) l s b)
       (v .apart r k b (s .letters k) l (omega arith) (omega arith))
@@ -42,7 +43,8 @@ module _ (t : Tableau) (v : ImagesMultiply qubits t) where
       ∙ ap (scale (s .phase · u .phase)) (identity-mul identityString) ∙ sym (applyTo-start t (joined s u))
       ∙ sym (scale-one (applyTo zero t (joined s u)))
   applyTo-mul (suc k) h s u =
-      exchange (applyTo k t s) (imageOf t k (s .letters k)) (applyTo k t u) (imageOf t k (u .letters k)) (applyTo-apart k k (le-refl k) h u (s .letters k))
+      exchange (applyTo k t s) (imageOf t k (s .letters k)) (applyTo k t u) (imageOf t k (u .letters k))
+      (applyTo-apart k k (le-refl k) h u (s .letters k))
       ∙ ap₂ mul (applyTo-mul k (omega arith) s u) (v .together k (s .letters k) (u .letters k) h)
       ∙ scale-both _ _ _ _
 
@@ -64,7 +66,8 @@ module _ (t : Tableau) (c : Clifford t) where
   pub sign-apply : (s u : PauliString) → commutationSign (apply t s) (apply t u) ≡ commutationSign s u
   sign-apply s u =
       sym (sign-only (commutationSign s u) (apply t s) (apply t u)
-      (sym (apply-mul s u) ∙ ap (apply t) (mul-swap s u) ∙ apply-scale t (commutationSign s u) (mul u s) ∙ ap (scale (commutationSign s u)) (apply-mul u s)))
+      (sym (apply-mul s u) ∙ ap (apply t) (mul-swap s u) ∙ apply-scale t (commutationSign s u) (mul u s)
+      ∙ ap (scale (commutationSign s u)) (apply-mul u s)))
 
   pub real-apply : (s : PauliString) → isReal (s .phase) ≡ true → isReal (apply t s .phase) ≡ true
   real-apply s e = squares-real (apply t s) (sym (apply-mul s s) ∙ ap (apply t) (real-squares s e) ∙ apply-identity t)

@@ -8,8 +8,8 @@ use Rattle.pauli_group.specs.Letter.{Letter, letterPhase, letterMul}
 use Rattle.pauli_group.specs.PauliString.{PauliString, qubits, mul, scale, single, Within}
 use Rattle.pauli_group.proofs.Strings.{within-single}
 use Rattle.clifford_group.specs.Tableau.{Tableau, imageOf, apply, widen, isValid, Proper, Same}
-use Rattle.clifford_group.proofs.Singles.{mul-singles, sign-apart}
-use Rattle.clifford_group.proofs.Commuting.{commuting-sign}
+use Rattle.clifford_group.proofs.Singles.{mul-singles}
+use Rattle.clifford_group.proofs.Commuting.{commuting-singles}
 use Rattle.clifford_group.proofs.Images.{alike-widen, same-alike}
 use Rattle.clifford_group.proofs.Apply.{apply-widen, apply-scale, apply-single}
 use Rattle.clifford_group.proofs.Multiply.{ImagesMultiply, everywhere-valid}
@@ -36,7 +36,7 @@ multiplicative-valid t n m = everywhere-valid t n everywhere
           ∙ apply-scale t (letterPhase a b) (single (letterMul a b) q)
           ∙ ap (scale (letterPhase a b)) (apply-single t (letterMul a b) q h);
       apart =
-          λ q r a b h k d. product q r a b h k ∙ ap (apply t) (commuting-sign (single a q) (single b r) (sign-apart a b q r k d))
+          λ q r a b h k d. product q r a b h k ∙ ap (apply t) (commuting-singles a b q r k d)
           ∙ sym (product r q b a k h);
     }
 
@@ -59,7 +59,8 @@ alike-iff-same a b h k = (same, alike)
 
     same : SendAlike a b → SameWidened a b
     same e = same-alike (widen n a) (widen n b) (unfold widen in omega arith) (unfold widen in omega arith)
-        (λ q l m. alike-widen n a q l m ∙ sym (apply-single a l q m) ∙ e (single l q) (within-single qubits l q m) ∙ apply-single b l q m ∙ sym (alike-widen n b q l m))
+        (λ q l m. alike-widen n a q l m ∙ sym (apply-single a l q m) ∙ e (single l q) (within-single qubits l q m)
+        ∙ apply-single b l q m ∙ sym (alike-widen n b q l m))
 
     alike : SameWidened a b → SendAlike a b
     alike e s m = sym (apply-widen n a s) ∙ apply-same (widen n a) (widen n b) e s ∙ apply-widen n b s

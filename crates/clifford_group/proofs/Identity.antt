@@ -14,8 +14,8 @@ use Rattle.pauli_group.proofs.Laws.{·-one, letterMul-I, I-letterMul, letterPha
 use Rattle.pauli_group.proofs.Products.{productTo-one}
 use Rattle.pauli_group.proofs.Strings.{string-ext, within-single}
 use Rattle.clifford_group.specs.Tableau.{Tableau, identityTableau, applyTo, apply, widen, Proper, Clifford}
-use Rattle.clifford_group.proofs.Singles.{mul-singles, sign-apart}
-use Rattle.clifford_group.proofs.Commuting.{commuting-sign}
+use Rattle.clifford_group.proofs.Singles.{mul-singles}
+use Rattle.clifford_group.proofs.Commuting.{commuting-singles}
 use Rattle.clifford_group.proofs.Images.{image-identity, within-image}
 use Rattle.clifford_group.proofs.Multiply.{ImagesMultiply, everywhere-valid, isValid-widen}
 
@@ -78,7 +78,7 @@ multiply-identity w = record {
       ∙ ap (scale (letterPhase a b)) (sym (image-identity w q (letterMul a b) h));
   apart =
       λ q r a b h k d. ap₂ mul (image-identity w q a h) (image-identity w r b k)
-      ∙ commuting-sign (single a q) (single b r) (sign-apart a b q r k d)
+      ∙ commuting-singles a b q r k d
       ∙ ap₂ mul (sym (image-identity w r b k)) (sym (image-identity w q a h));
 }
 

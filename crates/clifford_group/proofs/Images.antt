@@ -23,8 +23,9 @@ unfolding imageOf
 image-above t q l h = ap (λ b. cond b (rowImage t q l) (single l q)) (le-ltb q (t .width) h)
 
 pub image-I : (t : Tableau) (q : ℕ) → imageOf t q I ≡ identityString
+unfolding rowImage
 image-I t q =
-    elim (decLt q (t .width)) [ yes h ↦ image-own t q I h ∙ (unfold rowImage in refl) | no h ↦ image-above t q I (omega arith) ∙ single-I q ]
+    elim (decLt q (t .width)) [ yes h ↦ image-own t q I h | no h ↦ image-above t q I (omega arith) ∙ single-I q ]
 
 single-Y : (q : ℕ) → q < qubits → single Y q ≡ scale PlusI (mul (single X q) (single Z q))
 unfolding letterProduct letterPhase letterMul _·_ negate turn

@@ -13,8 +13,8 @@ use Rattle.pauli_group.proofs.Laws.{·-one, conjugate-·}
 use Rattle.pauli_group.proofs.Strings.{string-ext, sign-sym, sign-single, sign-local, within-mul, within-scale, within-single}
 use Rattle.clifford_group.specs.Tableau.{Tableau, identityTableau, rowImage, imageOf, apply, compose, hasX, hasZ, letterOf}
 use Rattle.clifford_group.specs.Tableau.{transposed, inverseRow, inverse, Proper, Clifford, Same}
-use Rattle.clifford_group.proofs.Singles.{single-off, mul-singles, sign-apart, letter-bits, hasX-anticommute, hasZ-anticommute}
-use Rattle.clifford_group.proofs.Commuting.{commuting-sign, sign-injective}
+use Rattle.clifford_group.proofs.Singles.{single-off, mul-singles, letter-bits, hasX-anticommute, hasZ-anticommute}
+use Rattle.clifford_group.proofs.Commuting.{commuting-singles, sign-injective}
 use Rattle.clifford_group.proofs.Images.{image-own, image-above, image-identity, image-generators, Generator, ofX, ofZ}
 use Rattle.clifford_group.proofs.Images.{generator, same-images, Alike, within-image}
 use Rattle.clifford_group.proofs.Apply.{apply-alike, apply-letters, apply-scale, apply-single, apply-within}
@@ -65,13 +65,14 @@ transposed-letters : (t : Tableau) (g : Generator) (q c : ℕ) → q < t .width
 unfolding transposed columnLetter rowImage anticommute letterOf
 transposed-letters t g q c h = go (decLt c (t .width))
   where
+    bit : PauliString → Bool
+    bit s = anticommute (s .letters q) (generator g)
+
     own : c < t .width → (l : Letter) → columnBit g (rowImage t c l .letters q) ≡ anticommute (imageOf t c l .letters q) (generator g)
-    own k l =
-        sym (ap (λ (s : PauliString). anticommute (s .letters q) (generator g)) (image-own t c l k) ∙ bit-anticommute g (rowImage t c l .letters q))
+    own k l = sym (ap bit (image-own t c l k) ∙ bit-anticommute g (rowImage t c l .letters q))
 
     above : t .width ≤ c → (l : Letter) → false ≡ anticommute (imageOf t c l .letters q) (generator g)
-    above k l =
-        sym (ap (λ (s : PauliString). anticommute (s .letters q) (generator g)) (image-above t c l k) ∙ ap (λ a. anticommute a (generator g)) (single-off l c q (omega arith)))
+    above k l = sym (ap bit (image-above t c l k) ∙ ap (λ a. anticommute a (generator g)) (single-off l c q (omega arith)))
 
     go : Dec (c < t .width) → transposed t (columnBit g) q .letters c ≡ columnLetter t (generator g) q c
     go (yes k) =
@@ -102,12 +103,15 @@ module _ (t : Tableau) (c : Clifford t) where
       → (d : ℕ) → apply t s .letters d ≡ single l q .letters d
   unfolding plain
   column-sent l q h s p e d = elim (decLt d qubits) [
-    | yes k ↦ ap (λ (u : PauliString). u .letters d) (apply-letters t s (plain (found .0)) p (λ i j. e i j ∙ sym (column-only l q h (found .0) (found .1) i j))) ∙ sym (found .1 d k)
+    | yes k ↦ ap (λ (u : PauliString). u .letters d) same ∙ sym (found .1 d k)
     | no k ↦ apply-within t (c .proper) s d (omega arith) ∙ sym (within-single qubits l q h d (omega arith))
   ]
     where
       found : (a : ℕ → Letter) × ((d : ℕ) → d < qubits → single l q .letters d ≡ apply t (plain a) .letters d)
       found = reached qubits (λ a. apply t (plain a) .letters) (λ a b. letters-injective t c (plain a) (plain b)) (single l q .letters)
+
+      same : apply t s ≡ apply t (plain (found .0))
+      same = apply-letters t s (plain (found .0)) p (λ i j. e i j ∙ sym (column-only l q h (found .0) (found .1) i j))
 
   -- ---- the inverse's images are sent to the letters that they stand for
   row-sent : (g : Generator) (q : ℕ) → q < t .width → apply t (inverseRow t (columnBit g) q) ≡ single (generator g) q
@@ -133,7 +137,8 @@ module _ (t : Tableau) (c : Clifford t) where
       sent : apply t (imageOf (inverse t) q (generator g)) ≡ single (generator g) q
       sent = elim (decLt q (t .width)) [
         | yes k ↦ ap (apply t) (inverse-row t q g k) ∙ row-sent g q k
-        | no k ↦ ap (apply t) (image-above (inverse t) q (generator g) (omega (arith, width-inverse t))) ∙ apply-single t (generator g) q h ∙ image-above t q (generator g) (omega arith)
+        | no k ↦ ap (apply t) (image-above (inverse t) q (generator g) (omega (arith, width-inverse t)))
+            ∙ apply-single t (generator g) q h ∙ image-above t q (generator g) (omega arith)
       ]
 
   alike-inverse : Alike (compose t (inverse t)) (identityTableau (t .width))
@@ -144,15 +149,16 @@ module _ (t : Tableau) (c : Clifford t) where
 
   pub compose-inverse : Same (compose t (inverse t)) (identityTableau (t .width))
   compose-inverse =
-      same-images (compose t (inverse t)) (identityTableau (t .width)) (omega (arith, width-compose t (inverse t), width-inverse t, width-identity (t .width)))
+      same-images (compose t (inverse t)) (identityTableau (t .width))
+      (omega (arith, width-compose t (inverse t), width-inverse t, width-identity (t .width)))
       (λ q g h. generator-sent q g (omega (arith, c .proper .narrow, width-compose t (inverse t), width-inverse t)))
 
   -- ---- it is valid: what is sent to equal strings is equal
-  proper : Proper (inverse t)
-  proper = proper-inverse t (c .proper .narrow)
+  pub inverse-proper : Proper (inverse t)
+  inverse-proper = proper-inverse t (c .proper .narrow)
 
   within : (q : ℕ) (l : Letter) → q < qubits → Within qubits (imageOf (inverse t) q l)
-  within q l h = within-image (inverse t) proper qubits (proper .narrow) q h l
+  within q l h = within-image (inverse t) inverse-proper qubits (inverse-proper .narrow) q h l
 
   product-sent : (q r : ℕ) (a b : Letter) → q < qubits → r < qubits
       → apply t (mul (imageOf (inverse t) q a) (imageOf (inverse t) r b)) ≡ mul (single a q) (single b r)
@@ -164,15 +170,16 @@ module _ (t : Tableau) (c : Clifford t) where
   within-product q r a b h k = within-mul qubits (imageOf (inverse t) q a) (imageOf (inverse t) r b) (within q a h) (within r b k)
 
   pub clifford-inverse : Clifford (inverse t)
-  clifford-inverse = record { proper = proper; valid = everywhere-valid (inverse t) (proper .narrow) everywhere }
+  clifford-inverse = record { proper = inverse-proper; valid = everywhere-valid (inverse t) (inverse-proper .narrow) everywhere }
     where
       everywhere : ImagesMultiply qubits (inverse t)
       everywhere = record {
-        together =
-            λ q a b h. apply-injective t c _ _ (within-product q q a b h h) (within-scale qubits (letterPhase a b) _ (within q (letterMul a b) h))
-            (product-sent q q a b h h ∙ mul-singles a b q h ∙ sym (apply-scale t (letterPhase a b) _ ∙ ap (scale (letterPhase a b)) (image-sent q (letterMul a b) h)));
+        together = λ q a b h. apply-injective t c _ _ (within-product q q a b h h)
+            (within-scale qubits (letterPhase a b) _ (within q (letterMul a b) h))
+            (product-sent q q a b h h ∙ mul-singles a b q h
+            ∙ sym (apply-scale t (letterPhase a b) _ ∙ ap (scale (letterPhase a b)) (image-sent q (letterMul a b) h)));
         apart = λ q r a b h k d. apply-injective t c _ _ (within-product q r a b h k) (within-product r q b a k h)
-            (product-sent q r a b h k ∙ commuting-sign (single a q) (single b r) (sign-apart a b q r k d) ∙ sym (product-sent r q b a k h));
+            (product-sent q r a b h k ∙ commuting-singles a b q r k d ∙ sym (product-sent r q b a k h));
       }
 
   -- ---- from the other side
@@ -183,11 +190,13 @@ module _ (t : Tableau) (c : Clifford t) where
 
   pub inverse-apply : (s : PauliString) → Within qubits s → apply (inverse t) (apply t s) ≡ s
   inverse-apply s h =
-      apply-injective t c (apply (inverse t) (apply t s)) s (apply-within (inverse t) proper (apply t s)) h (apply-inverse (apply t s) (apply-within t (c .proper) s))
+      apply-injective t c (apply (inverse t) (apply t s)) s (apply-within (inverse t) inverse-proper (apply t s)) h
+      (apply-inverse (apply t s) (apply-within t (c .proper) s))
 
   pub inverse-compose : Same (compose (inverse t) t) (identityTableau (t .width))
   inverse-compose =
-      same-images (compose (inverse t) t) (identityTableau (t .width)) (omega (arith, width-compose (inverse t) t, width-inverse t, width-identity (t .width)))
+      same-images (compose (inverse t) t) (identityTableau (t .width))
+      (omega (arith, width-compose (inverse t) t, width-inverse t, width-identity (t .width)))
       (λ q g h. let k : q < qubits = omega (arith, c .proper .narrow, width-compose (inverse t) t, width-inverse t) in
       compose-generator (inverse t) t q k g ∙ ap (apply (inverse t)) (sym (apply-single t (generator g) q k))
       ∙ inverse-apply (single (generator g) q) (within-single qubits (generator g) q k)

@@ -1,21 +1,21 @@
 -- Where a tableau is valid the images of its qubits multiply as their letters do, and only there; of a proper one then all
 -- images below `qubits` do.
-use mathlib.Core.Path.{_≡_, refl, sym, ap, ap₂, _∙_}
+use mathlib.Core.Path.{_≡_, sym, ap, ap₂, _∙_, subst}
 use mathlib.Core.Bool.{true, false}
 use mathlib.Core.Logic.{_≢_}
 use Prim.Native.Nat.{ℕ, _≤_, _<_}
-use native.Mathlib.Nat.{le-trans}
+use native.Mathlib.Nat.{le-refl, le-trans}
 use native.Mathlib.Omega.{arith}
 use native.Mathlib.Decide.{decLt}
 use Rattle.pauli_group.specs.Phase.{MinusOne, PlusI, negate, turn, _·_, sign}
-use Rattle.pauli_group.specs.Letter.{Letter, I, X, Z, Y, letterProduct, letterPhase, letterMul, anticommute}
+use Rattle.pauli_group.specs.Letter.{Letter, I, X, Z, Y, letterProduct, letterPhase, letterMul}
 use Rattle.pauli_group.specs.PauliString.{PauliString, qubits, mul, identityString, scale, single}
 use Rattle.pauli_group.proofs.Laws.{letterMul-self, letterPhase-self}
 use Rattle.pauli_group.proofs.Strings.{scale-scale, scale-one, scale-mul, mul-scale, mul-assoc, identity-mul, mul-identity}
-use Rattle.pauli_group.proofs.Strings.{sign-single, real-squares, squares-real, commute-mul, anticommute-mul}
+use Rattle.pauli_group.proofs.Strings.{real-squares, squares-real, commute-mul, anticommute-mul}
 use Rattle.clifford_group.specs.Tableau.{Tableau, rowImage, imageOf, widen, isValid, Proper, Clifford}
-use Rattle.clifford_group.proofs.Singles.{mul-singles, sign-apart}
-use Rattle.clifford_group.proofs.Commuting.{Commuting, commuting-sign, commuting-identity, commuting-scale, commuting-mul}
+use Rattle.clifford_group.proofs.Singles.{mul-singles}
+use Rattle.clifford_group.proofs.Commuting.{Commuting, commuting-free, commuting-singles, commuting-identity, commuting-scale, commuting-mul}
 use Rattle.clifford_group.proofs.Commuting.{mul-commute}
 use Rattle.clifford_group.proofs.Images.{image-own, image-above, image-I, Generator, ofX, ofZ, generator, row, image-row}
 use Rattle.clifford_group.proofs.Images.{alike-widen, within-image}
@@ -54,7 +54,8 @@ rows-together t v q h = go
 
     zx : mul z x ≡ scale MinusOne (mul x z)
     zx =
-        sym (ap (scale MinusOne) (anticommute-mul x z (v .anticommuting q h)) ∙ scale-scale MinusOne MinusOne (mul z x) ∙ scale-one (mul z x))
+        sym (ap (scale MinusOne) (anticommute-mul x z (v .anticommuting q h))
+        ∙ scale-scale MinusOne MinusOne (mul z x) ∙ scale-one (mul z x))
 
     x-x′ : (s : PauliString) → mul x (mul x s) ≡ s
     x-x′ = x-x x z xx zz zx
@@ -111,7 +112,8 @@ multiply-valid t m = record {
       (own ofX ofZ q q h h ∙ m .together q X Z h
       ∙ sym (ap (scale MinusOne) (own ofZ ofX q q h h ∙ m .together q Z X h) ∙ scale-scale MinusOne PlusI (imageOf t q Y)));
   commuting = λ g k q r h l d. mul-commute (row t g q) (row t k r) true
-      (own g k q r h l ∙ m .apart q r (generator g) (generator k) h l d ∙ sym (own k g r q l h) ∙ sym (scale-one (mul (row t k r) (row t g q))));
+      (own g k q r h l ∙ m .apart q r (generator g) (generator k) h l d ∙ sym (own k g r q l h)
+      ∙ sym (scale-one (mul (row t k r) (row t g q))));
 }
   where
     own : (g k : Generator) (q r : ℕ) → q < t .width → r < t .width
@@ -143,7 +145,8 @@ pub multiply-everywhere : (t : Tableau) → Clifford t → ImagesMultiply qubits
 multiply-everywhere t c = record {
   together = λ q a b h. elim (decLt q (t .width)) [
     | yes l ↦ m .together q a b l
-    | no l ↦ ap₂ mul (above q a (omega arith)) (above q b (omega arith)) ∙ mul-singles a b q h ∙ ap (scale (letterPhase a b)) (sym (above q (letterMul a b) (omega arith)))
+    | no l ↦ ap₂ mul (above q a (omega arith)) (above q b (omega arith)) ∙ mul-singles a b q h
+        ∙ ap (scale (letterPhase a b)) (sym (above q (letterMul a b) (omega arith)))
   ];
   apart = λ q r a b h k d. rows q r a b h k d (decLt q (t .width)) (decLt r (t .width));
 }
@@ -157,10 +160,8 @@ multiply-everywhere t c = record {
     -- an own row and a letter beside it
     beside : (q r : ℕ) (a b : Letter) → r < qubits → q < t .width → t .width ≤ r → Commuting (imageOf t q a) (imageOf t r b)
     beside q r a b k i j =
-        ap (mul (imageOf t q a)) (above r b j)
-        ∙ commuting-sign (imageOf t q a) (single b r)
-        (sign-single (imageOf t q a) b r k ∙ ap (λ l. sign (anticommute l b)) (within-image t (c .proper) (t .width) (omega arith) q i a r j) ∙ (unfold sign anticommute in refl))
-        ∙ ap (λ s. mul s (imageOf t q a)) (sym (above r b j))
+        subst (Commuting (imageOf t q a)) (sym (above r b j))
+        (commuting-free (imageOf t q a) b r k (within-image t (c .proper) (t .width) (le-refl (t .width)) q i a r j))
 
     rows : (q r : ℕ) (a b : Letter) → q < qubits → r < qubits → q ≢ r → Dec (q < t .width) → Dec (r < t .width)
         → Commuting (imageOf t q a) (imageOf t r b)
@@ -168,7 +169,7 @@ multiply-everywhere t c = record {
     rows q r a b h k d (yes i) (no j) = beside q r a b k i (omega arith)
     rows q r a b h k d (no i) (yes j) = sym (beside r q b a h j (omega arith))
     rows q r a b h k d (no i) (no j) =
-        ap₂ mul (above q a (omega arith)) (above r b (omega arith)) ∙ commuting-sign (single a q) (single b r) (sign-apart a b q r k d)
+        ap₂ mul (above q a (omega arith)) (above r b (omega arith)) ∙ commuting-singles a b q r k d
         ∙ ap₂ mul (sym (above r b (omega arith))) (sym (above q a (omega arith)))
 
 pub everywhere-valid : (t : Tableau) → t .width ≤ qubits → ImagesMultiply qubits t → isValid t ≡ true
@@ -180,7 +181,8 @@ isValid-widen n k t p = test-equal (widen n t) t
     (λ v. multiply-valid t (multiply-images (t .width) (widen n t) t (λ q l h. alike-widen n t q l (le-trans h (p .narrow)))
     (multiply-fewer (t .width) (widen n t .width) (widen n t) wider (valid-multiply (widen n t) v))))
     (λ v. multiply-valid (widen n t) (multiply-fewer (widen n t .width) qubits (widen n t) narrow
-    (multiply-images qubits t (widen n t) (λ q l h. sym (alike-widen n t q l h)) (multiply-everywhere t (record { proper = p; valid = valid-test t v })))))
+    (multiply-images qubits t (widen n t) (λ q l h. sym (alike-widen n t q l h))
+    (multiply-everywhere t (record { proper = p; valid = valid-test t v })))))
   where
     wider : t .width ≤ widen n t .width
     wider = unfold widen in omega arith

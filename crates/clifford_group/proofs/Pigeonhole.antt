@@ -51,14 +51,16 @@ pigeonhole : (k : ℕ) (f : ℕ → ℕ) → ((i : ℕ) → i ≤ k → f i < k)
 pigeonhole zero f h = absurd (not-suc-le-zero (h 0 (le-refl 0)))
 pigeonhole (suc k) f h =
     step (find f (f (suc k)) (suc k))
-    (λ r. pigeonhole k (λ i. squeeze (f (suc k)) (f i)) (λ i l. squeeze-lt k (f (suc k)) (f i) (r i (omega arith)) (h i (omega arith)) (h (suc k) (le-refl (suc k)))))
+    (λ r. pigeonhole k (λ i. squeeze (f (suc k)) (f i))
+    (λ i l. squeeze-lt k (f (suc k)) (f i) (r i (omega arith)) (h i (omega arith)) (h (suc k) (le-refl (suc k)))))
   where
     step : Found f (f (suc k)) (suc k) ⊎ Absent f (f (suc k)) (suc k)
         → (Absent f (f (suc k)) (suc k) → Repeats (λ i. squeeze (f (suc k)) (f i)) k) → Repeats f (suc k)
     step (inl w) rest = (w .0, suc k, w .1, le-refl (suc k), w .2)
     step (inr r) rest =
         let w = rest r in
-        (w .0, w .1, w .2, omega arith, squeeze-injective (f (suc k)) (f (w .0)) (f (w .1)) (r (w .0) (omega arith)) (r (w .1) (omega arith)) (w .4))
+        let same = squeeze-injective (f (suc k)) (f (w .0)) (f (w .1)) (r (w .0) (omega arith)) (r (w .1) (omega arith)) (w .4) in
+        (w .0, w .1, w .2, omega arith, same)
 
 -- ---- the letters below n as one number
 digit : Letter → ℕ

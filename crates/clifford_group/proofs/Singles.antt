@@ -1,17 +1,17 @@
--- Strings of one letter: their products and signs; and a letter is known by its signs with X and Z.
-use mathlib.Core.Path.{_≡_, refl, sym, ap, _∙_}
+-- Strings of one letter and their products. And a letter is known by what it anticommutes with.
+use mathlib.Core.Path.{_≡_, refl, ap, _∙_}
 use mathlib.Core.Bool.{Bool, true, false, cond}
 use mathlib.Core.Logic.{_≢_}
 use Prim.Native.Nat.{ℕ, _<_}
 use lib.Dec.{eqb}
 use borrow.Author.Tests.{eq-eqb, ne-eqb}
-use Rattle.pauli_group.specs.Phase.{Phase, PlusOne, _·_, sign}
+use Rattle.pauli_group.specs.Phase.{Phase, PlusOne, _·_}
 use Rattle.pauli_group.specs.Letter.{Letter, I, X, Z, letterProduct, letterPhase, letterMul, anticommute}
-use Rattle.pauli_group.specs.PauliString.{qubits, productTo, phaseOfLetters, mul, identityString, scale, single, commutationSign}
+use Rattle.pauli_group.specs.PauliString.{qubits, productTo, phaseOfLetters, mul, identityString, scale, single}
 use Rattle.pauli_group.proofs.Finite.{letters, bools, law1}
 use Rattle.pauli_group.proofs.Laws.{·-comm, one-·}
 use Rattle.pauli_group.proofs.Products.{productTo-at}
-use Rattle.pauli_group.proofs.Strings.{string-ext, sign-single}
+use Rattle.pauli_group.proofs.Strings.{string-ext}
 use Rattle.clifford_group.specs.Tableau.{hasX, hasZ, letterOf}
 
 pub single-I : (q : ℕ) → single I q ≡ identityString
@@ -43,20 +43,13 @@ mul-singles l m q h =
 
     phases : PlusOne · PlusOne · productTo qubits (λ c. factor (eqb c q)) ≡ letterPhase l m · PlusOne
     phases =
-        ap (λ p. PlusOne · PlusOne · p) (productTo-at qubits q (λ c. factor (eqb c q)) h (λ c d. ap factor (ne-eqb c q d)) ∙ ap factor (eq-eqb q q refl))
+        ap (λ p. PlusOne · PlusOne · p)
+        (productTo-at qubits q (λ c. factor (eqb c q)) h (λ c d. ap factor (ne-eqb c q d)) ∙ ap factor (eq-eqb q q refl))
         ∙ ap (λ p. p · letterPhase l m) (one-· PlusOne) ∙ ·-comm PlusOne (letterPhase l m)
 
     place : (b : Bool) → letterMul (cond b l I) (cond b m I) ≡ cond b (letterMul l m) I
     place true = refl
     place false = refl
-
--- the sign of two single letters: on one qubit that of the letters, on two qubits +1
-pub sign-together : (l m : Letter) (q : ℕ) → q < qubits → commutationSign (single l q) (single m q) ≡ sign (anticommute l m)
-sign-together l m q h = sign-single (single l q) m q h ∙ ap (λ a. sign (anticommute a m)) (single-at l q)
-
-pub sign-apart : (l m : Letter) (q r : ℕ) → r < qubits → q ≢ r → commutationSign (single l q) (single m r) ≡ PlusOne
-unfolding sign anticommute
-sign-apart l m q r h d = sign-single (single l q) m r h ∙ ap (λ a. sign (anticommute a m)) (single-off l q r (λ e. d (sym e)))
 
 -- ---- a letter and its bits
 pub letter-bits : (a : Letter) → a ≡ letterOf (anticommute a Z) (anticommute a X)

@@ -1,5 +1,5 @@
--- Clifford tableaux: the images of X and Z on each qubit (Gottesman, section 3; Aaronson and Gottesman, section III), and what
--- the scope document's section "Tableau record" says of them.
+-- Clifford tableaux: the images of X and Z on each qubit (Gottesman; Aaronson and Gottesman, section III). The rules are those of
+-- the scope document, section "Tableau record".
 use mathlib.Core.Path.{_≡_}
 use mathlib.Core.Bool.{Bool, true, false, cond, not, _&&_}
 use Prim.Native.Nat.{ℕ, zero, suc, _≤_, _<_, max}
@@ -20,14 +20,14 @@ identityTableau w = record { width = w; xImage = single X; zImage = single Z }
 
 -- ---- apply
 
--- what row q makes of a letter: the X image for X, the Z image for Z, and i times X image times Z image for Y
+-- by rows: the X image for X, the Z image for Z, and i times X image times Z image for Y
 unfoldable pub rowImage : Tableau → ℕ → Letter → PauliString
 rowImage t q I = identityString
 rowImage t q X = t .xImage q
 rowImage t q Z = t .zImage q
 rowImage t q Y = scale PlusI (mul (t .xImage q) (t .zImage q))
 
--- the image of a letter on qubit q. Letters at the width or above pass through.
+-- the image of a letter on qubit q: below the width by rows; letters at the width or above pass through
 unfoldable pub imageOf : Tableau → ℕ → Letter → PauliString
 imageOf t q l = cond (ltb q (t .width)) (rowImage t q l) (single l q)
 
@@ -42,7 +42,7 @@ apply t s = applyTo qubits t s
 
 -- ---- compose
 
--- widened to width n by identity rows; a smaller n changes nothing
+-- widened to width n: identity rows follow the tableau's own; a smaller n gives a copy
 unfoldable pub widen : ℕ → Tableau → Tableau
 widen n t = record { width = max (t .width) n; xImage = λ q. imageOf t q X; zImage = λ q. imageOf t q Z }
 
@@ -99,15 +99,15 @@ letterOf true false = X
 letterOf false true = Z
 letterOf true true = Y
 
--- Letters by the symplectic transpose: the letter at c has its x bit from Z row c and its z bit from X row c, read in column q.
--- The bit read is the z bit for the inverse's X row q, and the x bit for its Z row q.
+-- Letters by the symplectic transpose, as in the Rust: at c the x bit comes from Z row c and the z bit from X row c, both read
+-- in column q. The bit read there is the z bit for the inverse's X row q and the x bit for its Z row q.
 unfoldable pub transposed : Tableau → (Letter → Bool) → ℕ → PauliString
 transposed t bit q = record {
   phase = PlusOne;
   letters = λ c. cond (ltb c (t .width)) (letterOf (bit (t .zImage c .letters q)) (bit (t .xImage c .letters q))) I;
 }
 
--- that body, with the conjugate of the phase met when it is sent forward
+-- that body, with the conjugate of the phase met when the body is sent forward
 unfoldable pub inverseRow : Tableau → (Letter → Bool) → ℕ → PauliString
 inverseRow t bit q = record { phase = conjugate (apply t (transposed t bit q) .phase); letters = transposed t bit q .letters }
 
@@ -116,13 +116,13 @@ inverse t = record { width = t .width; xImage = inverseRow t hasZ; zImage = inve
 
 -- ---- which tableaux are meant, and when two are the same
 
--- what a record holds: at most `qubits` qubits, and in its own rows no letter at the width or above
+-- what a record holds: a width up to `qubits`, and rows with no letter at the width or above
 pub record Proper (t : Tableau) : Type 0 where
   pub narrow : t .width ≤ qubits
   pub xWithin : (q : ℕ) → q < t .width → Within (t .width) (t .xImage q)
   pub zWithin : (q : ℕ) → q < t .width → Within (t .width) (t .zImage q)
 
--- a valid tableau of that kind: it stands for a Clifford operation
+-- such a tableau that is valid
 pub record Clifford (t : Tableau) : Type 0 where
   pub proper : Proper t
   pub valid : isValid t ≡ true
