@@ -94,7 +94,7 @@ within-apply t p n w s h = applyTo-within qubits n t s each
   where
     each : (q : ℕ) → q < qubits → Within n (imageOf t q (s .letters q))
     each q l = elim (decLt q n) [
-      | yes k ↦ within-image t p n w q k (s .letters q)
+      | yes k ↦ within-image t p n w q (s .letters q) k
       | no k ↦ subst (Within n) (sym (ap (imageOf t q) (h q (omega arith) l) ∙ image-I t q)) (within-identity n)
     ]
 

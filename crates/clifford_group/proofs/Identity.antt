@@ -1,23 +1,22 @@
--- The identity tableau: valid, proper, and it sends every string to itself. Widening keeps both.
-use mathlib.Core.Path.{_≡_, refl, sym, ap, ap₂, _∙_}
+-- The identity tableau sends every string to itself; it is proper and valid.
+use mathlib.Core.Path.{_≡_, refl, sym, ap, ap₂, _∙_, subst}
 use mathlib.Core.Bool.{cond}
-use Prim.Native.Nat.{ℕ, zero, suc, _≤_, max, zero-le}
+use Prim.Native.Nat.{ℕ, zero, suc, _≤_, zero-le}
 use native.Mathlib.Nat.{le-refl}
 use native.Mathlib.Omega.{arith}
 use native.Mathlib.Decide.{ℕ-discrete, decLt}
 use lib.Dec.{ltb, eqb}
 use borrow.Author.Tests.{lt-ltb, le-ltb, eq-eqb, ne-eqb}
 use Rattle.pauli_group.specs.Phase.{PlusOne, _·_}
-use Rattle.pauli_group.specs.Letter.{I, X, Z, letterPhase, letterMul}
-use Rattle.pauli_group.specs.PauliString.{PauliString, qubits, productTo, phaseOfLetters, mul, scale, single, Within}
+use Rattle.pauli_group.specs.Letter.{I, letterPhase, letterMul}
+use Rattle.pauli_group.specs.PauliString.{PauliString, qubits, productTo, phaseOfLetters, mul, single, Within}
 use Rattle.pauli_group.proofs.Laws.{·-one, letterMul-I, I-letterMul, letterPhase-I, I-letterPhase}
 use Rattle.pauli_group.proofs.Products.{productTo-one}
-use Rattle.pauli_group.proofs.Strings.{string-ext, within-single}
-use Rattle.clifford_group.specs.Tableau.{Tableau, identityTableau, applyTo, apply, widen, Proper, Clifford}
-use Rattle.clifford_group.proofs.Singles.{mul-singles}
-use Rattle.clifford_group.proofs.Commuting.{commuting-singles}
-use Rattle.clifford_group.proofs.Images.{image-identity, within-image}
-use Rattle.clifford_group.proofs.Multiply.{ImagesMultiply, everywhere-valid, isValid-widen}
+use Rattle.pauli_group.proofs.Strings.{string-ext, within-mul, within-single}
+use Rattle.clifford_group.specs.Tableau.{identityTableau, applyTo, apply, Proper, Clifford}
+use Rattle.clifford_group.proofs.Rows.{generator, rows-proper, row-identity}
+use Rattle.clifford_group.proofs.Images.{image-identity}
+use Rattle.clifford_group.proofs.Homomorphism.{multiplicative-valid}
 
 pub width-identity : (w : ℕ) → identityTableau w .width ≡ w
 unfolding identityTableau
@@ -66,36 +65,18 @@ apply-identityTableau w s h = applyTo-cut qubits w (le-refl qubits) s ∙ (unfol
       | no l ↦ ap (λ b. cond b (s .letters q) I) (le-ltb q qubits (omega arith)) ∙ sym (h q (omega arith))
     ]
 
--- ---- valid and proper
+-- ---- proper and valid
 pub proper-identity : (w : ℕ) → w ≤ qubits → Proper (identityTableau w)
 unfolding identityTableau
-proper-identity w h = record { narrow = h; xWithin = λ q l. within-single w X q l; zWithin = λ q l. within-single w Z q l }
-
-pub multiply-identity : (w : ℕ) → ImagesMultiply qubits (identityTableau w)
-multiply-identity w = record {
-  together =
-      λ q a b h. ap₂ mul (image-identity w q a h) (image-identity w q b h) ∙ mul-singles a b q h
-      ∙ ap (scale (letterPhase a b)) (sym (image-identity w q (letterMul a b) h));
-  apart =
-      λ q r a b h k d. ap₂ mul (image-identity w q a h) (image-identity w r b k)
-      ∙ commuting-singles a b q r k d
-      ∙ ap₂ mul (sym (image-identity w r b k)) (sym (image-identity w q a h));
-}
+proper-identity w h =
+    rows-proper (identityTableau w) h (λ g q l. subst (Within w) (sym (row-identity w g q)) (within-single w (generator g) q l))
 
 pub clifford-identity : (w : ℕ) → w ≤ qubits → Clifford (identityTableau w)
 clifford-identity w h = record {
   proper = proper-identity w h;
-  valid = everywhere-valid (identityTableau w) (proper-identity w h .narrow) (multiply-identity w);
+  valid = multiplicative-valid (identityTableau w) (proper-identity w h .narrow)
+      (λ s u hs hu. keeps (mul s u) (within-mul qubits s u hs hu) ∙ sym (ap₂ mul (keeps s hs) (keeps u hu)));
 }
-
--- ---- widening
-pub proper-widen : (n : ℕ) → n ≤ qubits → (t : Tableau) → Proper t → Proper (widen n t)
-unfolding widen
-proper-widen n h t p = record {
-  narrow = omega (arith, p .narrow);
-  xWithin = λ q l. within-image t p (max (t .width) n) (omega arith) q l X;
-  zWithin = λ q l. within-image t p (max (t .width) n) (omega arith) q l Z;
-}
-
-pub clifford-widen : (n : ℕ) → n ≤ qubits → (t : Tableau) → Clifford t → Clifford (widen n t)
-clifford-widen n h t c = record { proper = proper-widen n h t (c .proper); valid = isValid-widen n h t (c .proper) ∙ c .valid }
+  where
+    keeps : (s : PauliString) → Within qubits s → apply (identityTableau w) s ≡ s
+    keeps = apply-identityTableau w

@@ -1,5 +1,5 @@
 -- The inverse of a valid tableau is valid, of the same width, and an inverse from both sides.
-use mathlib.Core.Path.{_≡_, refl, sym, ap, ap₂, _∙_}
+use mathlib.Core.Path.{_≡_, refl, sym, ap, ap₂, _∙_, subst}
 use mathlib.Core.Bool.{Bool, false, cond}
 use Prim.Native.Nat.{ℕ, _≤_, _<_}
 use native.Mathlib.Nat.{le-trans}
@@ -7,21 +7,22 @@ use native.Mathlib.Omega.{arith}
 use native.Mathlib.Decide.{decLt}
 use borrow.Author.Tests.{lt-ltb, le-ltb}
 use Rattle.pauli_group.specs.Phase.{Phase, PlusOne, conjugate}
-use Rattle.pauli_group.specs.Letter.{Letter, I, X, Z, letterPhase, letterMul, anticommute}
+use Rattle.pauli_group.specs.Letter.{Letter, I, X, Z, anticommute}
 use Rattle.pauli_group.specs.PauliString.{PauliString, qubits, mul, scale, single, Within}
 use Rattle.pauli_group.proofs.Laws.{·-one, conjugate-·}
-use Rattle.pauli_group.proofs.Strings.{string-ext, sign-sym, sign-single, sign-local, within-mul, within-scale, within-single}
+use Rattle.pauli_group.proofs.Strings.{string-ext, sign-sym, sign-single, sign-local, within-mul, within-single}
 use Rattle.clifford_group.specs.Tableau.{Tableau, identityTableau, rowImage, imageOf, apply, compose, hasX, hasZ, letterOf}
 use Rattle.clifford_group.specs.Tableau.{transposed, inverseRow, inverse, Proper, Clifford, Same}
-use Rattle.clifford_group.proofs.Singles.{single-off, mul-singles, letter-bits, hasX-anticommute, hasZ-anticommute}
-use Rattle.clifford_group.proofs.Commuting.{commuting-singles, sign-injective}
-use Rattle.clifford_group.proofs.Images.{image-own, image-above, image-identity, image-generators, Generator, ofX, ofZ}
-use Rattle.clifford_group.proofs.Images.{generator, same-images, Alike, within-image}
+use Rattle.clifford_group.proofs.Singles.{single-off, letter-bits, hasX-anticommute, hasZ-anticommute}
+use Rattle.clifford_group.proofs.Commuting.{sign-injective}
+use Rattle.clifford_group.proofs.Rows.{Generator, ofX, ofZ, generator, row, rows-proper}
+use Rattle.clifford_group.proofs.Images.{image-own, image-above, image-row, image-generators, same-images, Alike}
+use Rattle.clifford_group.proofs.Images.{image-identity}
 use Rattle.clifford_group.proofs.Apply.{apply-alike, apply-letters, apply-scale, apply-single, apply-within}
-use Rattle.clifford_group.proofs.Multiply.{ImagesMultiply, everywhere-valid}
 use Rattle.clifford_group.proofs.Conjugation.{apply-mul, sign-image, letters-injective, apply-injective}
+use Rattle.clifford_group.proofs.Homomorphism.{multiplicative-valid}
 use Rattle.clifford_group.proofs.Identity.{width-identity, apply-identityTableau}
-use Rattle.clifford_group.proofs.Compose.{width-compose, compose-generator, image-compose, apply-compose}
+use Rattle.clifford_group.proofs.Compose.{width-compose, compose-generator, apply-compose}
 use Rattle.clifford_group.proofs.Pigeonhole.{reached}
 
 -- the bit that the inverse's row reads: it is 1 where the letter anticommutes with the row's generator
@@ -37,13 +38,10 @@ pub width-inverse : (t : Tableau) → inverse t .width ≡ t .width
 unfolding inverse
 width-inverse t = refl
 
-inverse-row : (t : Tableau) (q : ℕ) (g : Generator) → q < t .width → imageOf (inverse t) q (generator g) ≡ inverseRow t (columnBit g) q
-unfolding inverse rowImage
-inverse-row t q g h = image-own (inverse t) q (generator g) h ∙ row g
-  where
-    row : (g : Generator) → rowImage (inverse t) q (generator g) ≡ inverseRow t (columnBit g) q
-    row ofX = refl
-    row ofZ = refl
+row-inverse : (t : Tableau) (g : Generator) (q : ℕ) → row (inverse t) g q ≡ inverseRow t (columnBit g) q
+unfolding inverse
+row-inverse t ofX q = refl
+row-inverse t ofZ q = refl
 
 -- ---- of any tableau: proper
 pub within-transposed : (t : Tableau) (bit : Letter → Bool) (q : ℕ) → Within (t .width) (transposed t bit q)
@@ -53,7 +51,8 @@ within-transposed t bit q c h =
 
 pub proper-inverse : (t : Tableau) → t .width ≤ qubits → Proper (inverse t)
 unfolding inverse inverseRow
-proper-inverse t n = record { narrow = n; xWithin = λ q h. within-transposed t hasZ q; zWithin = λ q h. within-transposed t hasX q }
+proper-inverse t n = rows-proper (inverse t) n
+    (λ g q h. subst (Within (t .width)) (sym (row-inverse t g q)) (within-transposed t (columnBit g) q))
 
 -- ---- the letters that the transpose gives
 -- by the images of X and Z, at the width and above too
@@ -113,7 +112,7 @@ module _ (t : Tableau) (c : Clifford t) where
       same : apply t s ≡ apply t (plain (found .0))
       same = apply-letters t s (plain (found .0)) p (λ i j. e i j ∙ sym (column-only l q h (found .0) (found .1) i j))
 
-  -- ---- the inverse's images are sent to the letters that they stand for
+  -- so the inverse's row is sent to the generator that it stands for
   row-sent : (g : Generator) (q : ℕ) → q < t .width → apply t (inverseRow t (columnBit g) q) ≡ single (generator g) q
   unfolding transposed inverseRow single scale
   row-sent g q h =
@@ -130,74 +129,57 @@ module _ (t : Tableau) (c : Clifford t) where
       row : inverseRow t (columnBit g) q ≡ scale p body
       row = string-ext (inverseRow t (columnBit g) q) (scale p body) (sym (·-one p)) (λ d. refl)
 
-  generator-sent : (q : ℕ) (g : Generator) → q < qubits
+  -- ---- the inverse first, then t
+  generator-back : (g : Generator) (q : ℕ) → q < qubits
       → imageOf (compose t (inverse t)) q (generator g) ≡ imageOf (identityTableau (t .width)) q (generator g)
-  generator-sent q g h = compose-generator t (inverse t) q h g ∙ sent ∙ sym (image-identity (t .width) q (generator g) h)
+  generator-back g q h = compose-generator t (inverse t) g q h ∙ sent ∙ sym (image-identity (t .width) q (generator g) h)
     where
       sent : apply t (imageOf (inverse t) q (generator g)) ≡ single (generator g) q
-      sent = elim (decLt q (t .width)) [
-        | yes k ↦ ap (apply t) (inverse-row t q g k) ∙ row-sent g q k
-        | no k ↦ ap (apply t) (image-above (inverse t) q (generator g) (omega (arith, width-inverse t)))
-            ∙ apply-single t (generator g) q h ∙ image-above t q (generator g) (omega arith)
+      sent = elim (decLt q (inverse t .width)) [
+        | yes k ↦ ap (apply t) (image-row (inverse t) g q k ∙ row-inverse t g q) ∙ row-sent g q (omega (arith, width-inverse t))
+        | no k ↦ ap (apply t) (image-above (inverse t) q (generator g) (omega arith))
+            ∙ apply-single t (generator g) q h ∙ image-above t q (generator g) (omega (arith, width-inverse t))
       ]
-
-  alike-inverse : Alike (compose t (inverse t)) (identityTableau (t .width))
-  alike-inverse q l h = image-generators (compose t (inverse t)) (identityTableau (t .width)) q h (λ g. generator-sent q g h) l
-
-  image-sent : (q : ℕ) (l : Letter) → q < qubits → apply t (imageOf (inverse t) q l) ≡ single l q
-  image-sent q l h = sym (image-compose t (inverse t) q h c l) ∙ alike-inverse q l h ∙ image-identity (t .width) q l h
 
   pub compose-inverse : Same (compose t (inverse t)) (identityTableau (t .width))
   compose-inverse =
       same-images (compose t (inverse t)) (identityTableau (t .width))
       (omega (arith, width-compose t (inverse t), width-inverse t, width-identity (t .width)))
-      (λ q g h. generator-sent q g (omega (arith, c .proper .narrow, width-compose t (inverse t), width-inverse t)))
+      (λ g q h. generator-back g q (omega (arith, c .proper .narrow, width-compose t (inverse t), width-inverse t)))
 
-  -- ---- it is valid: what is sent to equal strings is equal
-  pub inverse-proper : Proper (inverse t)
-  inverse-proper = proper-inverse t (c .proper .narrow)
-
-  within : (q : ℕ) (l : Letter) → q < qubits → Within qubits (imageOf (inverse t) q l)
-  within q l h = within-image (inverse t) inverse-proper qubits (inverse-proper .narrow) q h l
-
-  product-sent : (q r : ℕ) (a b : Letter) → q < qubits → r < qubits
-      → apply t (mul (imageOf (inverse t) q a) (imageOf (inverse t) r b)) ≡ mul (single a q) (single b r)
-  product-sent q r a b h k =
-      apply-mul t c (imageOf (inverse t) q a) (imageOf (inverse t) r b) ∙ ap₂ mul (image-sent q a h) (image-sent r b k)
-
-  within-product : (q r : ℕ) (a b : Letter) → q < qubits → r < qubits
-      → Within qubits (mul (imageOf (inverse t) q a) (imageOf (inverse t) r b))
-  within-product q r a b h k = within-mul qubits (imageOf (inverse t) q a) (imageOf (inverse t) r b) (within q a h) (within r b k)
-
-  pub clifford-inverse : Clifford (inverse t)
-  clifford-inverse = record { proper = inverse-proper; valid = everywhere-valid (inverse t) (inverse-proper .narrow) everywhere }
-    where
-      everywhere : ImagesMultiply qubits (inverse t)
-      everywhere = record {
-        together = λ q a b h. apply-injective t c _ _ (within-product q q a b h h)
-            (within-scale qubits (letterPhase a b) _ (within q (letterMul a b) h))
-            (product-sent q q a b h h ∙ mul-singles a b q h
-            ∙ sym (apply-scale t (letterPhase a b) _ ∙ ap (scale (letterPhase a b)) (image-sent q (letterMul a b) h)));
-        apart = λ q r a b h k d. apply-injective t c _ _ (within-product q r a b h k) (within-product r q b a k h)
-            (product-sent q r a b h k ∙ commuting-singles a b q r k d ∙ sym (product-sent r q b a k h));
-      }
-
-  -- ---- from the other side
   pub apply-inverse : (s : PauliString) → Within qubits s → apply t (apply (inverse t) s) ≡ s
   apply-inverse s h =
-      sym (apply-compose t (inverse t) c s) ∙ apply-alike (compose t (inverse t)) (identityTableau (t .width)) alike-inverse s
+      sym (apply-compose t (inverse t) c s) ∙ apply-alike (compose t (inverse t)) (identityTableau (t .width)) alike s
       ∙ apply-identityTableau (t .width) s h
+    where
+      alike : Alike (compose t (inverse t)) (identityTableau (t .width))
+      alike q l h = image-generators (compose t (inverse t)) (identityTableau (t .width)) q h (λ g. generator-back g q h) l
 
+  -- ---- the inverse is valid: what t sends to equal strings is equal
+  inverse-within : (s : PauliString) → Within qubits (apply (inverse t) s)
+  inverse-within = apply-within (inverse t) (proper-inverse t (c .proper .narrow))
+
+  pub clifford-inverse : Clifford (inverse t)
+  clifford-inverse = record {
+    proper = proper-inverse t (c .proper .narrow);
+    valid = multiplicative-valid (inverse t) (proper-inverse t (c .proper .narrow) .narrow)
+        (λ s u hs hu. apply-injective t c (apply (inverse t) (mul s u)) (mul (apply (inverse t) s) (apply (inverse t) u))
+        (inverse-within (mul s u)) (within-mul qubits (apply (inverse t) s) (apply (inverse t) u) (inverse-within s) (inverse-within u))
+        (apply-inverse (mul s u) (within-mul qubits s u hs hu)
+        ∙ sym (apply-mul t c (apply (inverse t) s) (apply (inverse t) u) ∙ ap₂ mul (apply-inverse s hs) (apply-inverse u hu))));
+  }
+
+  -- ---- t first, then the inverse
   pub inverse-apply : (s : PauliString) → Within qubits s → apply (inverse t) (apply t s) ≡ s
   inverse-apply s h =
-      apply-injective t c (apply (inverse t) (apply t s)) s (apply-within (inverse t) inverse-proper (apply t s)) h
+      apply-injective t c (apply (inverse t) (apply t s)) s (inverse-within (apply t s)) h
       (apply-inverse (apply t s) (apply-within t (c .proper) s))
 
   pub inverse-compose : Same (compose (inverse t) t) (identityTableau (t .width))
   inverse-compose =
       same-images (compose (inverse t) t) (identityTableau (t .width))
       (omega (arith, width-compose (inverse t) t, width-inverse t, width-identity (t .width)))
-      (λ q g h. let k : q < qubits = omega (arith, c .proper .narrow, width-compose (inverse t) t, width-inverse t) in
-      compose-generator (inverse t) t q k g ∙ ap (apply (inverse t)) (sym (apply-single t (generator g) q k))
+      (λ g q h. let k : q < qubits = omega (arith, c .proper .narrow, width-compose (inverse t) t, width-inverse t) in
+      compose-generator (inverse t) t g q k ∙ ap (apply (inverse t)) (sym (apply-single t (generator g) q k))
       ∙ inverse-apply (single (generator g) q) (within-single qubits (generator g) q k)
       ∙ sym (image-identity (t .width) q (generator g) k))

@@ -13,13 +13,14 @@ use Rattle.pauli_group.specs.PauliString.{PauliString, qubits, mul, identityStr
 use Rattle.pauli_group.proofs.Laws.{letterMul-self, letterPhase-self}
 use Rattle.pauli_group.proofs.Strings.{scale-scale, scale-one, scale-mul, mul-scale, mul-assoc, identity-mul, mul-identity}
 use Rattle.pauli_group.proofs.Strings.{real-squares, squares-real, commute-mul, anticommute-mul}
-use Rattle.clifford_group.specs.Tableau.{Tableau, rowImage, imageOf, widen, isValid, Proper, Clifford}
+use Rattle.clifford_group.specs.Tableau.{Tableau, rowImage, imageOf, isValid, Clifford}
 use Rattle.clifford_group.proofs.Singles.{mul-singles}
-use Rattle.clifford_group.proofs.Commuting.{Commuting, commuting-free, commuting-singles, commuting-identity, commuting-scale, commuting-mul}
+use Rattle.clifford_group.proofs.Commuting.{Commuting, commuting-free, commuting-singles, commuting-identity, commuting-scale}
+use Rattle.clifford_group.proofs.Commuting.{commuting-mul}
 use Rattle.clifford_group.proofs.Commuting.{mul-commute}
-use Rattle.clifford_group.proofs.Images.{image-own, image-above, image-I, Generator, ofX, ofZ, generator, row, image-row}
-use Rattle.clifford_group.proofs.Images.{alike-widen, within-image}
-use Rattle.clifford_group.proofs.Valid.{Valid, test-valid, valid-test, test-equal}
+use Rattle.clifford_group.proofs.Rows.{Generator, ofX, ofZ, generator, row}
+use Rattle.clifford_group.proofs.Images.{image-own, image-above, image-row, image-I, within-image}
+use Rattle.clifford_group.proofs.Valid.{Valid, test-valid, valid-test}
 
 -- the images of the first n qubits: on one qubit they multiply by the letter products, and on two they commute
 pub record ImagesMultiply (n : ℕ) (t : Tableau) : Type 0 where
@@ -118,21 +119,12 @@ multiply-valid t m = record {
   where
     own : (g k : Generator) (q r : ℕ) → q < t .width → r < t .width
         → mul (row t g q) (row t k r) ≡ mul (imageOf t q (generator g)) (imageOf t r (generator k))
-    own g k q r h l = ap₂ mul (sym (image-row t q g h)) (sym (image-row t r k l))
+    own g k q r h l = ap₂ mul (sym (image-row t g q h)) (sym (image-row t k r l))
 
     squared : (l : Letter) (q : ℕ) → q < t .width → mul (imageOf t q l) (imageOf t q l) ≡ identityString
     squared l q h =
         m .together q l l h ∙ ap₂ (λ p a. scale p (imageOf t q a)) (letterPhase-self l) (letterMul-self l) ∙ scale-one (imageOf t q I)
         ∙ image-I t q
-
--- ---- that sees images alone
-pub multiply-images : (n : ℕ) (t u : Tableau) → ((q : ℕ) (l : Letter) → q < n → imageOf t q l ≡ imageOf u q l) → ImagesMultiply n t
-    → ImagesMultiply n u
-multiply-images n t u e m = record {
-  together =
-      λ q a b h. ap₂ mul (sym (e q a h)) (sym (e q b h)) ∙ m .together q a b h ∙ ap (scale (letterPhase a b)) (e q (letterMul a b) h);
-  apart = λ q r a b h k d. ap₂ mul (sym (e q a h)) (sym (e r b k)) ∙ m .apart q r a b h k d ∙ ap₂ mul (e r b k) (e q a h);
-}
 
 pub multiply-fewer : (n k : ℕ) (t : Tableau) → n ≤ k → ImagesMultiply k t → ImagesMultiply n t
 multiply-fewer n k t l m = record {
@@ -161,7 +153,7 @@ multiply-everywhere t c = record {
     beside : (q r : ℕ) (a b : Letter) → r < qubits → q < t .width → t .width ≤ r → Commuting (imageOf t q a) (imageOf t r b)
     beside q r a b k i j =
         subst (Commuting (imageOf t q a)) (sym (above r b j))
-        (commuting-free (imageOf t q a) b r k (within-image t (c .proper) (t .width) (le-refl (t .width)) q i a r j))
+        (commuting-free (imageOf t q a) b r k (within-image t (c .proper) (t .width) (le-refl (t .width)) q a i r j))
 
     rows : (q r : ℕ) (a b : Letter) → q < qubits → r < qubits → q ≢ r → Dec (q < t .width) → Dec (r < t .width)
         → Commuting (imageOf t q a) (imageOf t r b)
@@ -174,18 +166,3 @@ multiply-everywhere t c = record {
 
 pub everywhere-valid : (t : Tableau) → t .width ≤ qubits → ImagesMultiply qubits t → isValid t ≡ true
 everywhere-valid t n m = valid-test t (multiply-valid t (multiply-fewer (t .width) qubits t n m))
-
--- the rule over the own rows, and over all rows of a widening
-pub isValid-widen : (n : ℕ) → n ≤ qubits → (t : Tableau) → Proper t → isValid (widen n t) ≡ isValid t
-isValid-widen n k t p = test-equal (widen n t) t
-    (λ v. multiply-valid t (multiply-images (t .width) (widen n t) t (λ q l h. alike-widen n t q l (le-trans h (p .narrow)))
-    (multiply-fewer (t .width) (widen n t .width) (widen n t) wider (valid-multiply (widen n t) v))))
-    (λ v. multiply-valid (widen n t) (multiply-fewer (widen n t .width) qubits (widen n t) narrow
-    (multiply-images qubits t (widen n t) (λ q l h. sym (alike-widen n t q l h))
-    (multiply-everywhere t (record { proper = p; valid = valid-test t v })))))
-  where
-    wider : t .width ≤ widen n t .width
-    wider = unfold widen in omega arith
-
-    narrow : widen n t .width ≤ qubits
-    narrow = unfold widen in omega (arith, p .narrow)

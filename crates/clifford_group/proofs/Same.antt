@@ -6,67 +6,56 @@ use native.Mathlib.Decide.{decLt}
 use native.Mathlib.Omega.{arith}
 use lib.Dec.{ltb}
 use Rattle.pauli_group.specs.Phase.{conjugate, isReal}
-use Rattle.pauli_group.specs.Letter.{Letter, I, X, Z}
+use Rattle.pauli_group.specs.Letter.{Letter, I}
 use Rattle.pauli_group.specs.PauliString.{PauliString, qubits, commute, Within}
 use Rattle.pauli_group.proofs.Strings.{string-ext}
 use Rattle.clifford_group.specs.Tableau.{Tableau, imageOf, apply, widen, compose, isValid, hasX, hasZ, letterOf, transposed}
 use Rattle.clifford_group.specs.Tableau.{inverseRow, inverse, Proper, Clifford, Same}
-use Rattle.clifford_group.proofs.Images.{Generator, ofX, ofZ, row, image-same, alike-same}
-use Rattle.clifford_group.proofs.Apply.{apply-alike, apply-widen}
-use Rattle.clifford_group.proofs.Valid.{Valid, test-equal}
+use Rattle.clifford_group.proofs.Rows.{Generator, ofX, ofZ, generator, row, same-row, rows-same, proper-row, rows-proper}
+use Rattle.clifford_group.proofs.Rows.{row-widen}
+use Rattle.clifford_group.proofs.Images.{image-same, alike-same}
+use Rattle.clifford_group.proofs.Apply.{apply-alike}
+use Rattle.clifford_group.proofs.Valid.{Valid, test-valid, valid-test, test-equal}
+use Rattle.clifford_group.proofs.Compose.{row-compose}
 use Rattle.clifford_group.proofs.Inverse.{within-transposed}
 
 pub same-refl : (t : Tableau) → Same t t
-same-refl t = record { width = refl; xImage = λ q h. refl; zImage = λ q h. refl }
+same-refl t = rows-same t t refl (λ g q h. refl)
+
+below : (t u : Tableau) → Same t u → (q : ℕ) → q < u .width → q < t .width
+below t u e q = subst (λ w. q < w) (sym (e .width))
 
 pub same-sym : (t u : Tableau) → Same t u → Same u t
-same-sym t u e =
-    record { width = sym (e .width); xImage = λ q h. sym (e .xImage q (below q h)); zImage = λ q h. sym (e .zImage q (below q h)) }
-  where
-    below : (q : ℕ) → q < u .width → q < t .width
-    below q = subst (λ w. q < w) (sym (e .width))
+same-sym t u e = rows-same u t (sym (e .width)) (λ g q h. sym (same-row t u e g q (below t u e q h)))
 
 pub same-trans : (t u v : Tableau) → Same t u → Same u v → Same t v
-same-trans t u v e f = record {
-  width = e .width ∙ f .width;
-  xImage = λ q h. e .xImage q h ∙ f .xImage q (subst (λ w. q < w) (e .width) h);
-  zImage = λ q h. e .zImage q h ∙ f .zImage q (subst (λ w. q < w) (e .width) h);
-}
+same-trans t u v e f =
+    rows-same t v (e .width ∙ f .width) (λ g q h. same-row t u e g q h ∙ same-row u v f g q (subst (λ w. q < w) (e .width) h))
 
 -- ---- what two that are the same share
 module _ (t u : Tableau) (e : Same t u) where
-  below : (q : ℕ) → q < u .width → q < t .width
-  below q = subst (λ w. q < w) (sym (e .width))
-
-  row-same : (g : Generator) (q : ℕ) → q < u .width → row t g q ≡ row u g q
-  row-same ofX q h = e .xImage q (below q h)
-  row-same ofZ q h = e .zImage q (below q h)
+  -- a row of u is one of t
+  rows : (g : Generator) (q : ℕ) → q < u .width → row u g q ≡ row t g q
+  rows = same-row u t (same-sym t u e)
 
   pub apply-same : (s : PauliString) → apply t s ≡ apply u s
   apply-same = apply-alike t u (alike-same t u e)
 
+  pub proper-same : Proper t → Proper u
+  proper-same p = rows-proper u (subst (λ w. w ≤ qubits) (e .width) (p .narrow))
+      (λ g q h. subst (λ w. Within w (row u g q)) (e .width) (subst (Within (t .width)) (sym (rows g q h)) (proper-row t p g q (below t u e q h))))
+
   pub valid-same : Valid t → Valid u
   valid-same v = record {
-    real = λ g q h. ap (λ (s : PauliString). isReal (s .phase)) (sym (row-same g q h)) ∙ v .real g q (below q h);
-    anticommuting = λ q h. ap₂ commute (sym (row-same ofX q h)) (sym (row-same ofZ q h)) ∙ v .anticommuting q (below q h);
-    commuting =
-        λ g k q r h l d. ap₂ commute (sym (row-same g q h)) (sym (row-same k r l)) ∙ v .commuting g k q r (below q h) (below r l) d;
+    real = λ g q h. ap (λ (s : PauliString). isReal (s .phase)) (rows g q h) ∙ v .real g q (below t u e q h);
+    anticommuting = λ q h. ap₂ commute (rows ofX q h) (rows ofZ q h) ∙ v .anticommuting q (below t u e q h);
+    commuting = λ g k q r h l d. ap₂ commute (rows g q h) (rows k r l) ∙ v .commuting g k q r (below t u e q h) (below t u e r l) d;
   }
-
-  pub proper-same : Proper t → Proper u
-  proper-same p = record {
-    narrow = subst (λ w. w ≤ qubits) (e .width) (p .narrow);
-    xWithin = λ q h. moved ofX q h (p .xWithin q (below q h));
-    zWithin = λ q h. moved ofZ q h (p .zWithin q (below q h));
-  }
-    where
-      moved : (g : Generator) (q : ℕ) → q < u .width → Within (t .width) (row t g q) → Within (u .width) (row u g q)
-      moved g q h i = subst (λ w. Within w (row u g q)) (e .width) (subst (Within (t .width)) (row-same g q h) i)
 
   pub widen-same : (n : ℕ) → Same (widen n t) (widen n u)
   unfolding widen
-  widen-same n =
-      record { width = ap (λ w. max w n) (e .width); xImage = λ q h. image-same t u e q X; zImage = λ q h. image-same t u e q Z }
+  widen-same n = rows-same (widen n t) (widen n u) (ap (λ w. max w n) (e .width))
+      (λ g q h. row-widen n t g q ∙ image-same t u e q (generator g) ∙ sym (row-widen n u g q))
 
   -- the inverse reads the own rows alone
   transposed-same : (bit : Letter → Bool) (q : ℕ) → transposed t bit q ≡ transposed u bit q
@@ -82,31 +71,25 @@ module _ (t u : Tableau) (e : Same t u) where
         | no h ↦ within-transposed t bit q c (omega arith) ∙ sym (within-transposed u bit q c (omega (arith, e .width)))
       ]
 
+  inverseRow-same : (bit : Letter → Bool) (q : ℕ) → inverseRow t bit q ≡ inverseRow u bit q
+  unfolding inverseRow
+  inverseRow-same bit q = string-ext (inverseRow t bit q) (inverseRow u bit q)
+      (ap (λ (s : PauliString). conjugate (s .phase)) (apply-same (transposed t bit q) ∙ ap (apply u) (transposed-same bit q)))
+      (λ c. ap (λ (s : PauliString). s .letters c) (transposed-same bit q))
+
   pub inverse-same : Same (inverse t) (inverse u)
   unfolding inverse
-  inverse-same = record { width = e .width; xImage = λ q h. row hasZ q; zImage = λ q h. row hasX q }
-    where
-      row : (bit : Letter → Bool) (q : ℕ) → inverseRow t bit q ≡ inverseRow u bit q
-      row bit q = unfold inverseRow in string-ext (inverseRow t bit q) (inverseRow u bit q)
-          (ap (λ (s : PauliString). conjugate (s .phase)) (apply-same (transposed t bit q) ∙ ap (apply u) (transposed-same bit q)))
-          (λ c. ap (λ (s : PauliString). s .letters c) (transposed-same bit q))
+  inverse-same = record { width = e .width; xImage = λ q h. inverseRow-same hasZ q; zImage = λ q h. inverseRow-same hasX q }
 
 pub isValid-same : (t u : Tableau) → Same t u → isValid t ≡ isValid u
-isValid-same t u e = test-equal t u (valid-same t u e) (valid-same u t (same-sym t u e))
+isValid-same t u e = test-equal t u
+    (λ v. valid-test u (valid-same t u e (test-valid t v))) (λ v. valid-test t (valid-same u t (same-sym t u e) (test-valid u v)))
 
 pub clifford-same : (t u : Tableau) → Same t u → Clifford t → Clifford u
 clifford-same t u e c = record { proper = proper-same t u e (c .proper); valid = sym (isValid-same t u e) ∙ c .valid }
 
 pub compose-same : (a a′ b b′ : Tableau) → Same a a′ → Same b b′ → Same (compose a b) (compose a′ b′)
-unfolding compose widen
-compose-same a a′ b b′ e f = record {
-  width = ap₂ max (e .width) (f .width);
-  xImage = λ q h. row q X;
-  zImage = λ q h. row q Z;
-}
-  where
-    row : (q : ℕ) (l : Letter)
-        → apply (widen (max (a .width) (b .width)) a) (imageOf b q l) ≡ apply (widen (max (a′ .width) (b′ .width)) a′) (imageOf b′ q l)
-    row q l =
-        apply-widen (max (a .width) (b .width)) a (imageOf b q l) ∙ apply-same a a′ e (imageOf b q l)
-        ∙ ap (apply a′) (image-same b b′ f q l) ∙ sym (apply-widen (max (a′ .width) (b′ .width)) a′ (imageOf b′ q l))
+unfolding compose
+compose-same a a′ b b′ e f = rows-same (compose a b) (compose a′ b′) (ap₂ max (e .width) (f .width))
+    (λ g q h. row-compose a b g q ∙ apply-same a a′ e (imageOf b q (generator g)) ∙ ap (apply a′) (image-same b b′ f q (generator g))
+    ∙ sym (row-compose a′ b′ g q))
