@@ -24,7 +24,7 @@ use Rattle.clifford_group.proofs.Multiply.{ImagesMultiply, multiply-eve
 joined : PauliString → PauliString → PauliString
 joined s u = record { phase = s .phase · u .phase; letters = λ q. letterMul (s .letters q) (u .letters q) }
 
-module _ (t : Tableau) (v : ImagesMultiply qubits t) where
+module _ (t : Tableau) (m : ImagesMultiply qubits t) where
   -- an image commutes with all that was made of lower qubits
   applyTo-apart : (k r : ℕ) → k ≤ r → r < qubits → (s : PauliString) (b : Letter) → Commuting (imageOf t r b) (applyTo k t s)
   unfolding applyTo
@@ -33,10 +33,11 @@ module _ (t : Tableau) (v : ImagesMultiply qubits t) where
       (commuting-scale (s .phase) (imageOf t r b) identityString (commuting-identity (imageOf t r b)))
   applyTo-apart (suc k) r h l s b =
       commuting-mul (imageOf t r b) (applyTo k t s) (imageOf t k (s .letters k)) (applyTo-apart k r (omega arith) l s b)
-      (v .apart r k b (s .letters k) l (omega arith) (omega arith))
+      (m .apart r k b (s .letters k) l (omega arith) (omega arith))
 
   applyTo-mul : (k : ℕ) → k ≤ qubits → (s u : PauliString)
-      → mul (applyTo k t s) (applyTo k t u) ≡ scale (productTo k (λ q. letterPhase (s .letters q) (u .letters q))) (applyTo k t (joined s u))
+      → mul (applyTo k t s) (applyTo k t u)
+      ≡ scale (productTo k (λ q. letterPhase (s .letters q) (u .letters q))) (applyTo k t (joined s u))
   unfolding joined applyTo productTo
   applyTo-mul zero h s u =
       ap₂ mul (applyTo-start t s) (applyTo-start t u) ∙ scale-both (s .phase) (u .phase) identityString identityString
@@ -45,12 +46,12 @@ module _ (t : Tableau) (v : ImagesMultiply qubits t) where
   applyTo-mul (suc k) h s u =
       exchange (applyTo k t s) (imageOf t k (s .letters k)) (applyTo k t u) (imageOf t k (u .letters k))
       (applyTo-apart k k (le-refl k) h u (s .letters k))
-      ∙ ap₂ mul (applyTo-mul k (omega arith) s u) (v .together k (s .letters k) (u .letters k) h)
+      ∙ ap₂ mul (applyTo-mul k (omega arith) s u) (m .together k (s .letters k) (u .letters k) h)
       ∙ scale-both _ _ _ _
 
-  pub apply-mul-everywhere : (s u : PauliString) → apply t (mul s u) ≡ mul (apply t s) (apply t u)
+  apply-multiplies : (s u : PauliString) → apply t (mul s u) ≡ mul (apply t s) (apply t u)
   unfolding apply joined
-  apply-mul-everywhere s u =
+  apply-multiplies s u =
       ap (apply t) product ∙ apply-scale t (phaseOfLetters (s .letters) (u .letters)) (joined s u)
       ∙ sym (unfold phaseOfLetters in applyTo-mul qubits (le-refl qubits) s u)
     where
@@ -61,7 +62,7 @@ module _ (t : Tableau) (v : ImagesMultiply qubits t) where
 -- ---- what a valid tableau keeps
 module _ (t : Tableau) (c : Clifford t) where
   pub apply-mul : (s u : PauliString) → apply t (mul s u) ≡ mul (apply t s) (apply t u)
-  apply-mul = apply-mul-everywhere t (multiply-everywhere t c)
+  apply-mul = apply-multiplies t (multiply-everywhere t c)
 
   pub sign-apply : (s u : PauliString) → commutationSign (apply t s) (apply t u) ≡ commutationSign s u
   sign-apply s u =

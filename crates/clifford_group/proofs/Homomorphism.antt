@@ -40,9 +40,12 @@ valid-iff-multiplicative t p =
 -- ---- validity over the own rows is validity over all rows of a widening
 pub isValid-widen : (n : ℕ) → n ≤ qubits → (t : Tableau) → Proper t → isValid (widen n t) ≡ isValid t
 isValid-widen n h t p = test-equal (widen n t) t
-    (λ v. own .1 (λ s u hs hu. sym (apply-widen n t (mul s u)) ∙ wide .0 v s u hs hu ∙ ap₂ mul (apply-widen n t s) (apply-widen n t u)))
-    (λ v. wide .1 (λ s u hs hu. apply-widen n t (mul s u) ∙ own .0 v s u hs hu ∙ sym (ap₂ mul (apply-widen n t s) (apply-widen n t u))))
+    (λ v. own .1 (λ s u hs hu. sym (sent (mul s u)) ∙ wide .0 v s u hs hu ∙ ap₂ mul (sent s) (sent u)))
+    (λ v. wide .1 (λ s u hs hu. sent (mul s u) ∙ own .0 v s u hs hu ∙ sym (ap₂ mul (sent s) (sent u))))
   where
+    sent : (s : PauliString) → apply (widen n t) s ≡ apply t s
+    sent = apply-widen n t
+
     own : (isValid t ≡ true) ↔ Multiplicative t
     own = valid-iff-multiplicative t p
 

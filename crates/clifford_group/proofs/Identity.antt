@@ -8,7 +8,7 @@ use native.Mathlib.Decide.{ℕ-discrete, decLt}
 use lib.Dec.{ltb, eqb}
 use borrow.Author.Tests.{lt-ltb, le-ltb, eq-eqb, ne-eqb}
 use Rattle.pauli_group.specs.Phase.{PlusOne, _·_}
-use Rattle.pauli_group.specs.Letter.{I, letterPhase, letterMul}
+use Rattle.pauli_group.specs.Letter.{Letter, I, letterPhase, letterMul}
 use Rattle.pauli_group.specs.PauliString.{PauliString, qubits, productTo, phaseOfLetters, mul, single, Within}
 use Rattle.pauli_group.proofs.Laws.{·-one, letterMul-I, I-letterMul, letterPhase-I, I-letterPhase}
 use Rattle.pauli_group.proofs.Products.{productTo-one}
@@ -31,17 +31,22 @@ cut-step : (k : ℕ) (s : PauliString) → mul (cut k s) (single (s .letters k) 
 unfolding mul cut single phaseOfLetters
 cut-step k s = string-ext (mul (cut k s) (single (s .letters k) k)) (cut (suc k) s) phases letters
   where
-    place : (q : ℕ) → letterPhase (cond (ltb q k) (s .letters q) I) (cond (eqb q k) (s .letters k) I) ≡ PlusOne
-    place q = elim (decLt q k) [
-      | yes l ↦ ap (λ b. letterPhase (cond (ltb q k) (s .letters q) I) (cond b (s .letters k) I)) (ne-eqb q k (omega arith)) ∙ letterPhase-I _
-      | no l ↦ ap (λ b. letterPhase (cond b (s .letters q) I) (cond (eqb q k) (s .letters k) I)) (le-ltb q k (omega arith)) ∙ I-letterPhase _
+    lower : ℕ → Letter
+    lower q = cond (ltb q k) (s .letters q) I
+
+    next : ℕ → Letter
+    next q = cond (eqb q k) (s .letters k) I
+
+    none : (q : ℕ) → letterPhase (lower q) (next q) ≡ PlusOne
+    none q = elim (decLt q k) [
+      | yes l ↦ ap (λ b. letterPhase (lower q) (cond b (s .letters k) I)) (ne-eqb q k (omega arith)) ∙ letterPhase-I (lower q)
+      | no l ↦ ap (λ b. letterPhase (cond b (s .letters q) I) (next q)) (le-ltb q k (omega arith)) ∙ I-letterPhase (next q)
     ]
 
-    phases : s .phase · PlusOne · productTo qubits (λ q. letterPhase (cond (ltb q k) (s .letters q) I) (cond (eqb q k) (s .letters k) I)) ≡ s .phase
-    phases = ap (λ p. s .phase · PlusOne · p) (productTo-one qubits _ (λ q l. place q)) ∙ ·-one (s .phase · PlusOne) ∙ ·-one (s .phase)
+    phases : s .phase · PlusOne · productTo qubits (λ q. letterPhase (lower q) (next q)) ≡ s .phase
+    phases = ap (λ p. s .phase · PlusOne · p) (productTo-one qubits _ (λ q l. none q)) ∙ ·-one (s .phase · PlusOne) ∙ ·-one (s .phase)
 
-    letters : (q : ℕ)
-        → letterMul (cond (ltb q k) (s .letters q) I) (cond (eqb q k) (s .letters k) I) ≡ cond (ltb q (suc k)) (s .letters q) I
+    letters : (q : ℕ) → letterMul (lower q) (next q) ≡ cond (ltb q (suc k)) (s .letters q) I
     letters q = elim (decLt q k) [
       | yes l ↦ simp (lt-ltb q k l, ne-eqb q k (omega arith), lt-ltb q (suc k) (omega arith), letterMul-I)
       | no l ↦ elim (ℕ-discrete q k) [

@@ -138,4 +138,5 @@ pub proper-widen : (n : ℕ) → n ≤ qubits → (t : Tableau) → Proper t →
 unfolding widen
 proper-widen n h t p =
     rows-proper (widen n t) (omega (arith, p .narrow))
-    (λ g q l. subst (Within (max (t .width) n)) (sym (row-widen n t g q)) (within-image t p (max (t .width) n) (omega arith) q (generator g) l))
+    (λ g q l. subst (Within (max (t .width) n)) (sym (row-widen n t g q))
+    (within-image t p (max (t .width) n) (omega arith) q (generator g) l))

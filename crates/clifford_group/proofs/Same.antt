@@ -43,7 +43,8 @@ module _ (t u : Tableau) (e : Same t u) where
 
   pub proper-same : Proper t → Proper u
   proper-same p = rows-proper u (subst (λ w. w ≤ qubits) (e .width) (p .narrow))
-      (λ g q h. subst (λ w. Within w (row u g q)) (e .width) (subst (Within (t .width)) (sym (rows g q h)) (proper-row t p g q (below t u e q h))))
+      (λ g q h. subst (λ w. Within w (row u g q)) (e .width)
+      (subst (Within (t .width)) (sym (rows g q h)) (proper-row t p g q (below t u e q h))))
 
   pub valid-same : Valid t → Valid u
   valid-same v = record {

@@ -37,6 +37,7 @@ unfoldable pub applyTo : ℕ → Tableau → PauliString → PauliString
 applyTo zero t s = record { phase = s .phase; letters = λ q. I }
 applyTo (suc k) t s = mul (applyTo k t s) (imageOf t k (s .letters k))
 
+-- over all qubits. Of an invalid tableau nothing beyond this rule is claimed.
 unfoldable pub apply : Tableau → PauliString → PauliString
 apply t s = applyTo qubits t s
 
@@ -74,7 +75,7 @@ validPair t q r =
     (commute (t .xImage q) (t .xImage r) && commute (t .xImage q) (t .zImage r))
     && (commute (t .zImage q) (t .xImage r) && commute (t .zImage q) (t .zImage r))
 
--- over the tableau's own rows: each qubit, and each two qubits r < q
+-- phases real, X and Z images of one qubit anticommute, every other pair commutes; so width 0 is valid
 unfoldable pub isValid : Tableau → Bool
 isValid t = allTo (t .width) (λ q. validQubit t q && allTo q (validPair t q))
 
@@ -111,6 +112,7 @@ transposed t bit q = record {
 unfoldable pub inverseRow : Tableau → (Letter → Bool) → ℕ → PauliString
 inverseRow t bit q = record { phase = conjugate (apply t (transposed t bit q) .phase); letters = transposed t bit q .letters }
 
+-- The width is kept. Defined for invalid tableaux too.
 unfoldable pub inverse : Tableau → Tableau
 inverse t = record { width = t .width; xImage = inverseRow t hasZ; zImage = inverseRow t hasX }
 
