@@ -52,10 +52,8 @@ sign-injective true false e = cc
 sign-injective false true e = cc
 sign-injective false false e = refl
 
-pub mul-commute : (s t : PauliString) (b : Bool) → mul s t ≡ scale (sign (not b)) (mul t s) → commute s t ≡ b
-mul-commute s t b e =
-    not-injective (commute s t) b
-    (sign-injective (not (commute s t)) (not b) (sym (commute-sign s t) ∙ sym (sign-only (sign (not b)) s t e)))
+tested : (b c : Bool) → sign (not b) ≡ sign (not c) → b ≡ c
+tested b c e = not-injective b c (sign-injective (not b) (not c) e)
   where
     not-injective : (b c : Bool) → not b ≡ not c → b ≡ c
     not-injective true true e = refl
@@ -63,5 +61,12 @@ mul-commute s t b e =
     not-injective false true e = sym e
     not-injective false false e = refl
 
+pub mul-commute : (s t : PauliString) (b : Bool) → mul s t ≡ scale (sign (not b)) (mul t s) → commute s t ≡ b
+mul-commute s t b e = tested (commute s t) b (sym (commute-sign s t) ∙ sym (sign-only (sign (not b)) s t e))
+
+-- and it sees the sign alone
+pub commute-by-sign : (s t u v : PauliString) → commutationSign s t ≡ commutationSign u v → commute s t ≡ commute u v
+commute-by-sign s t u v e = tested (commute s t) (commute u v) (sym (commute-sign s t) ∙ e ∙ commute-sign u v)
+
 pub commute-sym : (s t : PauliString) → commute s t ≡ commute t s
-commute-sym s t = mul-commute s t (commute t s) (mul-swap s t ∙ ap (λ p. scale p (mul t s)) (sign-sym s t ∙ commute-sign t s))
+commute-sym s t = commute-by-sign s t t s (sign-sym s t)

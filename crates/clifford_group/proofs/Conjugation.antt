@@ -9,14 +9,14 @@ use native.Mathlib.Decide.{decLt}
 use Rattle.pauli_group.specs.Phase.{PlusOne, _·_, isReal, sign}
 use Rattle.pauli_group.specs.Letter.{Letter, X, Z, letterPhase, letterMul, anticommute}
 use Rattle.pauli_group.specs.PauliString.{PauliString, qubits, productTo, phaseOfLetters, mul, identityString, scale, single}
-use Rattle.pauli_group.specs.PauliString.{commutationSign, Within}
+use Rattle.pauli_group.specs.PauliString.{commute, commutationSign, Within}
 use Rattle.pauli_group.proofs.Laws.{·-comm, ·-one}
 use Rattle.pauli_group.proofs.Strings.{string-ext, scale-one, scale-cancel, identity-mul, mul-swap, sign-only, sign-single, sign-local}
 use Rattle.pauli_group.proofs.Strings.{real-squares, squares-real}
 use Rattle.clifford_group.specs.Tableau.{Tableau, imageOf, applyTo, apply, letterOf, Clifford}
 use Rattle.clifford_group.proofs.Singles.{letter-bits}
 use Rattle.clifford_group.proofs.Commuting.{Commuting, commuting-identity, commuting-scale, commuting-mul, exchange, scale-both}
-use Rattle.clifford_group.proofs.Commuting.{sign-injective}
+use Rattle.clifford_group.proofs.Commuting.{sign-injective, commute-by-sign}
 use Rattle.clifford_group.proofs.Apply.{applyTo-start, apply-letters, apply-scale, apply-identity, apply-single}
 use Rattle.clifford_group.proofs.Multiply.{ImagesMultiply, multiply-everywhere}
 
@@ -69,6 +69,9 @@ module _ (t : Tableau) (c : Clifford t) where
       sym (sign-only (commutationSign s u) (apply t s) (apply t u)
       (sym (apply-mul s u) ∙ ap (apply t) (mul-swap s u) ∙ apply-scale t (commutationSign s u) (mul u s)
       ∙ ap (scale (commutationSign s u)) (apply-mul u s)))
+
+  pub commute-apply : (s u : PauliString) → commute (apply t s) (apply t u) ≡ commute s u
+  commute-apply s u = commute-by-sign (apply t s) (apply t u) s u (sign-apply s u)
 
   pub real-apply : (s : PauliString) → isReal (s .phase) ≡ true → isReal (apply t s .phase) ≡ true
   real-apply s e = squares-real (apply t s) (sym (apply-mul s s) ∙ ap (apply t) (real-squares s e) ∙ apply-identity t)

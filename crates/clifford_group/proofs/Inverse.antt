@@ -26,7 +26,7 @@ use Rattle.clifford_group.proofs.Compose.{width-compose, compose-genera
 use Rattle.clifford_group.proofs.Pigeonhole.{reached}
 
 -- the bit that the inverse's row reads: it is 1 where the letter anticommutes with the row's generator
-abbrev columnBit : Generator → Letter → Bool
+abbrev pub columnBit : Generator → Letter → Bool
 columnBit ofX = hasZ
 columnBit ofZ = hasX
 
@@ -38,7 +38,7 @@ pub width-inverse : (t : Tableau) → inverse t .width ≡ t .width
 unfolding inverse
 width-inverse t = refl
 
-row-inverse : (t : Tableau) (g : Generator) (q : ℕ) → row (inverse t) g q ≡ inverseRow t (columnBit g) q
+pub row-inverse : (t : Tableau) (g : Generator) (q : ℕ) → row (inverse t) g q ≡ inverseRow t (columnBit g) q
 unfolding inverse
 row-inverse t ofX q = refl
 row-inverse t ofZ q = refl
