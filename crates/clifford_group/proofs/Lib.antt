@@ -1,0 +1,14 @@
+pub mod Singles
+pub mod Commuting
+pub mod Rows
+pub mod Images
+pub mod Apply
+pub mod Valid
+pub mod Multiply
+pub mod Conjugation
+pub mod Homomorphism
+pub mod Identity
+pub mod Compose
+pub mod Pigeonhole
+pub mod Inverse
+pub mod Same

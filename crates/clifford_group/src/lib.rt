@@ -1,0 +1,1 @@
+// The mathematics of Clifford tableaux: definitions in specs/, laws in proofs/. No code runs from here.
