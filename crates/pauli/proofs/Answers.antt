@@ -2,6 +2,7 @@
 use mathlib.Core.Path.{_≡_, refl, sym, ap, ap₂, _∙_}
 use mathlib.Core.Bool.{Bool, true, false}
 use mathlib.Core.List.{List}
+use lib.ListN.{length}
 use Prim.Native.Nat.{ℕ, _+_, _*_}
 use Rattle.pauli.specs.declared.algebra.PhasedLetter.{PhasedLetter}
 use Rattle.pauli.specs.declared.refusal.Refusal.{Refusal}
@@ -13,11 +14,13 @@ use Rattle.pauli.specs.declared.refusal.ByteAnswer.{ByteAnswer}
 use Rattle.pauli.specs.declared.refusal.ByteAnswer.the-variants.{Byte, NoByte}
 use Rattle.pauli.specs.declared.refusal.Flag.{Flag}
 use Rattle.pauli.specs.declared.refusal.Flag.the-variants.{Yes, No, NoFlag}
+use Rattle.pauli.specs.declared.refusal.CountAnswer.{CountAnswer}
+use Rattle.pauli.specs.declared.refusal.CountAnswer.the-variants.{Count, NoCount}
 use Rattle.pauli.specs.declared.refusal.LetterAnswer.{LetterAnswer}
 use Rattle.pauli.specs.declared.refusal.LetterAnswer.the-variants.{Phased, NoLetter}
 use Rattle.pauli.specs.Rows.{letterBytesProduct, productPhaseByte, productLetterByte}
-use Rattle.pauli.specs.Answers.{refusalNumber, refusalDetail, reply, refusalReply, replyTo, outcomeReply, productReply, byteReply, flagReply, letterReply}
-use Rattle.pauli.specs.Answers.{productAnswer, byteAnswer, yesOrNo, oneOrZero, flagAnswer, letterAnswer, written, ByteAnswered, FlagAnswered, LetterAnswered, Written, ProductWritten}
+use Rattle.pauli.specs.Answers.{refusalNumber, refusalDetail, reply, refusalReply, replyTo, outcomeReply, productReply, byteReply, flagReply, countReply, letterReply}
+use Rattle.pauli.specs.Answers.{productAnswer, byteAnswer, yesOrNo, oneOrZero, flagAnswer, countAnswer, letterAnswer, written, CountWritten, ByteAnswered, FlagAnswered, LetterAnswered, Written, ProductWritten}
 
 pub reply-is : (r : Refusal) {n d : ℕ} → n ≡ refusalNumber r → d ≡ refusalDetail r → reply n d ≡ refusalReply r
 unfolding refusalReply
@@ -91,6 +94,23 @@ product-not {q} {r} out d p h = record {
   bytes = ap (λ x. written x out d) (sym h ∙ p);
 }
 
+count-told : (q : Outcome) (n : ℕ) → countReply (countAnswer q n) ≡ replyTo q n
+unfolding countReply countAnswer replyTo
+count-told Done n = refl
+count-told (Refused r) n = refl
+
+pub count-done : {q r : Outcome} {out d e : List ℕ} {n : ℕ} → r ≡ q → r ≡ Done → n ≡ length out → e ≡ written Done out d → CountWritten q out d e (Count n)
+unfolding countAnswer
+count-done {q} {r} {out} {d} p h c w =
+    let answer = ap Count c ∙ ap (λ x. countAnswer x (length out)) (sym h ∙ p) in
+    record { answer = answer; told = ap countReply answer ∙ count-told q (length out); bytes = w ∙ ap (λ x. written x out d) (sym h ∙ p) }
+
+pub count-not : {q r : Outcome} {x : Refusal} (out d : List ℕ) → r ≡ q → r ≡ Refused x → CountWritten q out d d (NoCount x)
+unfolding countAnswer written
+count-not {q} {r} out d p h =
+    let answer = ap (λ x. countAnswer x (length out)) (sym h ∙ p) in
+    record { answer = answer; told = ap countReply answer ∙ count-told q (length out); bytes = ap (λ x. written x out d) (sym h ∙ p) }
+
 -- ---- the two ways in which a function that answers a value ends
 pub byte-done : {q r : Outcome} {b v : ℕ} → r ≡ q → r ≡ Done → v ≡ b → ByteAnswered q b (Byte v)
 unfolding byteAnswer
@@ -131,6 +151,8 @@ pub ruleset answers = (
   byte-not,
   flag-done,
   flag-not,
+  count-done,
+  count-not,
   letter-done,
   phased-done,
   letter-not,

@@ -14,6 +14,8 @@ use Rattle.pauli.specs.declared.refusal.ByteAnswer.{ByteAnswer}
 use Rattle.pauli.specs.declared.refusal.ByteAnswer.the-variants.{Byte, NoByte}
 use Rattle.pauli.specs.declared.refusal.Flag.{Flag}
 use Rattle.pauli.specs.declared.refusal.Flag.the-variants.{Yes, No, NoFlag}
+use Rattle.pauli.specs.declared.refusal.CountAnswer.{CountAnswer}
+use Rattle.pauli.specs.declared.refusal.CountAnswer.the-variants.{Count, NoCount}
 use Rattle.pauli.specs.declared.refusal.LetterAnswer.{LetterAnswer}
 use Rattle.pauli.specs.declared.refusal.LetterAnswer.the-variants.{Phased, NoLetter}
 use Rattle.pauli.specs.declared.refusal.Reply.{Reply}
@@ -91,6 +93,10 @@ flagReply Yes = reply 0 1
 flagReply No = reply 0 0
 flagReply (NoFlag r) = refusalReply r
 
+unfoldable pub countReply : CountAnswer → Reply
+countReply (Count n) = reply 0 n
+countReply (NoCount r) = refusalReply r
+
 unfoldable pub letterReply : LetterAnswer → Reply
 letterReply (Phased phase letter) = reply 0 (4 * phase + letter)
 letterReply (NoLetter r) = refusalReply r
@@ -112,6 +118,10 @@ yesOrNo false = No
 unfoldable pub flagAnswer : Outcome → Bool → Flag
 flagAnswer Done f = yesOrNo f
 flagAnswer (Refused r) f = NoFlag r
+
+unfoldable pub countAnswer : Outcome → ℕ → CountAnswer
+countAnswer Done n = Count n
+countAnswer (Refused r) n = NoCount r
 
 unfoldable pub letterAnswer : Outcome → ℕ → ℕ → LetterAnswer
 letterAnswer Done p l = Phased p l
@@ -149,4 +159,10 @@ pub record Written (q : Outcome) (out d e : List ℕ) (r : Outcome) : Type 0 whe
 pub record ProductWritten (q : Outcome) (out d e : List ℕ) (r : Product) : Type 0 where
   pub answer : r ≡ productAnswer q
   pub told : productReply r ≡ replyTo q 0
+  pub bytes : e ≡ written q out d
+
+-- as many bytes are written as are counted
+pub record CountWritten (q : Outcome) (out d e : List ℕ) (r : CountAnswer) : Type 0 where
+  pub answer : r ≡ countAnswer q (length out)
+  pub told : countReply r ≡ replyTo q (length out)
   pub bytes : e ≡ written q out d

@@ -8,3 +8,4 @@ pub mod Strings
 pub mod Turns
 pub mod Writing
 pub mod Marks
+pub mod Text

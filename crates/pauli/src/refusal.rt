@@ -1,6 +1,6 @@
 // Refusals and answers. specs/Answers.antt gives the number and the value of each case.
 ghost use mathlib.Core.Path.{_≡_};
-ghost use Rattle.pauli.specs.Answers.{refusalNumber, refusalDetail, refusalReply, outcomeReply, productReply, byteReply, flagReply, letterReply};
+ghost use Rattle.pauli.specs.Answers.{refusalNumber, refusalDetail, refusalReply, outcomeReply, productReply, byteReply, flagReply, countReply, letterReply};
 
 // A question that was answered no, with the values that its answer names.
 pub enum Refusal {
@@ -46,6 +46,12 @@ pub enum Flag {
     Yes,
     No,
     NoFlag(Refusal),
+}
+
+// A count or a length.
+pub enum CountAnswer {
+    Count(usize),
+    NoCount(Refusal),
 }
 
 // The answer of the product of two letters.
@@ -172,6 +178,18 @@ pub fn flag_reply(r: Flag) -> Reply
             value: 0,
         },
         Flag::NoFlag(why) => refusal_reply(why),
+    }
+}
+
+pub fn count_reply(r: CountAnswer) -> Reply
+    ensures { λ a. ⌜ a ≡ countReply r ⌝ }
+{
+    match r {
+        CountAnswer::Count(n) => Reply {
+            number: 0,
+            value: n as u64,
+        },
+        CountAnswer::NoCount(why) => refusal_reply(why),
     }
 }
 
