@@ -9,3 +9,4 @@ pub mod StringProducts
 pub mod StringReads
 pub mod EntryMarks
 pub mod EntryStrings
+pub mod TextBytes

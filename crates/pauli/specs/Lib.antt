@@ -9,3 +9,4 @@ pub mod Turns
 pub mod Writing
 pub mod Marks
 pub mod Text
+pub mod Reading

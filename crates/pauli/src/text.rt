@@ -1,0 +1,156 @@
+// Text: its bytes, words and prefix, and the numerals in it.
+ghost use mathlib.Core.Path.{_≡_};
+ghost use lib.ListN.{getD};
+ghost use Rattle.pauli.specs.Reading.{PrefixRead, HeadRead};
+ghost use Rattle.pauli.specs.Text.{isSpace, isDigit, letterNamed, leadingSpaces, leadingWord, firstNotAscii, asciiQuestion};
+
+use crate::refusal::Outcome;
+use crate::refusal::Refusal;
+
+pub(crate) fn is_space(c: u8) -> bool
+    ensures { λ r. ⌜ r ≡ isSpace c ⌝ }
+{
+    if c == 32 {
+        return true;
+    }
+    if c < 9 {
+        return false;
+    }
+    if 13 < c {
+        return false;
+    }
+    true
+}
+
+pub(crate) fn is_digit(c: u8) -> bool
+    ensures { λ r. ⌜ r ≡ isDigit c ⌝ }
+{
+    if c < 48 {
+        return false;
+    }
+    if 57 < c {
+        return false;
+    }
+    true
+}
+
+// The byte of the letter that X, Y or Z names, either case; 0 for any other.
+pub(crate) fn letter_named(c: u8) -> u8
+    ensures { λ r. ⌜ r ≡ letterNamed c ⌝ }
+{
+    match c {
+        88 => 1,
+        120 => 1,
+        90 => 2,
+        122 => 2,
+        89 => 3,
+        121 => 3,
+        _ => 0,
+    }
+}
+
+// How many bytes of white space come first.
+pub(crate) fn spaces(t: &[u8]) -> usize
+    ensures { λ r. ⌜ r ≡ leadingSpaces (now (t .entry)) ⌝ }
+{
+    let mut i = 0;
+    while i < t.len() {
+        if !is_space(t[i]) {
+            return i;
+        }
+        i += 1;
+    }
+    i
+}
+
+// How many bytes come first that are no white space.
+pub(crate) fn word(t: &[u8]) -> usize
+    ensures { λ r. ⌜ r ≡ leadingWord (now (t .entry)) ⌝ }
+{
+    let mut i = 0;
+    while i < t.len() {
+        if is_space(t[i]) {
+            return i;
+        }
+        i += 1;
+    }
+    i
+}
+
+// The first byte of 128 or above, or the length.
+fn first_not_ascii(t: &[u8]) -> usize
+    ensures { λ r. ⌜ r ≡ firstNotAscii (now (t .entry)) ⌝ }
+{
+    let mut i = 0;
+    while i < t.len() {
+        if 128 <= t[i] {
+            return i;
+        }
+        i += 1;
+    }
+    i
+}
+
+pub(crate) fn check_ascii(t: &[u8]) -> Outcome
+    ensures { λ r. ⌜ r ≡ asciiQuestion (now (t .entry)) ⌝ }
+{
+    let k = first_not_ascii(t);
+    if k < t.len() {
+        return Outcome::Refused(Refusal::NotAscii { offset: k });
+    }
+    Outcome::Done
+}
+
+// The byte at a place, 0 past the end.
+pub(crate) fn byte_at(t: &[u8], k: usize) -> u8
+    ensures { λ r. ⌜ r ≡ getD (now (t .entry)) k 0 ⌝ }
+{
+    if k < t.len() { t[k] } else { 0 }
+}
+
+pub(crate) struct Prefix {
+    pub phase: u8,
+    pub length: usize,
+}
+
+// The prefix at a text's first two bytes.
+fn read_prefix(a: u8, b: u8) -> Prefix
+    ensures { λ r. ⌜ PrefixRead a b r ⌝ }
+{
+    if a == 43 {
+        if b == 105 {
+            return Prefix { phase: 2, length: 2 };
+        }
+        return Prefix { phase: 0, length: 1 };
+    }
+    if a == 45 {
+        if b == 105 {
+            return Prefix { phase: 3, length: 2 };
+        }
+        return Prefix { phase: 1, length: 1 };
+    }
+    if a == 105 {
+        return Prefix { phase: 2, length: 1 };
+    }
+    Prefix { phase: 0, length: 0 }
+}
+
+pub(crate) struct Head {
+    pub phase: u8,
+    pub at: usize,
+}
+
+// The phase that the prefix gives, and where the text goes on after it.
+pub(crate) fn read_head(t: &[u8]) -> Head
+    ensures { λ r. ⌜ HeadRead (now (t .entry)) r ⌝ }
+{
+    let at = spaces(t);
+    if t.len() <= at {
+        return Head { phase: 0, at };
+    }
+    let p = read_prefix(t[at], byte_at(t, at + 1));
+    Head {
+        phase: p.phase,
+        at: at + p.length,
+    }
+}
