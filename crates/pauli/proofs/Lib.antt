@@ -10,3 +10,4 @@ pub mod StringReads
 pub mod EntryMarks
 pub mod EntryStrings
 pub mod TextBytes
+pub mod Numerals

@@ -145,6 +145,7 @@ prefix-two a b = go (isSign a) (isSmallI a) (isSmallI b) refl
   where
     small : isSmallI b ≡ true → b ≡ 105
     small e = small-i b e
+
     go : (p q r : Bool) → isSmallI b ≡ r → (cond p (cond r 2 1) (cond q 1 0) ≤ 1) ⊎ ((cond p (cond r 2 1) (cond q 1 0) ≤ 2) × (b ≡ 105))
     go true q true e = inr (omega arith, small e)
     go true q false e = inl (omega arith)

@@ -1,9 +1,8 @@
 // Text: its bytes, words and prefix, and the numerals in it.
 ghost use mathlib.Core.Path.{_≡_};
 ghost use lib.ListN.{getD};
-ghost use Rattle.pauli.specs.Reading.{PrefixRead, HeadRead};
+ghost use Rattle.pauli.specs.Reading.{PrefixRead, HeadRead, DigitValue, digitsNumeral, indexNumeral};
 ghost use Rattle.pauli.specs.Text.{isSpace, isDigit, letterNamed, leadingSpaces, leadingWord, firstNotAscii, asciiQuestion};
-
 use crate::refusal::Outcome;
 use crate::refusal::Refusal;
 
@@ -119,20 +118,38 @@ fn read_prefix(a: u8, b: u8) -> Prefix
 {
     if a == 43 {
         if b == 105 {
-            return Prefix { phase: 2, length: 2 };
+            return Prefix {
+                phase: 2,
+                length: 2,
+            };
         }
-        return Prefix { phase: 0, length: 1 };
+        return Prefix {
+            phase: 0,
+            length: 1,
+        };
     }
     if a == 45 {
         if b == 105 {
-            return Prefix { phase: 3, length: 2 };
+            return Prefix {
+                phase: 3,
+                length: 2,
+            };
         }
-        return Prefix { phase: 1, length: 1 };
+        return Prefix {
+            phase: 1,
+            length: 1,
+        };
     }
     if a == 105 {
-        return Prefix { phase: 2, length: 1 };
+        return Prefix {
+            phase: 2,
+            length: 1,
+        };
     }
-    Prefix { phase: 0, length: 0 }
+    Prefix {
+        phase: 0,
+        length: 0,
+    }
 }
 
 pub(crate) struct Head {
@@ -153,4 +170,59 @@ pub(crate) fn read_head(t: &[u8]) -> Head
         phase: p.phase,
         at: at + p.length,
     }
+}
+
+// A digit's value.
+fn digit_value(c: u8) -> u64
+    ensures { λ r. ⌜ DigitValue c r ⌝ }
+{
+    if c < 48 {
+        return 0;
+    }
+    if 57 < c {
+        return 9;
+    }
+    (c - 48) as u64
+}
+
+pub(crate) enum Numeral {
+    Value(u64),
+    NotNumber,
+}
+
+// The value of digits alone. Overflow is tested, digits are not counted, so leading zeros cost nothing.
+fn digits(ds: &[u8]) -> Numeral
+    ensures { λ r. ⌜ r ≡ digitsNumeral (now (ds .entry)) ⌝ }
+{
+    if ds.len() == 0 {
+        return Numeral::NotNumber;
+    }
+    let mut value: u64 = 0;
+    let mut i = 0;
+    while i < ds.len() {
+        let c = ds[i];
+        if !is_digit(c) {
+            return Numeral::NotNumber;
+        }
+        let d = digit_value(c);
+        if (18446744073709551615 - d) / 10 < value {
+            return Numeral::NotNumber;
+        }
+        value = value * 10 + d;
+        i += 1;
+    }
+    Numeral::Value(value)
+}
+
+// An index: an optional + and then digits, below 2^64.
+pub(crate) fn read_numeral(bs: &[u8]) -> Numeral
+    ensures { λ r. ⌜ r ≡ indexNumeral (now (bs .entry)) ⌝ }
+{
+    if bs.len() == 0 {
+        return Numeral::NotNumber;
+    }
+    if bs[0] == 43 {
+        return digits(&bs[1..]);
+    }
+    digits(bs)
 }
