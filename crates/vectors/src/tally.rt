@@ -1,6 +1,6 @@
 // What comes of each line, counted and printed.
 ghost use mathlib.Core.Path.{_≡_};
-ghost use Rattle.vectors.specs.Verdicts.{Judged};
+ghost use Rattle.vectors.specs.Verdicts.{Judged, Compared};
 ghost use Rattle.vectors.specs.Tallies.{next, Tallied};
 use crate::reading::Case;
 use crate::reading::Kind;
@@ -43,7 +43,7 @@ fn judged(case: Case, reply: Reply, d: &[u8], e: &[u8]) -> Outcome
 
 // What comes of a line. Where it is no case the reply counts for nothing.
 pub fn compared(case: Case, reply: Reply, d: &[u8], e: &[u8]) -> Outcome
-    ensures { λ r. ⌜ Judged case reply (now (d .entry)) (now (e .entry)) r ⌝ }
+    ensures { λ r. ⌜ Compared case reply (now (d .entry)) (now (e .entry)) r ⌝ }
 {
     let kind = case.kind;
     match kind {
