@@ -1,6 +1,6 @@
 // Replays vectors from standard input on a made-up function, `sum`: the shape that a replay program
 // has. Only `call`, and what it calls, is this program's own.
-use vectors::Kind;
+use vectors::Case;
 use vectors::Outcome;
 use vectors::Reply;
 use vectors::Tally;
@@ -27,9 +27,9 @@ fn sum(a: &[u8], n1: u64, n2: u64, d: &mut [u8]) -> Reply {
 }
 
 // Calls the function that the line names.
-fn call(line: &[u8], a: &[u8], _b: &[u8], n1: u64, n2: u64, _n3: u64, d: &mut [u8]) -> Reply {
+fn call(line: &[u8], case: Case, a: &[u8], _b: &[u8], d: &mut [u8]) -> Reply {
     if vectors::is_named(line, b"sum") {
-        return sum(a, n1, n2, d);
+        return sum(a, case.n1, case.n2, d);
     }
     Reply::Unknown
 }
@@ -37,27 +37,12 @@ fn call(line: &[u8], a: &[u8], _b: &[u8], n1: u64, n2: u64, _n3: u64, d: &mut [u
 // Runs one line, with room for its bytes.
 fn run_in(line: &[u8], a: &mut [u8], b: &mut [u8], d: &mut [u8], e: &mut [u8]) -> Outcome {
     let case = vectors::read_case(line, a, b, d, e);
-    let kind = case.kind;
-    match kind {
-        Kind::Blank => Outcome::Blank,
-        Kind::Malformed => Outcome::Malformed,
-        Kind::Case => {
-            let a_len = case.a_len;
-            let b_len = case.b_len;
-            let d_len = case.d_len;
-            let e_len = case.e_len;
-            let reply = call(
-                line,
-                &a[0..a_len],
-                &b[0..b_len],
-                case.n1,
-                case.n2,
-                case.n3,
-                &mut d[0..d_len],
-            );
-            vectors::compared(case, reply, &d[0..d_len], &e[0..e_len])
-        }
-    }
+    let a_len = case.a_len;
+    let b_len = case.b_len;
+    let d_len = case.d_len;
+    let e_len = case.e_len;
+    let reply = call(line, case, &a[0..a_len], &b[0..b_len], &mut d[0..d_len]);
+    vectors::compared(case, reply, &d[0..d_len], &e[0..e_len])
 }
 
 fn run(line: &[u8]) -> Outcome {

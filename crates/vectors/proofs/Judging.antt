@@ -6,19 +6,38 @@ use mathlib.Core.Bool.{Bool, true}
 use native.Mathlib.Omega.{arith}
 use borrow.Author.Needs.{needs}
 use Rattle.vectors.specs.declared.reading.Case.{Case}
+use Rattle.vectors.specs.declared.reading.Kind.{Kind}
+use Rattle.vectors.specs.declared.reading.Kind.the-variants as kinds
 use Rattle.vectors.specs.declared.tally.Reply.{Reply}
 use Rattle.vectors.specs.declared.tally.Reply.the-variants.{Of}
-use Rattle.vectors.specs.declared.tally.Outcome.the-variants.{Match, Mismatch, Unknown}
-use Rattle.vectors.specs.Verdicts.{Judged}
+use Rattle.vectors.specs.declared.tally.Outcome.{Outcome}
+use Rattle.vectors.specs.declared.tally.Outcome.the-variants.{Blank, Match, Mismatch, Malformed, Unknown}
+use Rattle.vectors.specs.Verdicts.{Judged, Compared}
+
+never : {A : Type 0} {r : Outcome} → (r ≡ Match → _≡_ {A = ℕ} 0 1) → r ≡ Match → A
+never f h = let z : _≡_ {A = ℕ} 0 1 = f h in absurd (omega arith)
 
 pub unknown : {k : Case} {p : Reply} {d e : List ℕ} → Judged k p d e Unknown
-unknown = record { sound = λ h. let z : _≡_ {A = ℕ} 0 1 = cc in absurd (omega arith) }
+unknown = record { sound = never (λ h. cc) }
 
 pub mismatch : {k : Case} {p : Reply} {d e : List ℕ} → Judged k p d e Mismatch
-mismatch = record { sound = λ h. let z : _≡_ {A = ℕ} 0 1 = cc in absurd (omega arith) }
+mismatch = record { sound = never (λ h. cc) }
 
 pub match : {k : Case} {p : Reply} {d e : List ℕ} {n v : ℕ} {s : Bool} → p ≡ Of n v → n ≡ k .number → v ≡ k .value
     → (s ≡ true → d ≡ e) × (d ≡ e → s ≡ true) → s ≡ true → Judged k p d e Match
 match q f g w t = record { sound = λ h. (cc, w .0 t) }
 
-pub ruleset judging = (unknown, mismatch, match, needs)
+no-match : {k : Case} {p : Reply} {d e : List ℕ} {r : Outcome} → (r ≡ Match → _≡_ {A = ℕ} 0 1) → Compared k p d e r
+no-match f = record { judged = record { sound = never f }; of-case = never f }
+
+pub blank : {k : Case} {p : Reply} {d e : List ℕ} → Compared k p d e Blank
+blank = no-match (λ h. cc)
+
+pub malformed : {k : Case} {p : Reply} {d e : List ℕ} → Compared k p d e Malformed
+malformed = no-match (λ h. cc)
+
+pub of-case : {k : Case} {p : Reply} {d e : List ℕ} {r : Outcome} {m : Kind} → m ≡ k .kind → m ≡ kinds.Case → Judged k p d e r
+    → Compared k p d e r
+of-case f g h = record { judged = h; of-case = λ _. cc }
+
+pub ruleset judging = (unknown, mismatch, match, blank, malformed, of-case, needs)

@@ -1,11 +1,12 @@
 // What comes of each line, counted and printed.
 ghost use mathlib.Core.Path.{_≡_};
-ghost use Rattle.vectors.specs.Verdicts.{Judged};
+ghost use Rattle.vectors.specs.Verdicts.{Judged, Compared};
 ghost use Rattle.vectors.specs.Tallies.{next, Tallied};
 use crate::reading::Case;
+use crate::reading::Kind;
 use libc::STDOUT_FILENO;
 
-// What a function under test answers, or that no function has the name.
+// What a function under test answers, or that no function has the name and takes the arguments.
 pub enum Reply {
     Of(u64, u64),
     Unknown,
@@ -21,7 +22,7 @@ pub enum Outcome {
 
 // Whether the reply and the destination are those that the case expects. `e` is what the
 // destination `d` should hold, whole, so that bytes that should be as before are compared too.
-pub fn compared(case: Case, reply: Reply, d: &[u8], e: &[u8]) -> Outcome
+fn judged(case: Case, reply: Reply, d: &[u8], e: &[u8]) -> Outcome
     ensures { λ r. ⌜ Judged case reply (now (d .entry)) (now (e .entry)) r ⌝ }
 {
     let Reply::Of(number, value) = reply else {
@@ -37,6 +38,18 @@ pub fn compared(case: Case, reply: Reply, d: &[u8], e: &[u8]) -> Outcome
         Outcome::Match
     } else {
         Outcome::Mismatch
+    }
+}
+
+// What comes of a line. Where it is no case the reply counts for nothing.
+pub fn compared(case: Case, reply: Reply, d: &[u8], e: &[u8]) -> Outcome
+    ensures { λ r. ⌜ Compared case reply (now (d .entry)) (now (e .entry)) r ⌝ }
+{
+    let kind = case.kind;
+    match kind {
+        Kind::Blank => Outcome::Blank,
+        Kind::Malformed => Outcome::Malformed,
+        Kind::Case => judged(case, reply, d, e),
     }
 }
 

@@ -99,11 +99,11 @@ pub fn read_bytes(text: &str) -> Result<Vec<u8>, String> {
         rest = after;
         let mut count = 1;
         if let Some(after) = rest.strip_prefix(b"*") {
-            // A count takes every digit that follows it.
+            // A count takes every digit that follows it; a comma may end it.
             let end = after.iter().position(|c| !c.is_ascii_digit());
             let (digits, after) = after.split_at(end.unwrap_or(after.len()));
             count = read_number(std::str::from_utf8(digits).unwrap())?;
-            rest = after;
+            rest = after.strip_prefix(b",").unwrap_or(after);
         }
         if count == 0 {
             return Err("a repetition of 0".to_string());
@@ -121,8 +121,8 @@ fn run_end(bytes: &[u8], start: usize) -> usize {
     start + same.count()
 }
 
-/// A run of four or more is written as a repetition where no digit follows the count:
-/// at the end of the field, or before a pair that starts with a letter.
+/// A run of four or more is written as a repetition, with a comma where the next pair starts with a
+/// decimal digit.
 pub fn write_bytes(bytes: &[u8]) -> String {
     if bytes.is_empty() {
         return "-".to_string();
@@ -131,9 +131,11 @@ pub fn write_bytes(bytes: &[u8]) -> String {
     let mut at = 0;
     while at < bytes.len() {
         let end = run_end(bytes, at);
-        let clear = end == bytes.len() || bytes[end] >= 0xa0;
-        if end - at >= 4 && clear {
+        if end - at >= 4 {
             text += &format!("{:02x}*{}", bytes[at], end - at);
+            if end < bytes.len() && bytes[end] < 0xa0 {
+                text += ",";
+            }
         } else {
             text.extend(bytes[at..end].iter().map(|byte| format!("{byte:02x}")));
         }
@@ -150,17 +152,23 @@ mod tests {
     fn a_count_belongs_to_the_pair_before_it() {
         assert_eq!(read_bytes("0001*3"), Ok(vec![0, 1, 1, 1]));
         assert_eq!(read_bytes("00*3a0"), Ok(vec![0, 0, 0, 0xa0]));
+        assert_eq!(read_bytes("00*3,01"), Ok(vec![0, 0, 0, 1]));
+        assert_eq!(read_bytes("00*3,a0"), Ok(vec![0, 0, 0, 0xa0]));
+        assert_eq!(read_bytes("00*3,"), Ok(vec![0, 0, 0]));
         assert_eq!(read_bytes("-"), Ok(vec![]));
         for bad in ["", "0", "0g", "AA", "*3", "00*", "00*0", "00-", "00*3*3"] {
+            assert!(read_bytes(bad).is_err(), "{bad}");
+        }
+        for bad in [",", "00,01", "00*,01", "00*3,,01", "00*3,0"] {
             assert!(read_bytes(bad).is_err(), "{bad}");
         }
     }
 
     #[test]
-    fn a_repetition_is_written_where_no_digit_follows() {
+    fn a_repetition_is_written_with_a_comma_before_a_digit() {
         assert_eq!(write_bytes(&[0; 128]), "00*128");
         assert_eq!(write_bytes(&[0, 0, 0, 0, 0xa0]), "00*4a0");
-        assert_eq!(write_bytes(&[0, 0, 0, 0, 1]), "0000000001");
+        assert_eq!(write_bytes(&[0, 0, 0, 0, 1]), "00*4,01");
         assert_eq!(write_bytes(&[1, 1, 1]), "010101");
     }
 

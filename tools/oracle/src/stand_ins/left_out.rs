@@ -1,4 +1,4 @@
-//! Stand-ins for what document 01 leaves out: the five files name these things, no compared
+//! Stand-ins for what the scope document leaves out: the five files name these things, no compared
 //! function runs through them. A type that stands for a left-out value has no values, or its
 //! operations panic, so that a comparison can never rest on a meaning invented here.
 
@@ -7,7 +7,7 @@ use std::convert::Infallible;
 use std::marker::PhantomData;
 
 fn left_out() -> ! {
-    panic!("left out by document 01: no compared function may come here")
+    panic!("left out by the scope document: no compared function may come here")
 }
 
 /// `num_complex::Complex64`: only the matrices and `to_complex` use it.
@@ -223,10 +223,10 @@ pub mod gate_type {
         _: SingleQubitGateMatrix,
         _: SingleQubitGateMatrix,
     ) -> SingleQubitGateMatrix {
-        panic!("left out by document 01")
+        panic!("left out by the scope document")
     }
 
     pub const fn scale_2x2(_: SingleQubitGateMatrix, _: f64, _: f64) -> SingleQubitGateMatrix {
-        panic!("left out by document 01")
+        panic!("left out by the scope document")
     }
 }

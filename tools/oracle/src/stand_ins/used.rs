@@ -1,4 +1,4 @@
-//! Stand-ins that the compared functions run through. Their meaning is document 01's:
+//! Stand-ins that the compared functions run through. Their meaning is the scope document's:
 //! `QubitId` wraps a usize, `Sign` is plus or minus, a letter is I, X, Y or Z, and
 //! `assert_distinct_qubits` panics on equal qubits.
 

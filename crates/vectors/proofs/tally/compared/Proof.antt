@@ -12,5 +12,4 @@ compared-spec =
     (λ c. search judging)
     (λ c. search judging)
     (λ c. search judging)
-    (λ c. search judging)
     (λ c. search judging))
