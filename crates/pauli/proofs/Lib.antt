@@ -11,3 +11,4 @@ pub mod EntryMarks
 pub mod EntryStrings
 pub mod TextBytes
 pub mod Numerals
+pub mod Tokens
