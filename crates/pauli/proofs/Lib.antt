@@ -12,3 +12,4 @@ pub mod EntryStrings
 pub mod TextBytes
 pub mod Numerals
 pub mod Tokens
+pub mod SparseReading

@@ -3,12 +3,14 @@ use mathlib.Core.Path.{_≡_, refl, sym, ap, ap₂, _∙_}
 use mathlib.Core.Bool.{Bool, true, false, cond, not, _&&_, _||_}
 use mathlib.Core.List.{List, [], _∷_}
 use mathlib.Core.Logic.{_⊎_, inl, inr}
-use Prim.Native.Nat.{ℕ, zero, suc, _+_, _<_, _≤_}
+use Prim.Native.Nat.{ℕ, zero, suc, _+_, _^_, _<_, _≤_}
 use native.Mathlib.Numerals.{add-one}
 use native.Mathlib.Decide.{decLt}
 use native.Mathlib.Omega.{arith}
 use lib.Dec.{leb, ltb, eqb}
-use lib.ListN.{length, getD, List·getD-eq-default}
+use lib.ListN.{length, getD, drop, length-drop, List·getD-eq-default}
+use mir.Syntax.{w64}
+use mir.Val.{Fits}
 use borrow.Author.Needs.{needs}
 use borrow.Author.Tests.{eqb-true, eq-eqb, ne-eqb, le-leb, lt-leb, lt-ltb, le-ltb}
 use Rattle.pauli_group.specs.Phase.{Phase, PlusOne, MinusOne, PlusI, MinusI}
@@ -17,10 +19,10 @@ use Rattle.pauli.specs.declared.refusal.Outcome.the-variants.{Done, Refu
 use Rattle.pauli.specs.declared.text.Prefix.{Prefix}
 use Rattle.pauli.specs.declared.text.Head.{Head}
 use Rattle.pauli.specs.Layout.{phaseByte}
-use Rattle.pauli.specs.Reading.{PrefixRead, HeadRead}
-use Rattle.pauli.specs.Text.{isSpace, isDigit, isSign, isSmallI, letterNamed, leadingSpaces, textStart, prefixPhase, prefixLength, textPhase, bodyStart, firstNotAscii, asciiQuestion}
+use Rattle.pauli.specs.Reading.{Skipped, PrefixRead, HeadRead}
+use Rattle.pauli.specs.Text.{isSpace, isDigit, isSign, isSmallI, letterNamed, leadingSpaces, leadingWord, textStart, prefixPhase, prefixLength, textPhase, bodyStart, firstNotAscii, asciiQuestion}
 use Rattle.pauli.proofs.Asking.{asked-yes, asked-no}
-use Rattle.pauli.proofs.Places.{none-start, none-more, none-found, none-left, first-le}
+use Rattle.pauli.proofs.Places.{from, from-is, none-start, none-more, none-found, none-left, first-le}
 
 -- ---- white space and digits
 pub space-32 : {c : ℕ} → c ≡ 32 → true ≡ isSpace c
@@ -172,7 +174,7 @@ unfolding textPhase bodyStart textStart
 head-at t k e =
     (ap (λ (j : ℕ). prefixPhase (getD t j 0) (getD t (suc j) 0)) e, ap (λ (j : ℕ). j + prefixLength (getD t j 0) (getD t (suc j) 0)) e)
 
-spaces-within : (t : List ℕ) → leadingSpaces t ≤ length t
+pub spaces-within : (t : List ℕ) → leadingSpaces t ≤ length t
 unfolding leadingSpaces
 spaces-within t = first-le (length t) _
 
@@ -201,3 +203,17 @@ head-some t {k} {b} {p} e h eb r =
     }
 
 pub ruleset heads = (head-none, head-some, needs)
+
+-- ---- where white space or a word ends
+pub words-within : (t : List ℕ) → leadingWord t ≤ length t
+unfolding leadingWord
+words-within t = first-le (length t) _
+
+pub skipped : (count : List ℕ → ℕ) → ((s : List ℕ) → count s ≤ length s) → (t : List ℕ) (k : ℕ) {r : ℕ} → r ≡ count (from k t) → k ≤ length t
+    → Skipped count t k (k + r)
+skipped count bound t k {r} e h =
+    let is : r ≡ count (drop k t) = e ∙ ap count (from-is k t) in
+    record { is = omega arith; onward = omega arith; within = omega (arith, bound (drop k t), length-drop k t) }
+
+pub skip-fits : {count : List ℕ → ℕ} {t : List ℕ} {k r : ℕ} → Skipped count t k r → length t < 2 ^ 64 → Fits w64 r
+skip-fits s h = record { fits = omega (arith, s .within) }

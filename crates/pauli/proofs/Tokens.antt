@@ -29,7 +29,7 @@ spaces-none : (c : ℕ) (cs : List ℕ) → isSpace c ≡ false → leadingSpace
 unfolding leadingSpaces firstPlace
 spaces-none c cs e = ap (λ b. cond (not b) zero (suc (firstPlace (length cs) (λ k. not (isSpace (getD cs k 0)))))) e
 
-word-here : (c : ℕ) (cs : List ℕ) → isSpace c ≡ false → leadingWord (c ∷ cs) ≡ suc (leadingWord cs)
+pub word-here : (c : ℕ) (cs : List ℕ) → isSpace c ≡ false → leadingWord (c ∷ cs) ≡ suc (leadingWord cs)
 unfolding leadingWord firstPlace
 word-here c cs e = ap (λ b. cond b zero (suc (firstPlace (length cs) (λ k. isSpace (getD cs k 0))))) e
 
@@ -119,11 +119,11 @@ unfolding _andThen_
 andThen-done Done = refl
 andThen-done (Refused r) = refl
 
-refused-first : (q r : Outcome) {x : Refusal} → q ≡ Refused x → q andThen r ≡ Refused x
+pub refused-first : (q r : Outcome) {x : Refusal} → q ≡ Refused x → q andThen r ≡ Refused x
 unfolding _andThen_
 refused-first q r h = ap (λ z. z andThen r) h
 
-done-then : (q r : Outcome) → q ≡ Done → q andThen r ≡ r
+pub done-then : (q r : Outcome) → q ≡ Done → q andThen r ≡ r
 unfolding _andThen_
 done-then q r h = ap (λ z. z andThen r) h
 

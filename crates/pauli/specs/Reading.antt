@@ -1,16 +1,31 @@
 -- What the functions that read text promise one another.
-use Prim.Native.Nat.{ℕ, _-_, _^_, _≤_}
+use Prim.Native.Nat.{ℕ, _+_, _-_, _^_, _≤_, _<_}
 use mathlib.Core.Bool.{Bool, true, false, _&&_}
 use lib.Dec.{ltb}
 use mathlib.Core.Path.{_≡_}
-use mathlib.Core.List.{List}
-use lib.ListN.{length}
+use mathlib.Core.List.{List, [], _∷_}
+use lib.ListN.{length, getD, drop}
 use Rattle.pauli.specs.declared.text.Prefix.{Prefix}
 use Rattle.pauli.specs.declared.text.Head.{Head}
 use Rattle.pauli.specs.declared.text.Numeral.{Numeral}
 use Rattle.pauli.specs.declared.text.Numeral.the-variants.{Value, NotNumber}
+use Rattle.pauli.specs.declared.sparse_reader.IndexAnswer.{IndexAnswer}
+use Rattle.pauli.specs.declared.sparse_reader.IndexAnswer.the-variants.{At, NotAt}
+use Rattle.pauli.specs.declared.sparse_reader.EntryAnswer.{EntryAnswer}
+use Rattle.pauli.specs.declared.sparse_reader.EntryAnswer.the-variants.{Entry, NoEntry}
+use Rattle.pauli.specs.declared.refusal.Refusal.{Refusal}
+use Rattle.pauli.specs.declared.refusal.Outcome.{Outcome}
+use Rattle.pauli.specs.declared.refusal.Outcome.the-variants.{Done, Refused}
+use Rattle.pauli.specs.Entries.{entryCount, entryLetter, entryQubit}
+use Rattle.pauli.specs.Marks.{marksTo, Blank}
 use Rattle.pauli.specs.Layout.{phaseByte}
-use Rattle.pauli.specs.Text.{isDigit, prefixPhase, prefixLength, textPhase, bodyStart, allDigits, digitsValue, isIndex, indexValue}
+use Rattle.pauli.specs.Text.{isSpace, letterNamed, leadingWord, Token, tokens, tokenQuestions, tokenEntries, indexQuestions, isDigit, prefixPhase, prefixLength, textPhase, bodyStart, allDigits, digitsValue, isIndex, indexValue}
+
+-- r is as far after k as the text that begins there says
+pub record Skipped (count : List ℕ → ℕ) (t : List ℕ) (k r : ℕ) : Type 0 where
+  pub is : r ≡ k + count (drop k t)
+  pub onward : k ≤ r
+  pub within : r ≤ length t
 
 pub record PrefixRead (a b : ℕ) (r : Prefix) : Type 0 where
   pub phase : r .phase ≡ phaseByte (prefixPhase a b)
@@ -40,3 +55,59 @@ digitsNumeral ds = numeralIf (areDigits ds) (digitsValue 0 ds)
 
 unfoldable pub indexNumeral : List ℕ → Numeral
 indexNumeral bs = numeralIf (isIndex bs) (indexValue bs)
+
+-- ---- sparse text
+
+-- the qubit of an index at offset k, or its refusal
+abbrev pub indexIf : Outcome → ℕ → IndexAnswer
+indexIf Done v = At v
+indexIf (Refused r) v = NotAt r
+
+unfoldable pub indexAnswer : ℕ → List ℕ → IndexAnswer
+indexAnswer k bs = indexIf (indexQuestions k bs) (indexValue bs)
+
+unfoldable pub entryAfter : ℕ → IndexAnswer → ℕ → EntryAnswer
+entryAfter l (At q) n = Entry l q n
+entryAfter l (NotAt r) n = NoEntry r
+
+-- a token begins at this place of the text
+pub record WordAt (t : List ℕ) (k : ℕ) : Type 0 where
+  pub within : k < length t
+  pub byte : isSpace (getD t k 0) ≡ false
+
+-- it is this letter, alone
+pub record LetterAt (t : List ℕ) (k l : ℕ) : Type 0 where
+  pub begins : WordAt t k
+  pub letter : l ≡ letterNamed (getD t k 0)
+  pub known : 0 < l
+  pub alone : leadingWord (drop k t) ≡ 1
+
+-- the first entry of the tokens ws of t, which begin at k: letter l on qubit q, and the rest from n on
+pub record OneEntry (ws : List Token) (t : List ℕ) (k l q n : ℕ) : Type 0 where
+  pub questions : tokenQuestions ws ≡ tokenQuestions (tokens n (drop n t))
+  pub entries : tokenEntries ws ≡ l ∷ q ∷ tokenEntries (tokens n (drop n t))
+  pub letter : l ≤ 3
+  pub place : q < 128
+  pub onward : k < n
+  pub within : n ≤ length t
+
+pub record EntryRead (ws : List Token) (t : List ℕ) (k : ℕ) (r : EntryAnswer) : Type 0 where
+  pub one : (l q n : ℕ) → r ≡ Entry l q n → OneEntry ws t k l q n
+  pub refused : (x : Refusal) → r ≡ NoEntry x → tokenQuestions ws ≡ Refused x
+
+-- a place from which tokens are read, and no marks yet
+pub record BodyAt (t : List ℕ) (k : ℕ) (m : List ℕ) : Type 0 where
+  pub within : k ≤ length t
+  pub blank : Blank m
+
+-- entries with letters up to 3 and qubits below 128
+pub record GoodEntries (e : List ℕ) : Type 0 where
+  pub even : length e ≡ entryCount e + entryCount e
+  pub letters : (j : ℕ) → j < entryCount e → entryLetter e j ≤ 3
+  pub places : (j : ℕ) → j < entryCount e → entryQubit e j < 128
+
+-- the answer r to the tokens ws, and the marks m that are left where it is Done
+pub record TokensRead (ws : List Token) (m : List ℕ) (r : Outcome) : Type 0 where
+  pub answer : r ≡ tokenQuestions ws
+  pub marks : r ≡ Done → m ≡ marksTo (tokenEntries ws) (entryCount (tokenEntries ws))
+  pub good : r ≡ Done → GoodEntries (tokenEntries ws)

@@ -7,4 +7,5 @@ pub mod quarter_phase;
 pub mod questions;
 pub mod refusal;
 pub mod rows;
+mod sparse_reader;
 mod text;

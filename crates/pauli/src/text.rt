@@ -1,7 +1,8 @@
 // Text: its bytes, words and prefix, and the numerals in it.
 ghost use mathlib.Core.Path.{_≡_};
-ghost use lib.ListN.{getD};
-ghost use Rattle.pauli.specs.Reading.{PrefixRead, HeadRead, DigitValue, digitsNumeral, indexNumeral};
+ghost use Prim.Native.Nat.{_≤_};
+ghost use lib.ListN.{length, getD};
+ghost use Rattle.pauli.specs.Reading.{Skipped, PrefixRead, HeadRead, DigitValue, digitsNumeral, indexNumeral};
 ghost use Rattle.pauli.specs.Text.{isSpace, isDigit, letterNamed, leadingSpaces, leadingWord, firstNotAscii, asciiQuestion};
 use crate::refusal::Outcome;
 use crate::refusal::Refusal;
@@ -74,6 +75,21 @@ pub(crate) fn word(t: &[u8]) -> usize
         i += 1;
     }
     i
+}
+
+// The place where white space from `at` on ends, and where a word does.
+pub(crate) fn skip_spaces(t: &[u8], at: usize) -> usize
+    requires { ⌜ at ≤ length (now t) ⌝ }
+    ensures { λ r. ⌜ Skipped leadingSpaces (now (t .entry)) at r ⌝ }
+{
+    at + spaces(&t[at..])
+}
+
+pub(crate) fn skip_word(t: &[u8], at: usize) -> usize
+    requires { ⌜ at ≤ length (now t) ⌝ }
+    ensures { λ r. ⌜ Skipped leadingWord (now (t .entry)) at r ⌝ }
+{
+    at + word(&t[at..])
 }
 
 // The first byte of 128 or above, or the length.

@@ -1,0 +1,88 @@
+// Sparse text, token by token: each letter with its index is read and its qubit marked.
+ghost use mathlib.Core.Path.{_≡_};
+ghost use lib.ListN.{drop};
+ghost use Rattle.pauli.specs.Marks.{Blank};
+ghost use Rattle.pauli.specs.Reading.{indexAnswer, LetterAt, WordAt, EntryRead, entryAfter, BodyAt, TokensRead};
+ghost use Rattle.pauli.specs.Text.{tokens};
+
+use crate::entries::mark;
+use crate::refusal::Outcome;
+use crate::refusal::Refusal;
+use crate::text::Numeral;
+use crate::text::letter_named;
+use crate::text::read_numeral;
+use crate::text::skip_spaces;
+use crate::text::skip_word;
+
+// The qubit that an index names.
+pub(crate) enum IndexAnswer {
+    At(usize),
+    NotAt(Refusal),
+}
+
+// One letter and its qubit, and the offset after them.
+pub(crate) enum EntryAnswer {
+    Entry {
+        letter: u8,
+        qubit: usize,
+        next: usize,
+    },
+    NoEntry(Refusal),
+}
+
+// The index bs, which stands at this offset.
+fn read_index(bs: &[u8], offset: usize) -> IndexAnswer
+    ensures { λ r. ⌜ r ≡ indexAnswer offset (now (bs .entry)) ⌝ }
+{
+    let n = read_numeral(bs);
+    let Numeral::Value(v) = n else {
+        return IndexAnswer::NotAt(Refusal::NotNumeral { offset });
+    };
+    if v < 128 {
+        return IndexAnswer::At(v as usize);
+    }
+    IndexAnswer::NotAt(Refusal::TextQubit { offset })
+}
+
+fn entry_after(letter: u8, index: IndexAnswer, next: usize) -> EntryAnswer
+    ensures { λ r. ⌜ r ≡ entryAfter letter index next ⌝ }
+{
+    match index {
+        IndexAnswer::At(qubit) => EntryAnswer::Entry {
+            letter,
+            qubit,
+            next,
+        },
+        IndexAnswer::NotAt(why) => EntryAnswer::NoEntry(why),
+    }
+}
+
+// A letter that stands alone at this offset: its index is the next token.
+fn read_apart(t: &[u8], at: usize, letter: u8) -> EntryAnswer
+    requires { ⌜ LetterAt (now t) at letter ⌝ }
+    ensures { λ r. ⌜ EntryRead (tokens at (drop at (now (t .entry)))) (now (t .entry)) at r ⌝ }
+{
+    let from = skip_spaces(t, at + 1);
+    if t.len() <= from {
+        return EntryAnswer::NoEntry(Refusal::NoIndex { offset: at });
+    }
+    let end = skip_word(t, from);
+    entry_after(letter, read_index(&t[from..end], from), end)
+}
+
+// The letter and index at this offset, where a token begins.
+fn read_entry(t: &[u8], at: usize) -> EntryAnswer
+    requires { ⌜ WordAt (now t) at ⌝ }
+    ensures { λ r. ⌜ EntryRead (tokens at (drop at (now (t .entry)))) (now (t .entry)) at r ⌝ }
+{
+    let letter = letter_named(t[at]);
+    if letter == 0 {
+        return EntryAnswer::NoEntry(Refusal::NotLetter { offset: at });
+    }
+    let after = at + 1;
+    let end = skip_word(t, at);
+    if end <= after {
+        return read_apart(t, at, letter);
+    }
+    entry_after(letter, read_index(&t[after..end], after), end)
+}
