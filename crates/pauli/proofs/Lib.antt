@@ -13,3 +13,4 @@ pub mod TextBytes
 pub mod Numerals
 pub mod Tokens
 pub mod SparseReading
+pub mod SparseTokens

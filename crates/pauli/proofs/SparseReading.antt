@@ -139,7 +139,7 @@ without-first zero c cs h = absurd (not-suc-le-zero h)
 without-first (suc n) c cs h = let e : n ≡ suc n - 1 = omega arith in ap (λ (j : ℕ). take j cs) e
 
 -- white space ends at a byte that is none
-space-ends : (t : List ℕ) (j f : ℕ) → Skipped leadingSpaces t j f → f < length t → isSpace (getD t f 0) ≡ false
+pub space-ends : (t : List ℕ) (j f : ℕ) → Skipped leadingSpaces t j f → f < length t → isSpace (getD t f 0) ≡ false
 unfolding leadingSpaces
 space-ends t j f s h = was (isSpace (getD t f 0)) (ap (λ (i : ℕ). not (isSpace (getD t i 0))) (s .is) ∙ sym (ap (λ (x : ℕ). not (isSpace x)) (getD-drop j t p 0)) ∙ first-has (length (drop j t)) (λ i. not (isSpace (getD (drop j t) i 0))) short)
   where
@@ -151,7 +151,7 @@ space-ends t j f s h = was (isSpace (getD t f 0)) (ap (λ (i : ℕ). not (isSpac
     was true e = sym e
     was false e = refl
 
-no-more : (k : ℕ) (s : List ℕ) → s ≡ [] → tokens k s ≡ []
+pub no-more : (k : ℕ) (s : List ℕ) → s ≡ [] → tokens k s ≡ []
 unfolding tokens
 no-more k s e = ap (tokens k) e
 

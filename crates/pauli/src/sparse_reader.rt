@@ -86,3 +86,26 @@ fn read_entry(t: &[u8], at: usize) -> EntryAnswer
     }
     entry_after(letter, read_index(&t[after..end], after), end)
 }
+
+// All tokens from an offset on: each entry is marked.
+pub(crate) fn read_tokens(t: &[u8], start: usize, marks: &mut [u8]) -> Outcome
+    requires { ⌜ BodyAt (now t) start (now marks) ⌝ }
+    ensures { λ r. ⌜ TokensRead (tokens start (drop start (now (t .entry)))) (now (marks .exit)) r ⌝ }
+{
+    let mut at = skip_spaces(t, start);
+    while at < t.len() {
+        let entry = read_entry(t, at);
+        match entry {
+            EntryAnswer::NoEntry(why) => return Outcome::Refused(why),
+            EntryAnswer::Entry {
+                letter,
+                qubit,
+                next,
+            } => {
+                mark(marks, letter, qubit);
+                at = skip_spaces(t, next);
+            }
+        }
+    }
+    Outcome::Done
+}

@@ -1,0 +1,187 @@
+-- All tokens of a sparse text: what has been read and marked before a place.
+use mathlib.Core.Path.{_≡_, refl, sym, ap, ap₂, _∙_, subst}
+use mathlib.Core.Bool.{Bool, true, false, cond}
+use mathlib.Core.List.{List, [], _∷_, _++_, append-assoc, append-nil}
+use Prim.Native.Nat.{ℕ, zero, suc, _+_, _*_, _-_, _/_, _<_, _≤_}
+use native.Mathlib.Nat.{not-suc-le-zero}
+use native.Mathlib.Decide.{ℕ-discrete}
+use native.Mathlib.Omega.{arith}
+use lib.Dec.{eqb}
+use lib.ListN.{length, getD, drop, set, length-append, length-drop, drop-of-length-le, List·getD-append}
+use lib.Seq.{getD-append-add, drop-drop}
+use borrow.Author.Needs.{needs}
+use Rattle.pauli.specs.declared.refusal.Refusal.{Refusal}
+use Rattle.pauli.specs.declared.refusal.Outcome.{Outcome}
+use Rattle.pauli.specs.declared.refusal.Outcome.the-variants.{Done, Refused}
+use Rattle.pauli.specs.declared.sparse_reader.EntryAnswer.{EntryAnswer}
+use Rattle.pauli.specs.declared.sparse_reader.EntryAnswer.the-variants.{Entry, NoEntry}
+use Rattle.pauli_group.specs.PauliString.{qubits}
+use Rattle.pauli.specs.Entries.{entryCount, entryLetter, entryQubit}
+use Rattle.pauli.specs.Marks.{markMore, markTo, marksTo, MarkFits, Blank}
+use Rattle.pauli.specs.Reading.{Skipped, WordAt, OneEntry, EntryRead, BodyAt, GoodEntries, TokensRead}
+use Rattle.pauli.specs.Text.{isSpace, leadingSpaces, Token, tokens, tokenQuestions, tokenEntries}
+use Rattle.pauli.proofs.EntryMarks.{length-marks, mark-step}
+use Rattle.pauli.proofs.Places.{listed-ext}
+use Rattle.pauli.proofs.SparseReading.{space-ends, no-more}
+use Rattle.pauli.proofs.Tokens.{tokens-skip}
+
+-- ---- one entry more at the end of a list of entries
+module _ (e : List ℕ) (l q : ℕ) (even : length e ≡ entryCount e + entryCount e) where
+  abbrev more : List ℕ
+  more = e ++ (l ∷ q ∷ [])
+
+  abbrev n : ℕ
+  n = entryCount e
+
+  long : length more ≡ length e + 2
+  long = length-append e (l ∷ q ∷ [])
+
+  count-more : entryCount more ≡ suc n
+  unfolding entryCount
+  count-more = omega (arith, long, even)
+
+  even-more : length more ≡ entryCount more + entryCount more
+  even-more = omega (arith, long, even, count-more)
+
+  letter-kept : (j : ℕ) → j < n → entryLetter more j ≡ entryLetter e j
+  unfolding entryLetter
+  letter-kept j h = List·getD-append e (l ∷ q ∷ []) 0 (2 * j) (omega (arith, even))
+
+  qubit-kept : (j : ℕ) → j < n → entryQubit more j ≡ entryQubit e j
+  unfolding entryQubit
+  qubit-kept j h = List·getD-append e (l ∷ q ∷ []) 0 (2 * j + 1) (omega (arith, even))
+
+  letter-new : entryLetter more n ≡ l
+  unfolding entryLetter
+  letter-new = let place : 2 * n ≡ length e + 0 = omega (arith, even) in ap (λ (j : ℕ). getD more j 0) place ∙ getD-append-add e (l ∷ q ∷ []) 0 0
+
+  qubit-new : entryQubit more n ≡ q
+  unfolding entryQubit
+  qubit-new = let place : 2 * n + 1 ≡ length e + 1 = omega (arith, even) in ap (λ (j : ℕ). getD more j 0) place ∙ getD-append-add e (l ∷ q ∷ []) 1 0
+
+mark-ext : (f g : ℕ → Bool) (a b : ℕ → ℕ) (n : ℕ) → ((j : ℕ) → j < n → f j ≡ g j) → ((j : ℕ) → j < n → a j ≡ b j) → markTo f a n ≡ markTo g b n
+unfolding markTo
+mark-ext f g a b zero hf ha = refl
+mark-ext f g a b (suc n) hf ha =
+    let rest : markTo f a n ≡ markTo g b n = mark-ext f g a b n (λ j h. hf j (omega arith)) (λ j h. ha j (omega arith)) in
+    λ i. cond (hf n (omega arith) i) (markMore (rest i) (ha n (omega arith) i)) (rest i)
+
+marks-ext : (d e : List ℕ) (n : ℕ) → ((j : ℕ) → j < n → entryLetter d j ≡ entryLetter e j) → ((j : ℕ) → j < n → entryQubit d j ≡ entryQubit e j) → marksTo d n ≡ marksTo e n
+unfolding marksTo
+marks-ext d e n hl hq =
+    listed-ext qubits _ _ (λ k l. mark-ext (λ j. eqb (entryQubit d j) k) (λ j. eqb (entryQubit e j) k) (entryLetter d) (entryLetter e) n (λ j h. ap (λ (x : ℕ). eqb x k) (hq j h)) hl)
+
+marks-more : (e : List ℕ) (l q : ℕ) → length e ≡ entryCount e + entryCount e → q < 128
+    → set (marksTo e (entryCount e)) q (markMore (getD (marksTo e (entryCount e)) q 0) l) ≡ marksTo (e ++ (l ∷ q ∷ [])) (entryCount (e ++ (l ∷ q ∷ [])))
+marks-more e l q even h =
+    ap (λ (m : List ℕ). set m q (markMore (getD m q 0) l)) (sym (marks-ext (more e l q even) e (entryCount e) (letter-kept e l q even) (qubit-kept e l q even)))
+    ∙ mark-step (more e l q even) (entryCount e) l q (sym (letter-new e l q even)) (sym (qubit-new e l q even)) h
+    ∙ ap (marksTo (more e l q even)) (sym (count-more e l q even))
+
+good-more : (e : List ℕ) (l q : ℕ) → GoodEntries e → l ≤ 3 → q < 128 → GoodEntries (e ++ (l ∷ q ∷ []))
+good-more e l q g hl hq = record {
+  even = even-more e l q (g .even);
+  letters = λ j h. letter j (omega (arith, count-more e l q (g .even)));
+  places = λ j h. place j (omega (arith, count-more e l q (g .even)));
+}
+  where
+    letter : (j : ℕ) → j < suc (entryCount e) → entryLetter (e ++ (l ∷ q ∷ [])) j ≤ 3
+    letter j h = elim (ℕ-discrete j (entryCount e)) [
+      | yes d ↦ omega (arith, ap (entryLetter (e ++ (l ∷ q ∷ []))) d, letter-new e l q (g .even))
+      | no d ↦ let b : j < entryCount e = omega arith in omega (arith, letter-kept e l q (g .even) j b, g .letters j b)
+    ]
+    place : (j : ℕ) → j < suc (entryCount e) → entryQubit (e ++ (l ∷ q ∷ [])) j < 128
+    place j h = elim (ℕ-discrete j (entryCount e)) [
+      | yes d ↦ omega (arith, ap (entryQubit (e ++ (l ∷ q ∷ []))) d, qubit-new e l q (g .even))
+      | no d ↦ let b : j < entryCount e = omega arith in omega (arith, qubit-kept e l q (g .even) j b, g .places j b)
+    ]
+
+good-none : GoodEntries []
+unfolding entryCount
+good-none = record { even = refl; letters = λ j h. absurd (not-suc-le-zero h); places = λ j h. absurd (not-suc-le-zero h) }
+
+-- ---- the tokens ws of t, read up to place k
+pub record Reading (ws : List Token) (t : List ℕ) (k : ℕ) (m : List ℕ) : Type 0 where
+  pub seen : List ℕ
+  pub within : k ≤ length t
+  pub begins : k < length t → isSpace (getD t k 0) ≡ false
+  pub questions : tokenQuestions ws ≡ tokenQuestions (tokens k (drop k t))
+  pub entries : tokenEntries ws ≡ seen ++ tokenEntries (tokens k (drop k t))
+  pub marks : m ≡ marksTo seen (entryCount seen)
+  pub good : GoodEntries seen
+
+skip-tokens : (t : List ℕ) (n k : ℕ) → Skipped leadingSpaces t n k → tokens n (drop n t) ≡ tokens k (drop k t)
+skip-tokens t n k s =
+    tokens-skip n (drop n t) ∙ ap (tokens (n + leadingSpaces (drop n t))) (drop-drop (leadingSpaces (drop n t)) n t) ∙ ap (λ (j : ℕ). tokens j (drop j t)) (sym (s .is))
+
+pub reading-none : {t m : List ℕ} {s k : ℕ} → BodyAt t s m → Skipped leadingSpaces t s k → Reading (tokens s (drop s t)) t k m
+unfolding entryCount
+reading-none {t} {m} {s} {k} b h = record {
+  seen = [];
+  within = h .within;
+  begins = space-ends t s k h;
+  questions = ap tokenQuestions (skip-tokens t s k h);
+  entries = ap tokenEntries (skip-tokens t s k h);
+  marks = b .blank .none [];
+  good = good-none;
+}
+
+pub reading-start : {t m : List ℕ} {s : ℕ} → BodyAt t s m → s ≤ length t
+reading-start b = b .within
+
+pub reading-word : {ws : List Token} {t m : List ℕ} {k : ℕ} → Reading ws t k m → k < length t → WordAt t k
+reading-word r h = record { within = h; byte = r .begins h }
+
+module _ {ws : List Token} {t m : List ℕ} {k : ℕ} {a : EntryAnswer} {l q n : ℕ} (r : Reading ws t k m) (read : EntryRead (tokens k (drop k t)) t k a) (told : a ≡ Entry l q n) where
+  one : OneEntry (tokens k (drop k t)) t k l q n
+  one = read .one l q n told
+
+  pub reading-fits : MarkFits m l q
+  reading-fits = record { letter = one .letter; place = omega (arith, one .place, ap length (r .marks), length-marks (r .seen) (entryCount (r .seen))) }
+
+  pub reading-next : n ≤ length t
+  reading-next = one .within
+
+  pub reading-less : {j : ℕ} → Skipped leadingSpaces t n j → length t - j < length t - k
+  reading-less s = omega (arith, one .onward, one .within, s .onward, s .within)
+
+  pub reading-step : {d : List ℕ} {j : ℕ} → d ≡ set m q (markMore (getD m q 0) l) → Skipped leadingSpaces t n j → Reading ws t j d
+  reading-step {d} {j} ed s = record {
+    seen = r .seen ++ (l ∷ q ∷ []);
+    within = s .within;
+    begins = space-ends t n j s;
+    questions = r .questions ∙ one .questions ∙ ap tokenQuestions (skip-tokens t n j s);
+    entries = r .entries ∙ ap (λ (e : List ℕ). r .seen ++ e) (one .entries ∙ ap (λ (w : List Token). l ∷ q ∷ tokenEntries w) (skip-tokens t n j s))
+        ∙ sym (append-assoc (r .seen) (l ∷ q ∷ []) (tokenEntries (tokens j (drop j t))));
+    marks = ed ∙ ap (λ (x : List ℕ). set x q (markMore (getD x q 0) l)) (r .marks) ∙ marks-more (r .seen) l q (r .good .even) (one .place);
+    good = good-more (r .seen) l q (r .good) (one .letter) (one .place);
+  }
+
+never-done : {x : Refusal} → Refused x ≡ Done → ⊥
+never-done e = let z : _≡_ {A = ℕ} 0 1 = cc in omega arith
+
+pub reading-refused : {ws : List Token} {t m : List ℕ} {k : ℕ} {a : EntryAnswer} {x : Refusal} → Reading ws t k m → EntryRead (tokens k (drop k t)) t k a → a ≡ NoEntry x
+    → TokensRead ws m (Refused x)
+reading-refused {x = x} r read told = record {
+  answer = sym (r .questions ∙ read .refused x told);
+  marks = λ e. absurd (never-done e);
+  good = λ e. absurd (never-done e);
+}
+
+pub reading-done : {ws : List Token} {t m : List ℕ} {k : ℕ} → Reading ws t k m → length t ≤ k → TokensRead ws m Done
+unfolding tokenQuestions tokenEntries
+reading-done {ws} {t} {m} {k} r h =
+    let left : tokens k (drop k t) ≡ [] = no-more k (drop k t) (drop-of-length-le t h) in
+    let all : tokenEntries ws ≡ r .seen = r .entries ∙ ap (λ (w : List Token). r .seen ++ tokenEntries w) left ∙ append-nil (r .seen) in
+    record {
+      answer = sym (r .questions ∙ ap tokenQuestions left);
+      marks = λ e. r .marks ∙ ap (λ (x : List ℕ). marksTo x (entryCount x)) (sym all);
+      good = λ e. subst GoodEntries (sym all) (r .good);
+    }
+
+pub reading-length : {ws : List Token} {t m d : List ℕ} {s k : ℕ} → BodyAt t s m → Reading ws t k d → length d ≡ length m
+reading-length b r = ap length (r .marks) ∙ length-marks (r .seen) _ ∙ sym (ap length (b .blank .none []) ∙ length-marks [] 0)
+
+pub ruleset readings = (
+  reading-none, reading-start, reading-word, reading-fits, reading-next, reading-less, reading-step, reading-refused, reading-done, reading-length, needs,
+)
