@@ -55,19 +55,15 @@ read-refused h k = record { answer = refused _ h k; marks = λ d. absurd (not-do
 pub read-unmarked : (p : ℕ) {e m : List ℕ} {r : Outcome} → r ≡ entryQuestions p e → r ≡ Done → Blank m → Unmarked e m
 read-unmarked p {e} h k b = record { letters = letters-small p e (sym h ∙ k); places = qubits-below p e (sym h ∙ k); none = b .none e }
 
-module _ (p : ℕ) (e : List ℕ) {m : List ℕ} {r s : Outcome} (h : r ≡ entryQuestions p e) (k : r ≡ Done) (em : m ≡ marksTo e (entryCount e)) (hs : s ≡ marksQuestion m) where
-  second-is : s ≡ duplicateQuestion e
-  second-is = hs ∙ ap marksQuestion em ∙ marks-question p e (sym h ∙ k)
+pub read-done : (p : ℕ) (e : List ℕ) {m : List ℕ} {room : ℕ} {r s : Outcome} → r ≡ entryQuestions p e → r ≡ Done → m ≡ marksTo e (entryCount e)
+    → s ≡ marksQuestion m andThen roomQuestion 129 room → EntriesRead p e room m s
+unfolding withPhaseQuestions
+read-done p e {m} {room} h k em hs = record {
+  answer = passed h k (hs ∙ ap (λ q. q andThen roomQuestion 129 room) (ap marksQuestion em ∙ marks-question p e (sym h ∙ k)));
+  marks = λ d. em;
+}
 
-  pub read-twice : {room : ℕ} {x : Refusal} → s ≡ Refused x → EntriesRead p e room m s
-  unfolding withPhaseQuestions
-  read-twice ks = record { answer = passed h k (refused _ second-is ks); marks = λ d. absurd (not-done ks d) }
-
-  pub read-done : {room : ℕ} {t : Outcome} → s ≡ Done → t ≡ roomQuestion 129 room → EntriesRead p e room m t
-  unfolding withPhaseQuestions
-  read-done ks ht = record { answer = passed h k (passed second-is ks ht); marks = λ d. em }
-
-pub ruleset entry-reads = (marks-twice, marks-once, read-refused, read-unmarked, read-twice, read-done, needs)
+pub ruleset entry-reads = (marks-twice, marks-once, refused, passed, read-refused, read-unmarked, read-done, needs)
 
 -- ---- the letters written from the marks
 pub letter-marked : (n : ℕ) (m : List ℕ) (i : ℕ) {x : ℕ} → x ≡ unmarked (getD m i 0) → i < n → x ≡ getD (lettersMarked n m) i 0
@@ -104,45 +100,53 @@ marked-written {m} {d} {ys} p f e =
     ∙ ap (λ (l : List ℕ). lettersMarked 128 m ++ l) (drop-of-length-le (take 128 (drop 1 d)) {i = 128} (omega arith)) ∙ append-nil (lettersMarked 128 m) in
     put-record d ys p (f .room) ∙ ap (λ (l : List ℕ). p ∷ l ++ drop 129 d) letters
 
--- ---- the record of entries
-module _ {p : ℕ} {e : List ℕ} {m : List ℕ} {r : Outcome} (d : List ℕ) (read : EntriesRead p e (length d) m r) (h : r ≡ Done) where
-  asked : withPhaseQuestions p e (length d) ≡ Done
-  asked = sym (read .answer) ∙ h
-
-  unfold-asked : entryQuestions p e andThen duplicateQuestion e andThen roomQuestion 129 (length d) ≡ Done
-  unfolding withPhaseQuestions
-  unfold-asked = asked
-
-  pub marks-fit : MarksFit m d
-  marks-fit = record {
-    marks = ap length (read .marks h) ∙ length-marks e (entryCount e);
-    room = room-is 129 (length d) (done-second (duplicateQuestion e) _ (done-second (entryQuestions p e) _ unfold-asked));
-  }
-
+-- ---- the marks of entries that name each qubit once hold their record
+module _ (p : ℕ) (e m : List ℕ) (small : p ≤ 3) (letters : (j : ℕ) → j < entryCount e → entryLetter e j ≤ 3) (named : duplicateQuestion e ≡ Done)
+    (marks : m ≡ marksTo e (entryCount e)) where
   once : 128 ≤ smallestDuplicate e
   unfolding duplicateQuestion qubits
-  once = leb-true _ _ (ask-done _ _ (done-first (duplicateQuestion e) _ (done-second (entryQuestions p e) _ unfold-asked)))
-
-  phase-is : p ≡ phaseByte (phaseOf p)
-  unfolding entryQuestions
-  phase-is = sym (phase-there p (byte-small p (done-first (byteQuestion p) _ (done-first (entryQuestions p e) _ unfold-asked))))
+  once = leb-true _ _ (ask-done _ _ named)
 
   letters-are : lettersMarked 128 m ≡ listed 128 (λ q. letterByte (entriesString p e .letters q))
   unfolding lettersMarked
-  letters-are =
-      listed-ext 128 _ _
-      (λ q l. ap (λ (x : List ℕ). unmarked (getD x q 0)) (read .marks h) ∙ letter-byte e (letters-small p e (done-first (entryQuestions p e) _ unfold-asked)) p q l once)
+  letters-are = listed-ext 128 _ _ (λ q l. ap (λ (x : List ℕ). unmarked (getD x q 0)) marks ∙ letter-byte e letters p q l once)
 
-  record-is : p ∷ lettersMarked 128 m ≡ entriesRecord p e
-  unfolding entriesRecord stringRecord encodeString entriesString qubits
-  record-is = ap₂ (λ (x : ℕ) (l : List ℕ). x ∷ l) phase-is letters-are
+  marked-record : p ∷ lettersMarked 128 m ≡ stringRecord (entriesString p e)
+  unfolding stringRecord encodeString entriesString qubits
+  marked-record = ap₂ (λ (x : ℕ) (l : List ℕ). x ∷ l) (sym (phase-there p small)) letters-are
 
-  bytes : entriesRecord p e ++ drop 129 d ≡ written Done (entriesRecord p e) d
-  unfolding entriesRecord
-  bytes = record-bytes (entriesString p e) d
+  pub marked-bytes : (d : List ℕ) {out : List ℕ} → out ≡ p ∷ lettersMarked 128 m ++ drop 129 d → out ≡ written Done (stringRecord (entriesString p e)) d
+  marked-bytes d w = w ∙ ap (λ (l : List ℕ). l ++ drop 129 d) marked-record ∙ record-bytes (entriesString p e) d
+
+  pub marked-fit : (d : List ℕ) → 129 ≤ length d → MarksFit m d
+  marked-fit d h = record { marks = ap length marks ∙ length-marks e (entryCount e); room = h }
+
+-- ---- the record of entries
+module _ {p : ℕ} {e : List ℕ} {m : List ℕ} {r : Outcome} (d : List ℕ) (read : EntriesRead p e (length d) m r) (h : r ≡ Done) where
+  asked : entryQuestions p e andThen duplicateQuestion e andThen roomQuestion 129 (length d) ≡ Done
+  unfolding withPhaseQuestions
+  asked = sym (read .answer) ∙ h
+
+  entries-asked : entryQuestions p e ≡ Done
+  entries-asked = done-first (entryQuestions p e) _ asked
+
+  phase-asked : byteQuestion p ≡ Done
+  unfolding entryQuestions
+  phase-asked = done-first (byteQuestion p) _ entries-asked
+
+  named-asked : duplicateQuestion e ≡ Done
+  named-asked = done-first (duplicateQuestion e) _ (done-second (entryQuestions p e) _ asked)
+
+  room-asked : roomQuestion 129 (length d) ≡ Done
+  room-asked = done-second (duplicateQuestion e) _ (done-second (entryQuestions p e) _ asked)
+
+  pub marks-fit : MarksFit m d
+  marks-fit = marked-fit p e m (byte-small p phase-asked) (letters-small p e entries-asked) named-asked (read .marks h) d (room-is 129 (length d) room-asked)
 
   pub entries-written : {out : List ℕ} → out ≡ p ∷ lettersMarked 128 m ++ drop 129 d → Written (withPhaseQuestions p e (length d)) (entriesRecord p e) d out r
-  entries-written w = written-done (read .answer) h (w ∙ ap (λ (l : List ℕ). l ++ drop 129 d) record-is ∙ bytes)
+  unfolding entriesRecord
+  entries-written w =
+      written-done (read .answer) h (marked-bytes p e m (byte-small p phase-asked) (letters-small p e entries-asked) named-asked (read .marks h) d w)
 
 -- a fresh array of 128 zeros
 pub blank-zeros : Blank (replicate 128 0)

@@ -7,7 +7,7 @@ ghost use lib.ListN.{length, getD, set, drop};
 ghost use Rattle.pauli.specs.Entries.{entryCount};
 ghost use Rattle.pauli.specs.Marks.{markMore, marksTo, firstTwice, unmarked, MarkFits, Unmarked, marksQuestion, Blank, EntriesRead, lettersMarked, MarksFit};
 ghost use Rattle.pauli.specs.Rows.{shorter};
-ghost use Rattle.pauli.specs.Questions.{evenQuestion, firstBadEntry, entryLettersQuestion, firstHighEntry, entryQubitsQuestion, entryQuestions, _andThen_};
+ghost use Rattle.pauli.specs.Questions.{evenQuestion, firstBadEntry, entryLettersQuestion, firstHighEntry, entryQubitsQuestion, entryQuestions, roomQuestion, _andThen_};
 use crate::questions::check_byte;
 use crate::questions::check_room;
 use crate::refusal::Outcome;
@@ -158,6 +158,17 @@ pub(crate) fn check_marks(marks: &[u8]) -> Outcome
     Outcome::Done
 }
 
+// Question 12 by the marks, then 7.
+pub(crate) fn check_marks_and_room(marks: &[u8], room: usize) -> Outcome
+    ensures { λ r. ⌜ r ≡ (marksQuestion (now (marks .entry)) andThen roomQuestion 129 room) ⌝ }
+{
+    let first = check_marks(marks);
+    if let Outcome::Done = first {
+        return check_room(129, room);
+    }
+    first
+}
+
 // The questions put to a phase, entries and a destination, in their order; the entries are left marked.
 pub(crate) fn read_entries(phase: u8, entries: &[u8], marks: &mut [u8], room: usize) -> Outcome
     requires { ⌜ Blank (now marks) ⌝ }
@@ -168,11 +179,7 @@ pub(crate) fn read_entries(phase: u8, entries: &[u8], marks: &mut [u8], room: us
         return first;
     };
     mark_entries(entries, marks);
-    let second = check_marks(marks);
-    let Outcome::Done = second else {
-        return second;
-    };
-    check_room(129, room)
+    check_marks_and_room(marks, room)
 }
 
 // The letter that a mark stands for.

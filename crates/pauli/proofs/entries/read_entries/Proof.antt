@@ -8,6 +8,4 @@ read-entries-spec =
     tie.close
     (tie.spec
     (λ c. search entry-reads) (λ c. search entry-reads) (λ c. search entry-reads) (λ c. search entry-reads)
-    (λ c. search entry-reads) (λ c. search entry-reads) (λ c. search entry-reads) (λ c. search entry-reads)
-    (λ c. search entry-reads) (λ c. search entry-reads) (λ c. search entry-reads) (λ c. search entry-reads)
-    (λ c. search entry-reads))
+    (λ c. search entry-reads) (λ c. search entry-reads) (λ c. search entry-reads) (λ c. search entry-reads))
