@@ -40,12 +40,12 @@ unfolding marksQuestion qubits
 marks-once m e h = asked-yes (Duplicate (firstTwice m)) (le-leb 128 (firstTwice m) (omega arith))
 
 -- the marks of entries answer it as the entries do
-marks-question : (p : ℕ) (e : List ℕ) → entryQuestions p e ≡ Done → marksQuestion (marksTo e (entryCount e)) ≡ duplicateQuestion e
+pub marks-question : (e : List ℕ) → ((j : ℕ) → j < entryCount e → entryLetter e j ≤ 3) → marksQuestion (marksTo e (entryCount e)) ≡ duplicateQuestion e
 unfolding marksQuestion duplicateQuestion
-marks-question p e h = ap (λ (k : ℕ). ask (leb qubits k) (Duplicate k)) (first-duplicate e (letters-small p e h))
+marks-question e small = ap (λ (k : ℕ). ask (leb qubits k) (Duplicate k)) (first-duplicate e small)
 
 -- ---- the questions in their order
-not-done : {r : Outcome} {x : Refusal} → r ≡ Refused x → r ≡ Done → ⊥
+pub not-done : {r : Outcome} {x : Refusal} → r ≡ Refused x → r ≡ Done → ⊥
 not-done h k = let z : _≡_ {A = ℕ} 0 1 = cc in omega arith
 
 pub read-refused : {p : ℕ} {e : List ℕ} {room : ℕ} {m : List ℕ} {r : Outcome} {x : Refusal} → r ≡ entryQuestions p e → r ≡ Refused x → EntriesRead p e room m r
@@ -59,7 +59,7 @@ pub read-done : (p : ℕ) (e : List ℕ) {m : List ℕ} {room : ℕ} {r s : Outc
     → s ≡ marksQuestion m andThen roomQuestion 129 room → EntriesRead p e room m s
 unfolding withPhaseQuestions
 read-done p e {m} {room} h k em hs = record {
-  answer = passed h k (hs ∙ ap (λ q. q andThen roomQuestion 129 room) (ap marksQuestion em ∙ marks-question p e (sym h ∙ k)));
+  answer = passed h k (hs ∙ ap (λ q. q andThen roomQuestion 129 room) (ap marksQuestion em ∙ marks-question e (letters-small p e (sym h ∙ k))));
   marks = λ d. em;
 }
 

@@ -14,3 +14,4 @@ pub mod Numerals
 pub mod Tokens
 pub mod SparseReading
 pub mod SparseTokens
+pub mod SparseStrings

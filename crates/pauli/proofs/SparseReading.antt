@@ -145,8 +145,10 @@ space-ends t j f s h = was (isSpace (getD t f 0)) (ap (λ (i : ℕ). not (isSpac
   where
     p : ℕ
     p = firstPlace (length (drop j t)) (λ i. not (isSpace (getD (drop j t) i 0)))
+
     short : p < length (drop j t)
     short = omega (arith, s .is, length-drop j t)
+
     was : (b : Bool) → not b ≡ true → b ≡ false
     was true e = sym e
     was false e = refl

@@ -90,6 +90,7 @@ good-more e l q g hl hq = record {
       | yes d ↦ omega (arith, ap (entryLetter (e ++ (l ∷ q ∷ []))) d, letter-new e l q (g .even))
       | no d ↦ let b : j < entryCount e = omega arith in omega (arith, letter-kept e l q (g .even) j b, g .letters j b)
     ]
+
     place : (j : ℕ) → j < suc (entryCount e) → entryQubit (e ++ (l ∷ q ∷ [])) j < 128
     place j h = elim (ℕ-discrete j (entryCount e)) [
       | yes d ↦ omega (arith, ap (entryQubit (e ++ (l ∷ q ∷ []))) d, qubit-new e l q (g .even))
@@ -183,5 +184,15 @@ pub reading-length : {ws : List Token} {t m d : List ℕ} {s k : ℕ} → BodyAt
 reading-length b r = ap length (r .marks) ∙ length-marks (r .seen) _ ∙ sym (ap length (b .blank .none []) ∙ length-marks [] 0)
 
 pub ruleset readings = (
-  reading-none, reading-start, reading-word, reading-fits, reading-next, reading-less, reading-step, reading-refused, reading-done, reading-length, needs,
+  reading-none,
+  reading-start,
+  reading-word,
+  reading-fits,
+  reading-next,
+  reading-less,
+  reading-step,
+  reading-refused,
+  reading-done,
+  reading-length,
+  needs,
 )

@@ -19,7 +19,7 @@ use Rattle.pauli.specs.declared.refusal.Outcome.the-variants.{Done, Refu
 use Rattle.pauli.specs.Entries.{entryCount, entryLetter, entryQubit}
 use Rattle.pauli.specs.Marks.{marksTo, Blank}
 use Rattle.pauli.specs.Layout.{phaseByte}
-use Rattle.pauli.specs.Text.{isSpace, letterNamed, leadingWord, Token, tokens, tokenQuestions, tokenEntries, indexQuestions, isDigit, prefixPhase, prefixLength, textPhase, bodyStart, allDigits, digitsValue, isIndex, indexValue}
+use Rattle.pauli.specs.Text.{sparseEntries, fromSparseQuestions, isSpace, letterNamed, leadingWord, Token, tokens, tokenQuestions, tokenEntries, indexQuestions, isDigit, prefixPhase, prefixLength, textPhase, bodyStart, allDigits, digitsValue, isIndex, indexValue}
 
 -- r is as far after k as the text that begins there says
 pub record Skipped (count : List ℕ → ℕ) (t : List ℕ) (k r : ℕ) : Type 0 where
@@ -111,3 +111,15 @@ pub record TokensRead (ws : List Token) (m : List ℕ) (r : Outcome) : Type 0 wh
   pub answer : r ≡ tokenQuestions ws
   pub marks : r ≡ Done → m ≡ marksTo (tokenEntries ws) (entryCount (tokenEntries ws))
   pub good : r ≡ Done → GoodEntries (tokenEntries ws)
+
+-- the body of the text begins at k, and there are no marks yet
+pub record SparseAt (t : List ℕ) (k : ℕ) (m : List ℕ) : Type 0 where
+  pub place : k ≡ bodyStart t
+  pub within : k ≤ length t
+  pub blank : Blank m
+
+-- the answer r to a sparse text, and the marks m that are left where it is Done
+pub record SparseRead (t : List ℕ) (room : ℕ) (m : List ℕ) (r : Outcome) : Type 0 where
+  pub answer : r ≡ fromSparseQuestions t room
+  pub marks : r ≡ Done → m ≡ marksTo (sparseEntries t) (entryCount (sparseEntries t))
+  pub good : r ≡ Done → GoodEntries (sparseEntries t)

@@ -12,7 +12,7 @@ use Rattle.pauli.specs.declared.refusal.Refusal.the-variants.{NotAscii, 
 use Rattle.pauli.specs.declared.refusal.Outcome.{Outcome}
 use Rattle.pauli.specs.declared.refusal.Outcome.the-variants.{Done, Refused}
 use Rattle.pauli.specs.Places.{firstPlace}
-use Rattle.pauli.specs.Layout.{phaseByte, letterOf, stringLength}
+use Rattle.pauli.specs.Layout.{phaseByte, letterOf, stringLength, stringRecord}
 use Rattle.pauli.specs.Entries.{entriesString}
 use Rattle.pauli.specs.Questions.{ask, _andThen_, duplicateQuestion, roomQuestion}
 
@@ -171,6 +171,13 @@ sparseQuestions t = asciiQuestion t andThen tokenQuestions (sparseTokens t) andT
 unfoldable pub sparseString : List ℕ → PauliString
 sparseString t = entriesString (phaseByte (textPhase t)) (sparseEntries t)
 
+-- "Last: is the destination long enough? 7"
+unfoldable pub fromSparseQuestions : List ℕ → ℕ → Outcome
+fromSparseQuestions t room = sparseQuestions t andThen roomQuestion stringLength room
+
+unfoldable pub sparseRecord : List ℕ → List ℕ
+sparseRecord t = stringRecord (sparseString t)
+
 -- ---- dense text
 
 -- the letters, after the prefix and up to the trimmed end
@@ -190,6 +197,12 @@ denseQuestions t = asciiQuestion t andThen letterQuestions (bodyStart t) 0 (dens
 -- "the letter's position after the prefix is its qubit"
 unfoldable pub denseString : List ℕ → PauliString
 denseString t = record { phase = textPhase t; letters = λ q. letterOf (letterNamed (getD (denseBody t) q 0)) }
+
+unfoldable pub fromDenseQuestions : List ℕ → ℕ → Outcome
+fromDenseQuestions t room = denseQuestions t andThen roomQuestion stringLength room
+
+unfoldable pub denseRecord : List ℕ → List ℕ
+denseRecord t = stringRecord (denseString t)
 
 -- ---- either
 
@@ -214,3 +227,9 @@ textQuestions t = cond (isSparse t) (sparseQuestions t) (denseQuestions t)
 
 unfoldable pub textString : List ℕ → PauliString
 textString t = cond (isSparse t) (sparseString t) (denseString t)
+
+unfoldable pub fromStrQuestions : List ℕ → ℕ → Outcome
+fromStrQuestions t room = textQuestions t andThen roomQuestion stringLength room
+
+unfoldable pub textRecord : List ℕ → List ℕ
+textRecord t = stringRecord (textString t)

@@ -6,6 +6,7 @@ ghost use Rattle.pauli.specs.Answers.{ByteAnswered, FlagAnswered, Writte
 ghost use Rattle.pauli.specs.Marks.{Blank};
 ghost use Rattle.pauli.specs.Questions.{stringQuestions, stringsQuestions, getQuestions, withPhaseQuestions};
 ghost use Rattle.pauli.specs.Strings.{phaseOfRecord, letterOfRecord, recordsCommute, entriesRecord};
+ghost use Rattle.pauli.specs.Text.{fromSparseQuestions, sparseRecord};
 ghost use Rattle.pauli.specs.Writing.{Pair};
 use crate::entries::read_entries;
 use crate::entries::write_marked;
@@ -16,6 +17,7 @@ use crate::refusal::ByteAnswer;
 use crate::refusal::Flag;
 use crate::refusal::Outcome;
 use crate::rows::anticommuting_places;
+use crate::sparse_reader::sparse_string;
 
 // The phase of a string record.
 pub fn phase(s: &[u8]) -> ByteAnswer
@@ -88,4 +90,12 @@ pub fn with_phase_and_paulis(phase: u8, entries: &[u8], dst: &mut [u8]) -> Outco
 {
     let mut marks = [0u8; 128];
     string_of_entries(phase, entries, &mut marks, dst)
+}
+
+// The string that a sparse text names.
+pub fn from_sparse_str(t: &[u8], dst: &mut [u8]) -> Outcome
+    ensures { λ r. ⌜ Written (fromSparseQuestions (now (t .entry)) (length (now (dst .entry)))) (sparseRecord (now (t .entry))) (now (dst .entry)) (now (dst .exit)) r ⌝ }
+{
+    let mut marks = [0u8; 128];
+    sparse_string(t, &mut marks, dst)
 }

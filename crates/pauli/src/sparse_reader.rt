@@ -1,15 +1,19 @@
 // Sparse text, token by token: each letter with its index is read and its qubit marked.
 ghost use mathlib.Core.Path.{_≡_};
-ghost use lib.ListN.{drop};
+ghost use lib.ListN.{length, drop};
+ghost use Rattle.pauli.specs.Answers.{Written};
 ghost use Rattle.pauli.specs.Marks.{Blank};
-ghost use Rattle.pauli.specs.Reading.{indexAnswer, LetterAt, WordAt, EntryRead, entryAfter, BodyAt, TokensRead};
-ghost use Rattle.pauli.specs.Text.{tokens};
-
+ghost use Rattle.pauli.specs.Reading.{indexAnswer, LetterAt, WordAt, EntryRead, entryAfter, BodyAt, TokensRead, SparseAt, SparseRead};
+ghost use Rattle.pauli.specs.Text.{tokens, fromSparseQuestions, sparseRecord};
+use crate::entries::check_marks_and_room;
 use crate::entries::mark;
+use crate::entries::write_marked;
 use crate::refusal::Outcome;
 use crate::refusal::Refusal;
 use crate::text::Numeral;
+use crate::text::check_ascii;
 use crate::text::letter_named;
+use crate::text::read_head;
 use crate::text::read_numeral;
 use crate::text::skip_spaces;
 use crate::text::skip_word;
@@ -108,4 +112,34 @@ pub(crate) fn read_tokens(t: &[u8], start: usize, marks: &mut [u8]) -> Outcome
         }
     }
     Outcome::Done
+}
+
+// The questions put to a sparse text whose body begins at this offset, in their order; its entries are left marked.
+fn sparse_answer(t: &[u8], at: usize, marks: &mut [u8], room: usize) -> Outcome
+    requires { ⌜ SparseAt (now t) at (now marks) ⌝ }
+    ensures { λ r. ⌜ SparseRead (now (t .entry)) room (now (marks .exit)) r ⌝ }
+{
+    let first = check_ascii(t);
+    let Outcome::Done = first else {
+        return first;
+    };
+    let second = read_tokens(t, at, marks);
+    let Outcome::Done = second else {
+        return second;
+    };
+    check_marks_and_room(marks, room)
+}
+
+// The string of a sparse text. The marks are a buffer of 128 zeros.
+pub(crate) fn sparse_string(t: &[u8], marks: &mut [u8], dst: &mut [u8]) -> Outcome
+    requires { ⌜ Blank (now marks) ⌝ }
+    ensures { λ r. ⌜ Written (fromSparseQuestions (now (t .entry)) (length (now (dst .entry)))) (sparseRecord (now (t .entry))) (now (dst .entry)) (now (dst .exit)) r ⌝ }
+{
+    let head = read_head(t);
+    let at = head.at;
+    let answer = sparse_answer(t, at, marks, dst.len());
+    if let Outcome::Done = answer {
+        write_marked(head.phase, marks, dst);
+    }
+    answer
 }
