@@ -52,6 +52,11 @@ unfolding _andThen_
 done-second Done y e = e
 done-second (Refused r) y e = cc
 
+pub andThen-assoc : (a b c : Outcome) → (a andThen b) andThen c ≡ a andThen b andThen c
+unfolding _andThen_
+andThen-assoc Done b c = refl
+andThen-assoc (Refused r) b c = refl
+
 -- ---- a byte, a qubit, room
 pub byte-bad : {b : ℕ} → 3 < b → Refused (BadByte 0) ≡ byteQuestion b
 unfolding byteQuestion

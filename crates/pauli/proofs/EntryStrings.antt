@@ -85,7 +85,7 @@ letters-all m {d} {n} {i} {e} k p f h =
 pub ruleset letter-fills = (letter-marked, letters-none, filled-step, filled-length, filled-room, letters-all, needs)
 
 -- what comes back of `&mut d[1..129]`, and a store at 0
-put-record : (d ys : List ℕ) (p : ℕ) → 129 ≤ length d → set (putMid 1 128 d ys) 0 p ≡ p ∷ ys ++ drop 129 d
+pub put-record : (d ys : List ℕ) (p : ℕ) → 129 ≤ length d → set (putMid 1 128 d ys) 0 p ≡ p ∷ ys ++ drop 129 d
 put-record [] ys p h = absurd (not-suc-le-zero h)
 put-record (x ∷ d) ys p h = refl
 

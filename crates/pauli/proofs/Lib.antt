@@ -15,3 +15,4 @@ pub mod Tokens
 pub mod SparseReading
 pub mod SparseTokens
 pub mod SparseStrings
+pub mod DenseReading

@@ -124,7 +124,7 @@ module _ (ws : List Token) (t : List ℕ) (k l n o : ℕ) (bs : List ℕ) (small
   entry-read ei er = subst (EntryRead ws t k) (sym (er ∙ ap (λ x. entryAfter l x n) ei)) (cases (indexQuestions o bs) refl)
 
 -- ---- small facts
-letter-small : (c : ℕ) → letterNamed c ≤ 3
+pub letter-small : (c : ℕ) → letterNamed c ≤ 3
 unfolding letterNamed
 letter-small c = go (eqb c 88 || eqb c 120) (eqb c 90 || eqb c 122) (eqb c 89 || eqb c 121)
   where

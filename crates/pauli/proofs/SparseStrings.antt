@@ -20,7 +20,7 @@ use Rattle.pauli.specs.Questions.{ask, _andThen_, duplicateQuestion, roo
 use Rattle.pauli.specs.Reading.{HeadRead, BodyAt, GoodEntries, TokensRead, SparseAt, SparseRead}
 use Rattle.pauli.specs.Text.{tokenEntries, textPhase, bodyStart, asciiQuestion, tokens, tokenQuestions, sparseTokens, sparseEntries, sparseQuestions, sparseString, fromSparseQuestions, sparseRecord}
 use Rattle.pauli.proofs.Answers.{answers, written-done}
-use Rattle.pauli.proofs.Asking.{refused, passed, done-first, done-second, room-is}
+use Rattle.pauli.proofs.Asking.{andThen-assoc, refused, passed, done-first, done-second, room-is}
 use Rattle.pauli.proofs.EntryMarks.{first-duplicate}
 use Rattle.pauli.proofs.EntryStrings.{marks-question, marked-bytes, marked-fit, not-done}
 use Rattle.pauli.proofs.Records.{phase-small}
@@ -28,11 +28,6 @@ use Rattle.pauli.proofs.Records.{phase-small}
 -- ---- the questions in their order
 pub sparse-body : {t m : List ℕ} {k : ℕ} → SparseAt t k m → BodyAt t k m
 sparse-body h = record { within = h .within; blank = h .blank }
-
-andThen-assoc : (a b c : Outcome) → (a andThen b) andThen c ≡ a andThen b andThen c
-unfolding _andThen_
-andThen-assoc Done b c = refl
-andThen-assoc (Refused r) b c = refl
 
 abbrev chain : List ℕ → ℕ → Outcome
 chain t room = asciiQuestion t andThen tokenQuestions (sparseTokens t) andThen duplicateQuestion (sparseEntries t) andThen roomQuestion 129 room

@@ -18,8 +18,9 @@ use Rattle.pauli.specs.declared.refusal.Outcome.{Outcome}
 use Rattle.pauli.specs.declared.refusal.Outcome.the-variants.{Done, Refused}
 use Rattle.pauli.specs.Entries.{entryCount, entryLetter, entryQubit}
 use Rattle.pauli.specs.Marks.{marksTo, Blank}
+use Rattle.pauli.specs.Places.{listed}
 use Rattle.pauli.specs.Layout.{phaseByte}
-use Rattle.pauli.specs.Text.{sparseEntries, fromSparseQuestions, isSpace, letterNamed, leadingWord, Token, tokens, tokenQuestions, tokenEntries, indexQuestions, isDigit, prefixPhase, prefixLength, textPhase, bodyStart, allDigits, digitsValue, isIndex, indexValue}
+use Rattle.pauli.specs.Text.{textEnd, denseBody, sparseEntries, fromSparseQuestions, isSpace, letterNamed, leadingWord, Token, tokens, tokenQuestions, tokenEntries, indexQuestions, isDigit, prefixPhase, prefixLength, textPhase, bodyStart, allDigits, digitsValue, isIndex, indexValue}
 
 -- r is as far after k as the text that begins there says
 pub record Skipped (count : List ℕ → ℕ) (t : List ℕ) (k r : ℕ) : Type 0 where
@@ -123,3 +124,24 @@ pub record SparseRead (t : List ℕ) (room : ℕ) (m : List ℕ) (r : Outcome) :
   pub answer : r ≡ fromSparseQuestions t room
   pub marks : r ≡ Done → m ≡ marksTo (sparseEntries t) (entryCount (sparseEntries t))
   pub good : r ≡ Done → GoodEntries (sparseEntries t)
+
+-- ---- dense text
+
+-- the letters that the bytes of a body name, for the first n qubits
+unfoldable pub lettersNamed : ℕ → List ℕ → List ℕ
+lettersNamed n body = listed n (λ q. letterNamed (getD body q 0))
+
+-- the trimmed end
+pub record EndRead (t : List ℕ) (r : ℕ) : Type 0 where
+  pub is : r ≡ textEnd t
+  pub within : r ≤ length t
+
+-- the body of the text, which begins at k
+pub record DenseAt (t b : List ℕ) (k : ℕ) : Type 0 where
+  pub place : k ≡ bodyStart t
+  pub body : b ≡ denseBody t
+  pub fits : k + length b < 18446744073709551616
+
+-- room for a string record
+pub record DenseFit (d : List ℕ) : Type 0 where
+  pub room : 129 ≤ length d

@@ -55,7 +55,7 @@ unfoldable pub textStart : List ℕ → ℕ
 textStart t = leadingSpaces t
 
 unfoldable pub textEnd : List ℕ → ℕ
-textEnd t = length t - firstPlace (length t) (λ k. not (isSpace (getD t (length t - suc k) 0)))
+textEnd t = length t - firstPlace (length t) (λ k. not (isSpace (getD t (length t - (k + 1)) 0)))
 
 -- "The prefix is +, −, +i, −i, i or none": the phase it stands for and its length, where a and b are the two bytes that come
 unfoldable pub prefixPhase : ℕ → ℕ → Phase
@@ -184,12 +184,14 @@ sparseRecord t = stringRecord (sparseString t)
 unfoldable pub denseBody : List ℕ → List ℕ
 denseBody t = take (textEnd t - bodyStart t) (drop (bodyStart t) t)
 
--- letter by letter, at offset k for qubit q: 9 for an unknown one; 13 for one other than I at 128 or above
+-- the letter c at offset k for qubit q: 9 for an unknown one; 13 for one other than I at 128 or above
+unfoldable pub denseLetter : ℕ → ℕ → ℕ → Outcome
+denseLetter c k q = ask (isIdentity c || ltb 0 (letterNamed c)) (NotLetter k) andThen ask (isIdentity c || ltb q qubits) (TextQubit k)
+
+-- letter by letter
 unfoldable pub letterQuestions : ℕ → ℕ → List ℕ → Outcome
 letterQuestions k q [] = Done
-letterQuestions k q (c ∷ cs) =
-    ask (isIdentity c || ltb 0 (letterNamed c)) (NotLetter k) andThen ask (isIdentity c || ltb q qubits) (TextQubit k)
-    andThen letterQuestions (suc k) (suc q) cs
+letterQuestions k q (c ∷ cs) = denseLetter c k q andThen letterQuestions (suc k) (suc q) cs
 
 unfoldable pub denseQuestions : List ℕ → Outcome
 denseQuestions t = asciiQuestion t andThen letterQuestions (bodyStart t) 0 (denseBody t)
