@@ -16,3 +16,4 @@ pub mod SparseReading
 pub mod SparseTokens
 pub mod SparseStrings
 pub mod DenseReading
+pub mod EitherText

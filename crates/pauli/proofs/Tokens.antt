@@ -21,11 +21,11 @@ use Rattle.pauli.proofs.Asking.{asked-yes, asked-no, refused, passed}
 use Rattle.pauli.proofs.Places.{first-le}
 
 -- ---- white space and words at the front
-spaces-here : (c : ℕ) (cs : List ℕ) → isSpace c ≡ true → leadingSpaces (c ∷ cs) ≡ suc (leadingSpaces cs)
+pub spaces-here : (c : ℕ) (cs : List ℕ) → isSpace c ≡ true → leadingSpaces (c ∷ cs) ≡ suc (leadingSpaces cs)
 unfolding leadingSpaces firstPlace
 spaces-here c cs e = ap (λ b. cond (not b) zero (suc (firstPlace (length cs) (λ k. not (isSpace (getD cs k 0)))))) e
 
-spaces-none : (c : ℕ) (cs : List ℕ) → isSpace c ≡ false → leadingSpaces (c ∷ cs) ≡ 0
+pub spaces-none : (c : ℕ) (cs : List ℕ) → isSpace c ≡ false → leadingSpaces (c ∷ cs) ≡ 0
 unfolding leadingSpaces firstPlace
 spaces-none c cs e = ap (λ b. cond (not b) zero (suc (firstPlace (length cs) (λ k. not (isSpace (getD cs k 0)))))) e
 

@@ -6,8 +6,9 @@ ghost use Rattle.pauli.specs.Answers.{ByteAnswered, FlagAnswered, Writte
 ghost use Rattle.pauli.specs.Marks.{Blank};
 ghost use Rattle.pauli.specs.Questions.{stringQuestions, stringsQuestions, getQuestions, withPhaseQuestions};
 ghost use Rattle.pauli.specs.Strings.{phaseOfRecord, letterOfRecord, recordsCommute, entriesRecord};
-ghost use Rattle.pauli.specs.Text.{fromSparseQuestions, sparseRecord};
+ghost use Rattle.pauli.specs.Text.{fromSparseQuestions, sparseRecord, fromDenseQuestions, denseRecord, fromStrQuestions, textRecord};
 ghost use Rattle.pauli.specs.Writing.{Pair};
+use crate::dense_reader::dense_string;
 use crate::entries::read_entries;
 use crate::entries::write_marked;
 use crate::questions::check_qubit;
@@ -18,6 +19,7 @@ use crate::refusal::Flag;
 use crate::refusal::Outcome;
 use crate::rows::anticommuting_places;
 use crate::sparse_reader::sparse_string;
+use crate::text::any_digit;
 
 // The phase of a string record.
 pub fn phase(s: &[u8]) -> ByteAnswer
@@ -98,4 +100,21 @@ pub fn from_sparse_str(t: &[u8], dst: &mut [u8]) -> Outcome
 {
     let mut marks = [0u8; 128];
     sparse_string(t, &mut marks, dst)
+}
+
+// The string that a dense text names.
+pub fn from_dense_str(t: &[u8], dst: &mut [u8]) -> Outcome
+    ensures { λ r. ⌜ Written (fromDenseQuestions (now (t .entry)) (length (now (dst .entry)))) (denseRecord (now (t .entry))) (now (dst .entry)) (now (dst .exit)) r ⌝ }
+{
+    dense_string(t, dst)
+}
+
+// The string that a text names: sparse where it holds a digit, otherwise dense.
+pub fn from_str(t: &[u8], dst: &mut [u8]) -> Outcome
+    ensures { λ r. ⌜ Written (fromStrQuestions (now (t .entry)) (length (now (dst .entry)))) (textRecord (now (t .entry))) (now (dst .entry)) (now (dst .exit)) r ⌝ }
+{
+    if any_digit(t) {
+        return from_sparse_str(t, dst);
+    }
+    from_dense_str(t, dst)
 }

@@ -3,7 +3,7 @@ ghost use mathlib.Core.Path.{_≡_};
 ghost use Prim.Native.Nat.{_≤_};
 ghost use lib.ListN.{length, getD};
 ghost use Rattle.pauli.specs.Reading.{Skipped, PrefixRead, HeadRead, DigitValue, digitsNumeral, indexNumeral};
-ghost use Rattle.pauli.specs.Text.{isSpace, isDigit, letterNamed, leadingSpaces, leadingWord, firstNotAscii, asciiQuestion};
+ghost use Rattle.pauli.specs.Text.{isSpace, isDigit, letterNamed, leadingSpaces, leadingWord, firstNotAscii, asciiQuestion, isSparse};
 use crate::refusal::Outcome;
 use crate::refusal::Refusal;
 
@@ -186,6 +186,20 @@ pub(crate) fn read_head(t: &[u8]) -> Head
         phase: p.phase,
         at: at + p.length,
     }
+}
+
+// Whether a text is read as sparse: the rule of `from_str` comes down to any digit in it.
+pub(crate) fn any_digit(t: &[u8]) -> bool
+    ensures { λ r. ⌜ r ≡ isSparse (now (t .entry)) ⌝ }
+{
+    let mut i = 0;
+    while i < t.len() {
+        if is_digit(t[i]) {
+            return true;
+        }
+        i += 1;
+    }
+    false
 }
 
 // A digit's value.
