@@ -9,3 +9,7 @@ pub mod StringProducts
 pub mod StringReads
 pub mod EntryMarks
 pub mod EntryStrings
+pub mod Decimals
+pub mod TextWrites
+pub mod SparseTexts
+pub mod StringTexts

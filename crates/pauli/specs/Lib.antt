@@ -9,3 +9,5 @@ pub mod Turns
 pub mod Writing
 pub mod Marks
 pub mod Text
+pub mod SparseText
+pub mod TextWriting

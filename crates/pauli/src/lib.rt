@@ -7,3 +7,4 @@ pub mod quarter_phase;
 pub mod questions;
 pub mod refusal;
 pub mod rows;
+pub mod sparse_text;
