@@ -18,7 +18,7 @@ use Rattle.pauli.specs.Layout.{phaseOf, letterOf}
 use Rattle.pauli.specs.Rows.{letterAt, copied}
 use Rattle.pauli.specs.SparseText.{decimal, digitsTo, prefixText, letterText, entryWord, wordsAt, entryWords, joined, bodyText, sparseTextTo, sparseText, rowString, rowText}
 use Rattle.pauli.specs.TextWriting.{Stored, TextWritten, added, moreText, endText, NumberFits}
-use Rattle.pauli.proofs.TextWrites.{stored-none, stored-join, stored-as, stored-same, stored-copied}
+use Rattle.pauli.proofs.TextWrites.{stored-none, stored-join, stored-as, stored-same, whole-text}
 
 -- ---- words, joined; nothing where there are none
 abbrev pub wordsText : List (List ℕ) → List ℕ
@@ -200,7 +200,6 @@ wording-all {a} {d} {e} {f} {g} {n} {first} {q} {k} {r} p h l s m t =
     let ws = entryWords q (letterAt a) in
     let ends : wordsText ws ++ endText (eqb k first) ≡ bodyText (entryWords (min (length a) 128) (letterAt a)) =
     ap (λ b. wordsText ws ++ endText b) (none-is m) ∙ words-end ws ∙ ap (λ (j : ℕ). bodyText (entryWords j (letterAt a))) all in
-    let whole = stored-as (ap (λ (x : List ℕ). prefixText (phaseOf p) ++ x) ends) (stored-join s (stored-join (m .text) t)) in
-    record { bytes = whole .bytes ∙ stored-copied _ d; count = whole .place ∙ omega arith }
+    whole-text (stored-as (ap (λ (x : List ℕ). prefixText (phaseOf p) ++ x) ends) (stored-join s (stored-join (m .text) t)))
 
 pub ruleset wordings = (wording-none, wording-place, wording-fits, wording-index, wording-step, wording-same, wording-all, needs)

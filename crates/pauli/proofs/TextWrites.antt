@@ -15,7 +15,7 @@ use Rattle.pauli_group.specs.Letter.{Letter, I, X, Z, Y}
 use Rattle.pauli.specs.Layout.{phaseOf, letterOf}
 use Rattle.pauli.specs.Rows.{shorter, copied}
 use Rattle.pauli.specs.SparseText.{decimal, prefixText, letterText, entryWord, wordsAt}
-use Rattle.pauli.specs.TextWriting.{stored, Stored, added, moreText, endText, NumberFits}
+use Rattle.pauli.specs.TextWriting.{stored, Stored, TextWritten, added, moreText, endText, NumberFits}
 use Rattle.pauli.proofs.Cases.{three-up}
 use Rattle.pauli.proofs.Decimals.{decimal-one, decimal-two, decimal-three}
 
@@ -66,6 +66,9 @@ stored-copied (c ∷ w) (x ∷ d) =
     stored-under c 0 w d ∙ ap (λ (l : List ℕ). c ∷ l) (stored-copied w d)
     ∙ sym (ap (λ (j : ℕ). take j (c ∷ w) ++ drop j (x ∷ d)) (suc-min-suc (length w) (length d)))
 
+pub whole-text : {d e w : List ℕ} {r : ℕ} → Stored 0 w d e r → TextWritten w d e r
+whole-text {d} {e} {w} a = record { bytes = a .bytes ∙ stored-copied w d; count = a .place ∙ omega arith }
+
 stored-length : (k : ℕ) (w d : List ℕ) → length (stored k w d) ≡ length d
 unfolding stored
 stored-length k [] d = refl
@@ -88,7 +91,7 @@ number-three {n = n} h l p q s a y z = stored-as ((λ i. p i ∷ q i ∷ s i ∷
 
 pub ruleset puts = (put-in, put-out, needs)
 
-pub ruleset numbers = (number-one, number-two, number-three, stored-same, needs)
+pub ruleset numbers = (number-one, number-two, number-three, whole-text, stored-same, needs)
 
 -- ---- the prefix
 prefix-key : {d e w : List ℕ} {p r : ℕ} (k : ℕ) → p ≡ k → w ≡ prefixText (phaseOf k) → Stored 0 w d e r → Stored 0 (prefixText (phaseOf p)) d e r

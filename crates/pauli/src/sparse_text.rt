@@ -46,6 +46,13 @@ fn write_decimal(dst: &mut [u8], at: usize, n: usize) -> usize
     put(dst, ones, digit(n % 10))
 }
 
+// The decimal numeral of a byte, over the front of the destination; the answer is its length.
+pub fn write_number(n: u8, dst: &mut [u8]) -> usize
+    ensures { λ r. ⌜ TextWritten (decimal n) (now (dst .entry)) (now (dst .exit)) r ⌝ }
+{
+    write_decimal(dst, 0, n as usize)
+}
+
 // +, -, +i or -i; a byte above 3 is read as 3.
 fn write_prefix(dst: &mut [u8], phase: u8) -> usize
     ensures { λ r. ⌜ Stored 0 (prefixText (phaseOf phase)) (now (dst .entry)) (now (dst .exit)) r ⌝ }
