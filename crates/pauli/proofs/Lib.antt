@@ -13,3 +13,4 @@ pub mod Decimals
 pub mod TextWrites
 pub mod SparseTexts
 pub mod StringTexts
+pub mod Words
