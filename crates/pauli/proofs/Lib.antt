@@ -14,3 +14,4 @@ pub mod TextWrites
 pub mod SparseTexts
 pub mod StringTexts
 pub mod Words
+pub mod LetterEntries
