@@ -15,3 +15,4 @@ pub mod SparseTexts
 pub mod StringTexts
 pub mod Words
 pub mod LetterEntries
+pub mod WrittenWords
