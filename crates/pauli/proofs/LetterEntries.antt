@@ -17,7 +17,7 @@ use Rattle.pauli_group.proofs.Strings.{string-ext}
 use Rattle.pauli.specs.declared.refusal.Refusal.the-variants.{Duplicate}
 use Rattle.pauli.specs.declared.refusal.Outcome.the-variants.{Done}
 use Rattle.pauli.specs.Places.{firstPlace}
-use Rattle.pauli.specs.Layout.{phaseByte, phaseOf, letterByte, letterOf}
+use Rattle.pauli.specs.Layout.{phaseByte, letterByte, letterOf}
 use Rattle.pauli.specs.Entries.{entryCount, entryLetter, entryQubit, occurrences, entryOf, entriesString}
 use Rattle.pauli.specs.Marks.{markMore, markTo, unmarked}
 use Rattle.pauli.specs.Questions.{smallestDuplicate, duplicateQuestion}

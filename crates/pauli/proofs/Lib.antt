@@ -16,3 +16,4 @@ pub mod StringTexts
 pub mod Words
 pub mod LetterEntries
 pub mod WrittenWords
+pub mod TextRoundTrip

@@ -1,9 +1,8 @@
 -- The text of a row: word by word, its length, and the loop that writes it.
-use mathlib.Core.Path.{_≡_, refl, sym, ap, ap₂, _∙_}
+use mathlib.Core.Path.{_≡_, refl, sym, ap, _∙_}
 use mathlib.Core.Bool.{Bool, true, false}
 use mathlib.Core.List.{List, [], _∷_, _++_, append-nil, append-assoc}
 use Prim.Native.Nat.{ℕ, zero, suc, min, _+_, _-_, _<_, _≤_}
-use native.Mathlib.Nat.{not-suc-le-zero, le-refl}
 use native.Mathlib.Numerals.{add-one}
 use native.Mathlib.Decide.{ℕ-discrete}
 use native.Mathlib.Omega.{arith}
@@ -15,8 +14,8 @@ use Rattle.pauli_group.specs.Phase.{Phase, PlusOne, MinusOne, PlusI, MinusI}
 use Rattle.pauli_group.specs.Letter.{Letter, I, X, Z, Y}
 use Rattle.pauli_group.specs.PauliString.{PauliString, qubits}
 use Rattle.pauli.specs.Layout.{phaseOf, letterOf}
-use Rattle.pauli.specs.Rows.{letterAt, copied}
-use Rattle.pauli.specs.SparseText.{decimal, digitsTo, prefixText, letterText, entryWord, wordsAt, entryWords, joined, bodyText, sparseTextTo, sparseText, rowString, rowText}
+use Rattle.pauli.specs.Rows.{letterAt}
+use Rattle.pauli.specs.SparseText.{decimal, digitsTo, prefixText, entryWord, wordsAt, entryWords, joined, bodyText, sparseTextTo, sparseText, rowString, rowText}
 use Rattle.pauli.specs.TextWriting.{Stored, TextWritten, added, moreText, endText, NumberFits}
 use Rattle.pauli.proofs.TextWrites.{stored-none, stored-join, stored-as, stored-same, whole-text}
 
@@ -132,6 +131,11 @@ text-length-to n s h =
 pub text-length : (s : PauliString) → length (sparseText s) ≤ 531
 unfolding sparseText qubits
 text-length s = text-length-to 128 s (omega arith)
+
+-- and that many where every letter is there
+pub text-longest : length (sparseText (record { phase = MinusI; letters = λ q. Y })) ≡ 531
+unfolding sparseText sparseTextTo qubits prefixText entryWords wordsAt entryWord decimal digitsTo bodyText joined
+text-longest = refl
 
 -- ---- the loop that writes a row's words from place `first` on: n qubits in all, q so far, place k reached
 pub record Wording (a d : List ℕ) (n first q k : ℕ) (e : List ℕ) : Type 0 where

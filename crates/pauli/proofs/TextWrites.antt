@@ -1,19 +1,16 @@
 -- Text written byte by byte, as far as the destination reaches.
 use mathlib.Core.Path.{_≡_, refl, sym, ap, ap₂, _∙_}
-use mathlib.Core.Bool.{Bool, true, false}
-use mathlib.Core.List.{List, [], _∷_, _++_, append-nil}
-use Prim.Native.Nat.{ℕ, zero, suc, min, _+_, _-_, _/_, _%_, _<_, _≤_}
+use mathlib.Core.List.{List, [], _∷_, _++_}
+use Prim.Native.Nat.{ℕ, zero, suc, _+_, _-_, _/_, _%_, _<_, _≤_}
 use native.Mathlib.Nat.{zero-min, min-zero, suc-min-suc}
-use native.Mathlib.Numerals.{add-one}
 use native.Mathlib.Omega.{arith}
 use lib.Dec.{eqb}
 use lib.ListN.{length, take, drop, set, length-append, length-set}
 use lib.Seq.{set-out}
 use borrow.Author.Needs.{needs}
 use borrow.Author.Tests.{eq-eqb, ne-eqb}
-use Rattle.pauli_group.specs.Letter.{Letter, I, X, Z, Y}
 use Rattle.pauli.specs.Layout.{phaseOf, letterOf}
-use Rattle.pauli.specs.Rows.{shorter, copied}
+use Rattle.pauli.specs.Rows.{copied}
 use Rattle.pauli.specs.SparseText.{decimal, prefixText, letterText, entryWord, wordsAt}
 use Rattle.pauli.specs.TextWriting.{stored, Stored, TextWritten, added, moreText, endText, NumberFits}
 use Rattle.pauli.proofs.Cases.{three-up}

@@ -1,20 +1,19 @@
 -- The words of written sparse text, as they are read.
-use mathlib.Core.Path.{_≡_, refl, sym, ap, ap₂, subst, _∙_}
-use mathlib.Core.Bool.{Bool, true, false, cond, not, _&&_, _||_}
-use mathlib.Core.List.{List, [], _∷_, _++_, append-nil, append-assoc}
-use Prim.Native.Nat.{ℕ, zero, suc, _+_, _*_, _^_, _<_, _≤_}
+use mathlib.Core.Path.{_≡_, refl, sym, ap, ap₂, _∙_}
+use mathlib.Core.Bool.{Bool, true, false, cond, _&&_, _||_}
+use mathlib.Core.List.{List, [], _∷_, _++_}
+use Prim.Native.Nat.{ℕ, zero, suc, _+_, _^_, _<_, _≤_}
 use native.Mathlib.Nat.{not-suc-le-zero}
 use native.Mathlib.Omega.{arith}
-use lib.Dec.{eqb, ltb, leb}
+use lib.Dec.{ltb, leb}
 use lib.ListN.{length, getD, drop}
 use borrow.Author.Tests.{lt-ltb, le-leb, lt-leb, ne-eqb, leb-true}
 use Rattle.pauli_group.specs.Letter.{Letter, I, X, Z, Y}
 use Rattle.pauli_group.specs.PauliString.{qubits}
 use Rattle.pauli.specs.declared.refusal.Refusal.the-variants.{NotLetter, NoIndex, NotNumeral, TextQubit}
-use Rattle.pauli.specs.declared.refusal.Outcome.{Outcome}
 use Rattle.pauli.specs.declared.refusal.Outcome.the-variants.{Done, Refused}
 use Rattle.pauli.specs.Layout.{letterByte}
-use Rattle.pauli.specs.Questions.{ask, _andThen_}
+use Rattle.pauli.specs.Questions.{_andThen_}
 use Rattle.pauli.specs.SparseText.{decimal, letterText, entryWord, wordsAt, entryWords}
 use Rattle.pauli.specs.Text.{isSpace, isDigit, isSign, isSmallI, letterNamed, allDigits, withoutPlus, digitsValue, indexValue, isIndex, indexQuestions, Token, token, letterQuestion, hasIndex, attachedQuestions, tokenQuestions, attachedEntry, apartEntry, tokenEntries, anyDigit}
 use Rattle.pauli.proofs.Asking.{asked-yes}
