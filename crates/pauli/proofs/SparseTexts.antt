@@ -1,6 +1,6 @@
 -- The text of a row: word by word, its length, and the loop that writes it.
 use mathlib.Core.Path.{_≡_, refl, sym, ap, _∙_}
-use mathlib.Core.Bool.{Bool, true, false}
+use mathlib.Core.Bool.{Bool, true, false, cond}
 use mathlib.Core.List.{List, [], _∷_, _++_, append-nil, append-assoc}
 use Prim.Native.Nat.{ℕ, zero, suc, min, _+_, _-_, _<_, _≤_}
 use native.Mathlib.Numerals.{add-one}
@@ -15,7 +15,7 @@ use Rattle.pauli_group.specs.Letter.{Letter, I, X, Z, Y}
 use Rattle.pauli_group.specs.PauliString.{PauliString, qubits}
 use Rattle.pauli.specs.Layout.{phaseOf, letterOf}
 use Rattle.pauli.specs.Rows.{letterAt}
-use Rattle.pauli.specs.SparseText.{decimal, digitsTo, prefixText, entryWord, wordsAt, entryWords, joined, bodyText, sparseTextTo, sparseText, rowString, rowText}
+use Rattle.pauli.specs.SparseText.{decimal, digitsTo, prefixText, letterText, entryWord, wordsAt, entryWords, joined, bodyText, sparseTextTo, sparseText, rowString, rowText}
 use Rattle.pauli.specs.TextWriting.{Stored, TextWritten, added, moreText, endText, NumberFits}
 use Rattle.pauli.proofs.TextWrites.{stored-none, stored-join, stored-as, stored-same, whole-text}
 
@@ -121,6 +121,12 @@ body-length : {n : ℕ} (ws : List (List ℕ)) → n ≤ 128 → WordsTo n ws �
 unfolding bodyText
 body-length [] h m = omega arith
 body-length {n} (w ∷ ws) h m = omega (arith, m .short, span-most n h)
+
+-- -iX0 Y10 Z127
+pub text-reading : sparseText (record { phase = MinusI; letters = λ q. cond (eqb q 0) X (cond (eqb q 10) Y (cond (eqb q 127) Z I)) })
+    ≡ 45 ∷ 105 ∷ 88 ∷ 48 ∷ 32 ∷ 89 ∷ 49 ∷ 48 ∷ 32 ∷ 90 ∷ 49 ∷ 50 ∷ 55 ∷ []
+unfolding sparseText sparseTextTo qubits prefixText entryWords wordsAt entryWord letterText decimal digitsTo bodyText joined
+text-reading = refl
 
 -- "Written sparse text is at most 531 bytes"
 pub text-length-to : (n : ℕ) (s : PauliString) → n ≤ 128 → length (sparseTextTo n s) ≤ 531

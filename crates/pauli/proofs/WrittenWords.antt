@@ -75,11 +75,11 @@ not-space c h = (λ i. (le-leb 9 c (omega arith) i && lt-leb c 13 (omega arith) 
     never e = omega arith
 
 -- X, Y and Z
-record LetterByte (c : ℕ) : Type 0 where
+record LetterCode (c : ℕ) : Type 0 where
   low : 88 ≤ c
   high : c ≤ 90
 
-not-sign : {c : ℕ} → LetterByte c → isSign c ≡ false
+not-sign : {c : ℕ} → LetterCode c → isSign c ≡ false
 unfolding isSign
 not-sign {c} h = ap₂ _||_ (ne-eqb c 43 (λ e. plus e)) (ne-eqb c 45 (λ e. minus e))
   where
@@ -89,7 +89,7 @@ not-sign {c} h = ap₂ _||_ (ne-eqb c 43 (λ e. plus e)) (ne-eqb c 45 (λ e. min
     minus : c ≡ 45 → ⊥
     minus e = omega (arith, h .low)
 
-not-i : {c : ℕ} → LetterByte c → isSmallI c ≡ false
+not-i : {c : ℕ} → LetterCode c → isSmallI c ≡ false
 unfolding isSmallI
 not-i {c} h = ne-eqb c 105 (λ e. never e)
   where
@@ -112,7 +112,7 @@ any-more : (a b : Bool) → b ≡ true → (a || b) ≡ true
 any-more true b h = refl
 any-more false b h = h
 
-entry-word : (l : Letter) (q : ℕ) → q < 128 → LetterByte (letterText l) → 0 < letterNamed (letterText l) → EntryWord (entryWord l q)
+entry-word : (l : Letter) (q : ℕ) → q < 128 → LetterCode (letterText l) → 0 < letterNamed (letterText l) → EntryWord (entryWord l q)
 unfolding entryWord anyDigit
 entry-word l q h b n = record {
   word = record {
