@@ -264,7 +264,7 @@ module _ (names : ℕ → Bool) (letter : ℕ → ℕ) where
       next false e m = not-named n e m
 
 -- ---- a mark of 5 is a qubit that is named twice, where letters are at most 3
-mark-five : (letter : ℕ → ℕ) (n count first mark : ℕ) → ((j : ℕ) → j < n → letter j ≤ 3) → MarkIs letter n count first mark → eqb mark 5 ≡ leb 2 count
+pub mark-five : (letter : ℕ → ℕ) (n count first mark : ℕ) → ((j : ℕ) → j < n → letter j ≤ 3) → MarkIs letter n count first mark → eqb mark 5 ≡ leb 2 count
 mark-five letter n count first mark small (unnamed c f m) = ap (λ (x : ℕ). eqb x 5) m ∙ sym (ap (λ (x : ℕ). leb 2 x) c)
 mark-five letter n count first mark small (once c f m) =
     ne-eqb mark 5 (λ e. never (sym m ∙ e) (small first f)) ∙ sym (ap (λ (x : ℕ). leb 2 x) c)
@@ -274,7 +274,7 @@ mark-five letter n count first mark small (once c f m) =
 mark-five letter n count first mark small (twice c m) = eq-eqb mark 5 m ∙ sym (le-leb 2 count c)
 
 -- a mark of at most one entry holds its letter, or I
-marked-letter : (letter : ℕ → ℕ) (n count first mark : ℕ) → ((j : ℕ) → j < n → letter j ≤ 3) → count < 2 → MarkIs letter n count first mark
+pub marked-letter : (letter : ℕ → ℕ) (n count first mark : ℕ) → ((j : ℕ) → j < n → letter j ≤ 3) → count < 2 → MarkIs letter n count first mark
     → unmarked mark ≡ letterByte (cond (ltb first n) (letterOf (letter first)) I)
 unfolding unmarked letterByte
 marked-letter letter n count first mark small h (unnamed c f m) =

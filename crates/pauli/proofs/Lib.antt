@@ -17,3 +17,11 @@ pub mod SparseTokens
 pub mod SparseStrings
 pub mod DenseReading
 pub mod EitherText
+pub mod Decimals
+pub mod TextWrites
+pub mod SparseTexts
+pub mod StringTexts
+pub mod Words
+pub mod LetterEntries
+pub mod WrittenWords
+pub mod TextRoundTrip

@@ -10,3 +10,5 @@ pub mod Writing
 pub mod Marks
 pub mod Text
 pub mod Reading
+pub mod SparseText
+pub mod TextWriting

@@ -9,4 +9,5 @@ pub mod questions;
 pub mod refusal;
 pub mod rows;
 mod sparse_reader;
+pub mod sparse_text;
 mod text;

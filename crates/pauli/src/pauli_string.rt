@@ -1,10 +1,11 @@
-// String records: reading them, comparing them, making them from entries. Ports pauli_string.rs of PECOS, changed:
+// String records: reading them, comparing them, making them from entries, writing them as text. Ports pauli_string.rs of PECOS, changed:
 // Copyright 2024 The PECOS Developers, Apache License, Version 2.0.
 ghost use mathlib.Core.Path.{_≡_};
 ghost use lib.ListN.{length};
-ghost use Rattle.pauli.specs.Answers.{ByteAnswered, FlagAnswered, Written, yesOrNo};
+ghost use Rattle.pauli.specs.Answers.{ByteAnswered, FlagAnswered, Written, CountWritten, yesOrNo};
 ghost use Rattle.pauli.specs.Marks.{Blank};
 ghost use Rattle.pauli.specs.Questions.{stringQuestions, stringsQuestions, getQuestions, withPhaseQuestions};
+ghost use Rattle.pauli.specs.SparseText.{textOfRecord, toSparseQuestions};
 ghost use Rattle.pauli.specs.Strings.{phaseOfRecord, letterOfRecord, recordsCommute, entriesRecord};
 ghost use Rattle.pauli.specs.Text.{fromSparseQuestions, sparseRecord, fromDenseQuestions, denseRecord, fromStrQuestions, textRecord};
 ghost use Rattle.pauli.specs.Writing.{Pair};
@@ -12,13 +13,17 @@ use crate::dense_reader::dense_string;
 use crate::entries::read_entries;
 use crate::entries::write_marked;
 use crate::questions::check_qubit;
+use crate::questions::check_room;
 use crate::questions::check_string;
 use crate::questions::check_strings;
 use crate::refusal::ByteAnswer;
+use crate::refusal::CountAnswer;
 use crate::refusal::Flag;
 use crate::refusal::Outcome;
 use crate::rows::anticommuting_places;
 use crate::sparse_reader::sparse_string;
+use crate::sparse_text::sparse_length;
+use crate::sparse_text::write_sparse;
 use crate::text::any_digit;
 
 // The phase of a string record.
@@ -117,4 +122,26 @@ pub fn from_str(t: &[u8], dst: &mut [u8]) -> Outcome
         return from_sparse_str(t, dst);
     }
     from_dense_str(t, dst)
+}
+
+// The questions of `to_sparse_str`, in their order: the room is asked for this very text.
+fn to_sparse_answer(s: &[u8], room: usize) -> Outcome
+    ensures { λ r. ⌜ r ≡ toSparseQuestions (now (s .entry)) room ⌝ }
+{
+    let first = check_string(s);
+    if let Outcome::Done = first {
+        return check_room(sparse_length(s[0], &s[1..]), room);
+    }
+    first
+}
+
+// The sparse text of a string record; the answer is its length.
+pub fn to_sparse_str(s: &[u8], dst: &mut [u8]) -> CountAnswer
+    ensures { λ r. ⌜ CountWritten (toSparseQuestions (now (s .entry)) (length (now (dst .entry)))) (textOfRecord (now (s .entry))) (now (dst .entry)) (now (dst .exit)) r ⌝ }
+{
+    let answer = to_sparse_answer(s, dst.len());
+    match answer {
+        Outcome::Done => CountAnswer::Count(write_sparse(s[0], &s[1..], dst)),
+        Outcome::Refused(why) => CountAnswer::NoCount(why),
+    }
 }
