@@ -1,5 +1,5 @@
 // Replays vectors from standard input on the functions of `pauli` that read and write text. From
-// `run_in` on the program is that of `replay_sample`.
+// `run` on the program is that of `replay_sample`.
 use pauli::pauli_string;
 use pauli::refusal;
 use vectors::Outcome;

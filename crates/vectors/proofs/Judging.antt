@@ -1,4 +1,4 @@
--- An outcome other than a match promises nothing, and a match follows from the three tests. Assumes nothing.
+-- An outcome other than a match promises nothing, nor does the answer no; a match and the answer yes follow from the tests. Assumes nothing.
 use Prim.Native.Nat.{ℕ, _≤_}
 use mathlib.Core.Path.{_≡_}
 use mathlib.Core.List.{List}
