@@ -1,5 +1,5 @@
-// Replays vectors from standard input on a made-up function, `sum`: the shape that a replay program
-// has. Only `call`, and what it calls, is this program's own.
+// Replays vectors from standard input on two made-up functions, `sum` and `say`: the shape that a
+// replay program has. Only `call`, and what it calls, is this program's own.
 use vectors::Case;
 use vectors::Outcome;
 use vectors::Reply;
@@ -26,10 +26,19 @@ fn sum(a: &[u8], n1: u64, n2: u64, d: &mut [u8]) -> Reply {
     Reply::Of(0, std::num::wrapping_add_u64(n1, n2))
 }
 
+// The number and the value that it is given, with `a` at the front of `d`.
+fn say(a: &[u8], number: u64, value: u64, d: &mut [u8]) -> Reply {
+    copy(a, d);
+    Reply::Of(number, value)
+}
+
 // Calls the function that the line names.
 fn call(line: &[u8], case: Case, a: &[u8], _b: &[u8], d: &mut [u8]) -> Reply {
     if vectors::is_named(line, b"sum") {
         return sum(a, case.n1, case.n2, d);
+    }
+    if vectors::is_named(line, b"say") {
+        return say(a, case.n1, case.n2, d);
     }
     Reply::Unknown
 }

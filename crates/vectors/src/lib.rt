@@ -11,6 +11,13 @@
 // may end that count, and has to where the next pair starts with a decimal digit. NUM is decimal,
 // below 2^64. A line that starts with `#` is a comment, and an empty line says nothing.
 //
+// The reply expected may also be `!`:
+//
+//     NAME BYTES BYTES NUM NUM NUM BYTES = !
+//
+// a text refused as bad syntax, which is number 9, 10 or 11 whatever the value, with the destination
+// as before.
+//
 // No function has a `requires`: what is not a case is answered as malformed.
 mod decode;
 mod reading;
@@ -23,6 +30,7 @@ pub use decode::Number;
 pub use decode::bytes;
 pub use decode::decimal;
 pub use reading::Case;
+pub use reading::Expected;
 pub use reading::Kind;
 pub use reading::read_case;
 pub use scan::field;

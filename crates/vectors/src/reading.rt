@@ -16,6 +16,13 @@ pub enum Kind {
     Malformed,
 }
 
+// The reply that a line expects: its number and its value, or, for `!`, a refusal of bad syntax,
+// which is number 9, 10 or 11, whatever its value.
+pub enum Expected {
+    Exactly(u64, u64),
+    BadSyntax,
+}
+
 // What a line says. `a_len` to `e_len` count the bytes at the front of the four buffers: the two
 // arguments, the destination before the call and after it. All are 0 in a line that is no case.
 pub struct Case {
@@ -27,8 +34,7 @@ pub struct Case {
     pub n1: u64,
     pub n2: u64,
     pub n3: u64,
-    pub number: u64,
-    pub value: u64,
+    pub expected: Expected,
 }
 
 fn no_case(kind: Kind) -> Case
@@ -43,8 +49,7 @@ fn no_case(kind: Kind) -> Case
         n1: 0,
         n2: 0,
         n3: 0,
-        number: 0,
-        value: 0,
+        expected: Expected::Exactly(0, 0),
     }
 }
 
@@ -84,9 +89,19 @@ fn is_name(s: &[u8]) -> bool {
     0 < s.len()
 }
 
-// Eleven fields, a name first, and `=` before the reply.
+// Whether the reply that a line expects is `!`.
+fn is_bad_syntax(line: &[u8]) -> bool {
+    check::same(field(line, 8), b"!")
+}
+
+// How many fields a line has, by its reply.
+fn fields_due(line: &[u8]) -> usize {
+    if is_bad_syntax(line) { 9 } else { 11 }
+}
+
+// A name first, `=` before the reply, and no field too few or too many.
 fn is_shaped(line: &[u8]) -> bool {
-    if fields(line) != 11 {
+    if fields(line) != fields_due(line) {
         return false;
     }
     if !is_name(field(line, 0)) {
@@ -95,8 +110,12 @@ fn is_shaped(line: &[u8]) -> bool {
     check::same(field(line, 7), b"=")
 }
 
-// Which field spells the destination after the call: that of the destination before it, for `.`.
+// Which field spells the destination after the call: that of the destination before it, for `.`
+// and for `!`.
 fn after_field(line: &[u8]) -> usize {
+    if is_bad_syntax(line) {
+        return 6;
+    }
     if check::same(field(line, 10), b".") {
         6
     } else {
@@ -109,8 +128,6 @@ struct Numbers {
     n1: u64,
     n2: u64,
     n3: u64,
-    number: u64,
-    value: u64,
 }
 
 fn no_numbers() -> Numbers {
@@ -119,8 +136,6 @@ fn no_numbers() -> Numbers {
         n1: 0,
         n2: 0,
         n3: 0,
-        number: 0,
-        value: 0,
     }
 }
 
@@ -134,20 +149,31 @@ fn read_numbers(line: &[u8]) -> Numbers {
     let Number::Of(n3) = decimal(field(line, 5)) else {
         return no_numbers();
     };
-    let Number::Of(number) = decimal(field(line, 8)) else {
-        return no_numbers();
-    };
-    let Number::Of(value) = decimal(field(line, 9)) else {
-        return no_numbers();
-    };
     Numbers {
         ok: true,
         n1,
         n2,
         n3,
-        number,
-        value,
     }
+}
+
+// What stands for the reply.
+enum Answer {
+    Of(Expected),
+    Malformed,
+}
+
+fn read_answer(line: &[u8]) -> Answer {
+    if is_bad_syntax(line) {
+        return Answer::Of(Expected::BadSyntax);
+    }
+    let Number::Of(number) = decimal(field(line, 8)) else {
+        return Answer::Malformed;
+    };
+    let Number::Of(value) = decimal(field(line, 9)) else {
+        return Answer::Malformed;
+    };
+    Answer::Of(Expected::Exactly(number, value))
 }
 
 // Puts the bytes of field `k` at the front of `buf`.
@@ -197,6 +223,9 @@ pub fn read_case(line: &[u8], a: &mut [u8], b: &mut [u8], d: &mut [u8], e: &mut 
     if !k.ok {
         return no_case(Kind::Malformed);
     }
+    let Answer::Of(expected) = read_answer(line) else {
+        return no_case(Kind::Malformed);
+    };
     let l = read_bytes(line, a, b, d, e);
     if !l.ok {
         return no_case(Kind::Malformed);
@@ -210,7 +239,6 @@ pub fn read_case(line: &[u8], a: &mut [u8], b: &mut [u8], d: &mut [u8], e: &mut 
         n1: k.n1,
         n2: k.n2,
         n3: k.n3,
-        number: k.number,
-        value: k.value,
+        expected,
     }
 }

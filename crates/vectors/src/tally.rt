@@ -1,8 +1,9 @@
 // What comes of each line, counted and printed.
 ghost use mathlib.Core.Path.{_≡_};
-ghost use Rattle.vectors.specs.Verdicts.{Judged, Compared};
+ghost use Rattle.vectors.specs.Verdicts.{Told, Judged, Compared};
 ghost use Rattle.vectors.specs.Tallies.{next, Tallied};
 use crate::reading::Case;
+use crate::reading::Expected;
 use crate::reading::Kind;
 use libc::STDOUT_FILENO;
 
@@ -20,6 +21,26 @@ pub enum Outcome {
     Unknown,
 }
 
+// Whether a reply of this number and value is one that is expected.
+fn is_expected(expected: Expected, number: u64, value: u64) -> bool
+    ensures { λ r. ⌜ Told expected number value r ⌝ }
+{
+    match expected {
+        Expected::Exactly(n, v) => {
+            if number != n {
+                return false;
+            }
+            value == v
+        }
+        Expected::BadSyntax => {
+            if number < 9 {
+                return false;
+            }
+            number <= 11
+        }
+    }
+}
+
 // Whether the reply and the destination are those that the case expects. `e` is what the
 // destination `d` should hold, whole, so that bytes that should be as before are compared too.
 fn judged(case: Case, reply: Reply, d: &[u8], e: &[u8]) -> Outcome
@@ -28,17 +49,13 @@ fn judged(case: Case, reply: Reply, d: &[u8], e: &[u8]) -> Outcome
     let Reply::Of(number, value) = reply else {
         return Outcome::Unknown;
     };
-    if number != case.number {
-        return Outcome::Mismatch;
+    let expected = case.expected;
+    if is_expected(expected, number, value) {
+        if check::same(d, e) {
+            return Outcome::Match;
+        }
     }
-    if value != case.value {
-        return Outcome::Mismatch;
-    }
-    if check::same(d, e) {
-        Outcome::Match
-    } else {
-        Outcome::Mismatch
-    }
+    Outcome::Mismatch
 }
 
 // What comes of a line. Where it is no case the reply counts for nothing.

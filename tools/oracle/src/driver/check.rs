@@ -40,8 +40,11 @@ impl Tally {
     fn line(&mut self, place: usize, line: &str) -> Result<(), String> {
         let (asked, reply) = line.split_once(" = ").ok_or("no answer")?;
         let call = Call::read(asked)?;
-        let (number, value, after) = read_reply(&call, reply)?;
         *self.by_name.entry(call.name.clone()).or_default() += 1;
+        if reply == "!" {
+            return self.syntax_line(place, line, &call);
+        }
+        let (number, value, after) = read_reply(&call, reply)?;
         if number != 0 && after != call.d {
             return Err("a refusal that changes the destination".to_string());
         }
@@ -54,6 +57,17 @@ impl Tally {
             Answer::Syntax => self.disagreement(place, line, &written),
             _ if read_reply(&call, &written)? == (number, value, after) => self.agree += 1,
             _ => self.disagreement(place, line, &written),
+        }
+        Ok(())
+    }
+
+    /// A line that says no more than that the text is refused as bad syntax.
+    fn syntax_line(&mut self, place: usize, line: &str, call: &Call) -> Result<(), String> {
+        let said = answer(call).ok_or("no known name")?;
+        match said {
+            Answer::Outside => self.outside += 1,
+            Answer::Syntax => self.refused += 1,
+            _ => self.disagreement(place, line, &write_answer(call, &said)),
         }
         Ok(())
     }

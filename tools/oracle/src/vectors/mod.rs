@@ -25,13 +25,15 @@ impl Book {
         self.text += &format!("# {words}\n");
     }
 
-    /// A call that the Rust answers. Anything else is a slip in the inputs.
+    /// A call that the Rust accepts, or refuses with a number. Anything else is a slip in the inputs.
     pub fn add(&mut self, call: Call) {
+        let answer = answer(&call).expect("a known name");
         assert!(
-            self.add_if_answered(&call),
+            !matches!(answer, Answer::Syntax | Answer::Outside),
             "not answered by the Rust: {}",
             call.write()
         );
+        self.write(&call, &answer);
     }
 
     /// A call whose destination has exactly the room that its answer takes, and `more` bytes.
@@ -43,14 +45,16 @@ impl Book {
         self.add(call.clone().d(&inputs::room(bytes.len(), more)));
     }
 
-    /// Whether the Rust answers the call; where it does not, nothing is written.
-    pub fn add_if_answered(&mut self, call: &Call) -> bool {
+    /// Any call; nothing is written where the Rust has nothing to say.
+    pub fn add_if_judged(&mut self, call: &Call) {
         let answer = answer(call).expect("a known name");
-        if matches!(answer, Answer::Syntax | Answer::Outside) {
-            return false;
+        if answer != Answer::Outside {
+            self.write(call, &answer);
         }
-        self.text += &format!("{} = {}\n", call.write(), write_answer(call, &answer));
-        true
+    }
+
+    fn write(&mut self, call: &Call, answer: &Answer) {
+        self.text += &format!("{} = {}\n", call.write(), write_answer(call, answer));
     }
 }
 
