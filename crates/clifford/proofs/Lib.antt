@@ -1,3 +1,4 @@
 pub mod Joining
 pub mod TableauRows
 pub mod TableauRecords
+pub mod TableauAsking

@@ -1,1 +1,4 @@
 pub mod Layout
+pub mod Answers
+pub mod Questions
+pub mod Rows
