@@ -2,3 +2,4 @@ pub mod Joining
 pub mod TableauRows
 pub mod TableauRecords
 pub mod TableauAsking
+pub mod WorkRows

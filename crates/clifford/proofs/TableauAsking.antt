@@ -161,7 +161,6 @@ module _ (b : List ℕ) (e : tableauQuestions b ≡ Done) where
   good k h = ltb-false 3 (getD (drop 1 b) k 0) (first-before (length (drop 1 b)) (λ j. ltb 3 (getD (drop 1 b) j 0)) k (omega (arith, all-good)))
 
   pub tableau-formed : FormedTableau b
-  unfolding qubits
   tableau-formed = record {
     some = ltb-true 0 (length b) (ask-done _ _ (done-first _ _ asked));
     narrow = width-is (widthOf b) (done-first _ _ after-first);
@@ -177,7 +176,6 @@ pub checked : {b : List ℕ} {r : Outcome} → r ≡ tableauQuestions b → r �
 checked {b} p h = tableau-formed b (sym p ∙ h)
 
 pub formed-good : (b : List ℕ) → FormedTableau b → tableauQuestions b ≡ Done
-unfolding qubits
 formed-good b f = sym (
     tableau-rows b (λ z. absurd (no z (f .some))) refl (width-narrow (f .narrow)) refl (record-sized (widthOf b) (f .narrow))
     (f .long ∙ sym (record-sized (widthOf b) (f .narrow) .is))

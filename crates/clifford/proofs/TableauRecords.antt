@@ -146,7 +146,7 @@ record-there {b} f = there b f
 
 -- ---- which tableaux and which bytes
 pub proper-of : {b : List ℕ} → FormedTableau b → Proper (tableauOf b)
-unfolding tableauOf
+unfolding tableauOf qubits
 proper-of {b} f = record {
   narrow = f .narrow;
   xWithin = λ q l. row-within (widthOf b) (rowPart b q);
@@ -154,7 +154,7 @@ proper-of {b} f = record {
 }
 
 pub record-formed : (t : Tableau) → t .width ≤ qubits → FormedTableau (tableauRecord t)
-unfolding tableauRecord
+unfolding tableauRecord qubits
 record-formed t n = record { some = omega arith; narrow = n; long = length-record t; small = bytes }
   where
     bytes : (k : ℕ) → 0 < k → k < length (tableauRecord t) → getD (tableauRecord t) k 0 ≤ 3

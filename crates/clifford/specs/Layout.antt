@@ -6,7 +6,7 @@ use mathlib.Core.List.{List, [], _∷_, _++_}
 use lib.Dec.{ltb}
 use lib.ListN.{length, take, drop, getD}
 use Rattle.pauli_group.specs.Letter.{I}
-use Rattle.pauli_group.specs.PauliString.{PauliString, qubits}
+use Rattle.pauli_group.specs.PauliString.{PauliString}
 use Rattle.clifford_group.specs.Tableau.{Tableau}
 use Rattle.pauli.specs.Places.{listed}
 use Rattle.pauli.specs.Layout.{phaseByte, phaseOf, letterByte, letterOf}
@@ -63,6 +63,6 @@ tableauOf b = record {
 -- the bytes of some tableau of width at most 128
 pub record FormedTableau (b : List ℕ) : Type 0 where
   pub some : 0 < length b
-  pub narrow : widthOf b ≤ qubits
+  pub narrow : widthOf b ≤ 128
   pub long : length b ≡ recordLength (widthOf b)
   pub small : (k : ℕ) → 0 < k → k < length b → getD b k 0 ≤ 3

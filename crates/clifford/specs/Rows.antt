@@ -1,8 +1,79 @@
--- What the functions on rows of a record promise.
-use Prim.Native.Nat.{ℕ, _≤_}
+-- What the functions on rows promise. A work row is a string of w letters, w + 1 bytes long; a finished one is put into a record.
+use Prim.Native.Nat.{ℕ, _+_, _*_, _-_, _≤_, _<_}
 use mathlib.Core.Path.{_≡_}
+use mathlib.Core.Bool.{cond}
+use mathlib.Core.List.{List, _++_}
+use lib.Dec.{ltb}
+use lib.ListN.{length, drop}
+use Rattle.pauli_group.specs.Letter.{Letter, X, Z}
+use Rattle.pauli_group.specs.PauliString.{PauliString, mul}
+use Rattle.pauli.specs.Layout.{encodeString, decodeString, WellFormed}
+use Rattle.clifford.specs.Layout.{rowLength, encodeRow, widthOf, FormedTableau}
 
 -- r is the size or offset n in a record, at most 33025
 pub record Sized (n r : ℕ) : Type 0 where
   pub is : r ≡ n
   pub small : r ≤ 33025
+
+-- row r of a record of width w is the image of this letter on this qubit
+unfoldable pub rowQubit : ℕ → ℕ → ℕ
+rowQubit w r = cond (ltb r w) r (r - w)
+
+unfoldable pub rowLetter : ℕ → ℕ → Letter
+rowLetter w r = cond (ltb r w) X Z
+
+-- the letters of a work row in number, and its string
+abbrev pub lettersIn : List ℕ → ℕ
+lettersIn d = length d - 1
+
+abbrev pub stringIn : List ℕ → PauliString
+stringIn d = decodeString (lettersIn d) d
+
+-- a work row multiplied by a string on the right
+unfoldable pub rowTimes : List ℕ → PauliString → List ℕ
+rowTimes d s = encodeString (lettersIn d) (mul (stringIn d) s)
+
+-- a finished row over the front of d
+unfoldable pub rowWritten : ℕ → PauliString → List ℕ → List ℕ
+rowWritten w s d = encodeRow w s ++ drop (rowLength w) d
+
+-- ---- what they may count on
+
+-- a row of some record of width w
+pub record RowIndex (w r : ℕ) : Type 0 where
+  pub narrow : w ≤ 128
+  pub own : r < 2 * w
+
+-- a row of the record b
+pub record OwnRow (b : List ℕ) (r : ℕ) : Type 0 where
+  pub tableau : FormedTableau b
+  pub own : r < 2 * widthOf b
+
+-- a work row d with room for the letters of b's rows
+pub record WorkRow (b d : List ℕ) : Type 0 where
+  pub tableau : FormedTableau b
+  pub row : WellFormed (lettersIn d) d
+  pub wide : widthOf b < length d
+  pub narrow : length d ≤ 129
+
+-- the same, with a row of b; and with a qubit of the work row
+pub record WorkOnRow (b d : List ℕ) (r : ℕ) : Type 0 where
+  pub work : WorkRow b d
+  pub own : r < 2 * widthOf b
+
+pub record WorkOnQubit (b d : List ℕ) (q : ℕ) : Type 0 where
+  pub work : WorkRow b d
+  pub place : q + 1 < length d
+
+-- a finished row, and room for it
+pub record Finished (d out : List ℕ) : Type 0 where
+  pub row : WellFormed (lettersIn d) d
+  pub room : rowLength (lettersIn d) ≤ length out
+
+-- a string s to be sent through the record b into a work row d of any content
+pub record Sends (b s d : List ℕ) : Type 0 where
+  pub tableau : FormedTableau b
+  pub string : WellFormed (lettersIn s) s
+  pub wide : widthOf b < length d
+  pub reach : length s ≤ length d
+  pub narrow : length d ≤ 129
