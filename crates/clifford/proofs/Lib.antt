@@ -3,3 +3,4 @@ pub mod TableauRows
 pub mod TableauRecords
 pub mod TableauAsking
 pub mod WorkRows
+pub mod Sendings

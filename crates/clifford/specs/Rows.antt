@@ -6,8 +6,8 @@ use mathlib.Core.List.{List, _++_}
 use lib.Dec.{ltb}
 use lib.ListN.{length, drop}
 use Rattle.pauli_group.specs.Letter.{Letter, X, Z}
-use Rattle.pauli_group.specs.PauliString.{PauliString, mul}
-use Rattle.pauli.specs.Layout.{encodeString, decodeString, WellFormed}
+use Rattle.pauli_group.specs.PauliString.{PauliString, mul, scale, identityString}
+use Rattle.pauli.specs.Layout.{phaseOf, encodeString, decodeString, WellFormed}
 use Rattle.clifford.specs.Layout.{rowLength, encodeRow, widthOf, FormedTableau}
 
 -- r is the size or offset n in a record, at most 33025
@@ -32,6 +32,10 @@ stringIn d = decodeString (lettersIn d) d
 -- a work row multiplied by a string on the right
 unfoldable pub rowTimes : List ℕ → PauliString → List ℕ
 rowTimes d s = encodeString (lettersIn d) (mul (stringIn d) s)
+
+-- phase byte p and I everywhere, in n bytes
+unfoldable pub clearedRow : ℕ → ℕ → List ℕ
+clearedRow n p = encodeString (n - 1) (scale (phaseOf p) identityString)
 
 -- a finished row over the front of d
 unfoldable pub rowWritten : ℕ → PauliString → List ℕ → List ℕ
@@ -65,6 +69,26 @@ pub record WorkOnQubit (b d : List ℕ) (q : ℕ) : Type 0 where
   pub work : WorkRow b d
   pub place : q + 1 < length d
 
+-- the same, with a qubit of b; and with a letter other than I
+pub record WorkOnOwn (b d : List ℕ) (q : ℕ) : Type 0 where
+  pub work : WorkRow b d
+  pub own : q < widthOf b
+
+pub record WorkOnLetter (b d : List ℕ) (q l : ℕ) : Type 0 where
+  pub work : WorkOnOwn b d q
+  pub letter : l ≡ 0 → ⊥
+
+-- a work row and a qubit of it
+pub record WorkPlace (d : List ℕ) (q : ℕ) : Type 0 where
+  pub row : WellFormed (lettersIn d) d
+  pub place : q + 1 < length d
+  pub narrow : length d ≤ 129
+
+-- a row of any content, to be cleared
+pub record ClearRow (d : List ℕ) (p : ℕ) : Type 0 where
+  pub some : 0 < length d
+  pub phase : p ≤ 3
+
 -- a finished row, and room for it
 pub record Finished (d out : List ℕ) : Type 0 where
   pub row : WellFormed (lettersIn d) d
@@ -76,4 +100,11 @@ pub record Sends (b s d : List ℕ) : Type 0 where
   pub string : WellFormed (lettersIn s) s
   pub wide : widthOf b < length d
   pub reach : length s ≤ length d
+  pub narrow : length d ≤ 129
+
+-- a letter on qubit q to be sent through it
+pub record SendsLetter (b d : List ℕ) (q : ℕ) : Type 0 where
+  pub tableau : FormedTableau b
+  pub wide : widthOf b < length d
+  pub place : q + 1 < length d
   pub narrow : length d ≤ 129

@@ -3,3 +3,4 @@
 pub mod answer;
 mod layout;
 pub mod questions;
+mod sending;
