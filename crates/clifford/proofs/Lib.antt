@@ -4,3 +4,4 @@ pub mod TableauRecords
 pub mod TableauAsking
 pub mod WorkRows
 pub mod Sendings
+pub mod RecordWriting

@@ -2,3 +2,5 @@ pub mod Layout
 pub mod Answers
 pub mod Questions
 pub mod Rows
+pub mod Tableaux
+pub mod Writing

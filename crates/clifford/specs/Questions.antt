@@ -29,10 +29,10 @@ tableauQuestions b =
 unfoldable pub slotQuestion : ℕ → ℕ → Outcome
 slotQuestion slot w = ask (ltb slot w) (Slot slot w)
 
--- ---- the questions of each public function, in their order: those on the inputs, and then the room
+-- ---- the questions of each public function, in their order: those on the inputs, and the answer, which the room has part in
 
-unfoldable pub identityQuestions : ℕ → ℕ → Outcome
-identityQuestions n room = widthQuestion n andThen roomQuestion (recordLength n) room
+unfoldable pub identityAnswer : ℕ → ℕ → Outcome
+identityAnswer n room = widthQuestion n andThen roomQuestion (recordLength n) room
 
 unfoldable pub imageQuestions : List ℕ → ℕ → Outcome
 imageQuestions t slot = tableauQuestions t andThen slotQuestion slot (widthOf t)
@@ -41,10 +41,19 @@ imageQuestions t slot = tableauQuestions t andThen slotQuestion slot (widthOf t)
 unfoldable pub applyQuestions : List ℕ → List ℕ → Outcome
 applyQuestions t s = tableauQuestions t andThen stringQuestions s
 
+unfoldable pub applyAnswer : List ℕ → List ℕ → ℕ → Outcome
+applyAnswer t s room = applyQuestions t s andThen roomQuestion stringLength room
+
 -- "The first three are all put to the first record before the second"
 unfoldable pub composeQuestions : List ℕ → List ℕ → Outcome
 composeQuestions a b = tableauQuestions a andThen tableauQuestions b
 
+unfoldable pub composeAnswer : List ℕ → List ℕ → ℕ → Outcome
+composeAnswer a b room = composeQuestions a b andThen roomQuestion (recordLength (max (widthOf a) (widthOf b))) room
+
 -- "A width given beside a tableau meets 1 after that tableau's 3"
 unfoldable pub extendQuestions : List ℕ → ℕ → Outcome
 extendQuestions t n = tableauQuestions t andThen widthQuestion n
+
+unfoldable pub extendAnswer : List ℕ → ℕ → ℕ → Outcome
+extendAnswer t n room = extendQuestions t n andThen roomQuestion (recordLength (max (widthOf t) n)) room
