@@ -5,3 +5,4 @@ pub mod TableauAsking
 pub mod WorkRows
 pub mod Sendings
 pub mod RecordWriting
+pub mod TableauAnswers

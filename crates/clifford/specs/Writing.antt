@@ -20,6 +20,17 @@ pub record SendsRow (t s k out : List ℕ) : Type 0 where
 
 -- ---- a tableau widened
 
+-- the identity of width n, into d
+pub record Identifies (n : ℕ) (d : List ℕ) : Type 0 where
+  pub narrow : n ≤ 128
+  pub room : recordLength n ≤ length d
+
+-- to the larger of its own width and n, into d
+pub record ExtendsTo (t : List ℕ) (n : ℕ) (d : List ℕ) : Type 0 where
+  pub tableau : FormedTableau t
+  pub narrow : n ≤ 128
+  pub room : recordLength (max (widthOf t) n) ≤ length d
+
 -- to the width w, into d
 pub record Extends (t : List ℕ) (w : ℕ) (d : List ℕ) : Type 0 where
   pub tableau : FormedTableau t
@@ -42,6 +53,12 @@ pub record ExtendsBy (t : List ℕ) (w r : ℕ) (k out : List ℕ) : Type 0 wher
 
 -- ---- two tableaux composed
 
+pub record ComposesTo (a b d : List ℕ) : Type 0 where
+  pub first : FormedTableau a
+  pub second : FormedTableau b
+  pub room : recordLength (max (widthOf a) (widthOf b)) ≤ length d
+
+-- at the width w that the two have
 pub record Composes (a b : List ℕ) (w : ℕ) (d : List ℕ) : Type 0 where
   pub first : FormedTableau a
   pub second : FormedTableau b

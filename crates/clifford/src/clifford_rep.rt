@@ -1,0 +1,169 @@
+// Tableaux: their action on strings, their composition, their images. Ports clifford_rep.rs of PECOS, changed:
+// Copyright 2024 The PECOS Developers, Apache License, Version 2.0.
+ghost use mathlib.Core.Path.{_≡_};
+ghost use Prim.Native.Nat.{max};
+ghost use lib.ListN.{length};
+ghost use Rattle.pauli.specs.declared.refusal.Outcome.the-variants.{Done};
+ghost use Rattle.pauli.specs.Answers.{Written, written};
+ghost use Rattle.clifford.specs.Questions.{identityAnswer, applyQuestions, applyAnswer, composeAnswer, extendQuestions, extendAnswer};
+ghost use Rattle.clifford.specs.Tableaux.{identityRecord, applyRecord, composeRecord, extendRecord};
+ghost use Rattle.clifford.specs.Writing.{Applies, Identifies, ExtendsTo, ComposesTo};
+use crate::composing::write_composed;
+use crate::composing::write_extended;
+use crate::layout::record_length;
+use crate::layout::width;
+use crate::questions::check_tableau;
+use crate::questions::check_tableaux;
+use crate::questions::check_width;
+use crate::sending::send;
+use pauli::questions::check_room;
+use pauli::questions::check_string;
+use pauli::refusal::Outcome;
+
+fn larger(a: usize, b: usize) -> usize
+    ensures { λ r. ⌜ r ≡ max a b ⌝ }
+{
+    if a < b { b } else { a }
+}
+
+// ---- identity
+
+fn identity_answer(n: usize, room: usize) -> Outcome
+    ensures { λ r. ⌜ r ≡ identityAnswer n room ⌝ }
+{
+    let first = check_width(n);
+    if let Outcome::Done = first {
+        return check_room(record_length(n), room);
+    }
+    first
+}
+
+// The tableau of width 0 widened to n.
+fn write_identity(n: usize, dst: &mut [u8])
+    requires { ⌜ Identifies n (now dst) ⌝ }
+    ensures { λ _. ⌜ now (dst .exit) ≡ written Done (identityRecord n) (now (dst .entry)) ⌝ }
+{
+    let none = [0u8; 1];
+    write_extended(&none, n, dst);
+}
+
+// The identity of width n.
+pub fn identity(n: usize, dst: &mut [u8]) -> Outcome
+    ensures { λ r. ⌜ Written (identityAnswer n (length (now (dst .entry)))) (identityRecord n) (now (dst .entry)) (now (dst .exit)) r ⌝ }
+{
+    let answer = identity_answer(n, dst.len());
+    if let Outcome::Done = answer {
+        write_identity(n, dst);
+    }
+    answer
+}
+
+// ---- apply
+
+fn check_apply(t: &[u8], s: &[u8]) -> Outcome
+    ensures { λ r. ⌜ r ≡ applyQuestions (now (t .entry)) (now (s .entry)) ⌝ }
+{
+    let first = check_tableau(t);
+    if let Outcome::Done = first {
+        return check_string(s);
+    }
+    first
+}
+
+fn apply_answer(t: &[u8], s: &[u8], room: usize) -> Outcome
+    ensures { λ r. ⌜ r ≡ applyAnswer (now (t .entry)) (now (s .entry)) room ⌝ }
+{
+    let first = check_apply(t, s);
+    if let Outcome::Done = first {
+        return check_room(129, room);
+    }
+    first
+}
+
+fn write_applied(t: &[u8], s: &[u8], dst: &mut [u8])
+    requires { ⌜ Applies (now t) (now s) (now dst) ⌝ }
+    ensures { λ _. ⌜ now (dst .exit) ≡ written Done (applyRecord (now (t .entry)) (now (s .entry))) (now (dst .entry)) ⌝ }
+{
+    send(t, s, &mut dst[0..129]);
+}
+
+// The image of the string s.
+pub fn apply(t: &[u8], s: &[u8], dst: &mut [u8]) -> Outcome
+    ensures { λ r. ⌜ Written (applyAnswer (now (t .entry)) (now (s .entry)) (length (now (dst .entry)))) (applyRecord (now (t .entry)) (now (s .entry))) (now (dst .entry)) (now (dst .exit)) r ⌝ }
+{
+    let answer = apply_answer(t, s, dst.len());
+    if let Outcome::Done = answer {
+        write_applied(t, s, dst);
+    }
+    answer
+}
+
+// ---- compose
+
+fn compose_answer(a: &[u8], b: &[u8], room: usize) -> Outcome
+    ensures { λ r. ⌜ r ≡ composeAnswer (now (a .entry)) (now (b .entry)) room ⌝ }
+{
+    let first = check_tableaux(a, b);
+    if let Outcome::Done = first {
+        return check_room(record_length(larger(width(a), width(b))), room);
+    }
+    first
+}
+
+fn compose_into(a: &[u8], b: &[u8], dst: &mut [u8])
+    requires { ⌜ ComposesTo (now a) (now b) (now dst) ⌝ }
+    ensures { λ _. ⌜ now (dst .exit) ≡ written Done (composeRecord (now (a .entry)) (now (b .entry))) (now (dst .entry)) ⌝ }
+{
+    write_composed(a, b, larger(width(a), width(b)), dst);
+}
+
+// a composed with b: b acts first.
+pub fn compose(a: &[u8], b: &[u8], dst: &mut [u8]) -> Outcome
+    ensures { λ r. ⌜ Written (composeAnswer (now (a .entry)) (now (b .entry)) (length (now (dst .entry)))) (composeRecord (now (a .entry)) (now (b .entry))) (now (dst .entry)) (now (dst .exit)) r ⌝ }
+{
+    let answer = compose_answer(a, b, dst.len());
+    if let Outcome::Done = answer {
+        compose_into(a, b, dst);
+    }
+    answer
+}
+
+// ---- extended_to
+
+fn check_extend(t: &[u8], n: usize) -> Outcome
+    ensures { λ r. ⌜ r ≡ extendQuestions (now (t .entry)) n ⌝ }
+{
+    let first = check_tableau(t);
+    if let Outcome::Done = first {
+        return check_width(n);
+    }
+    first
+}
+
+fn extend_answer(t: &[u8], n: usize, room: usize) -> Outcome
+    ensures { λ r. ⌜ r ≡ extendAnswer (now (t .entry)) n room ⌝ }
+{
+    let first = check_extend(t, n);
+    if let Outcome::Done = first {
+        return check_room(record_length(larger(width(t), n)), room);
+    }
+    first
+}
+
+fn extend_into(t: &[u8], n: usize, dst: &mut [u8])
+    requires { ⌜ ExtendsTo (now t) n (now dst) ⌝ }
+    ensures { λ _. ⌜ now (dst .exit) ≡ written Done (extendRecord (now (t .entry)) n) (now (dst .entry)) ⌝ }
+{
+    write_extended(t, larger(width(t), n), dst);
+}
+
+// The tableau widened to n; a smaller n gives a copy.
+pub fn extended_to(t: &[u8], n: usize, dst: &mut [u8]) -> Outcome
+    ensures { λ r. ⌜ Written (extendAnswer (now (t .entry)) n (length (now (dst .entry)))) (extendRecord (now (t .entry)) n) (now (dst .entry)) (now (dst .exit)) r ⌝ }
+{
+    let answer = extend_answer(t, n, dst.len());
+    if let Outcome::Done = answer {
+        extend_into(t, n, dst);
+    }
+    answer
+}
