@@ -6,3 +6,4 @@ pub mod WorkRows
 pub mod Sendings
 pub mod RecordWriting
 pub mod TableauAnswers
+pub mod TableauImages

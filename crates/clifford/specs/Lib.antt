@@ -1,4 +1,5 @@
 pub mod Layout
+pub mod Images
 pub mod Answers
 pub mod Questions
 pub mod Rows

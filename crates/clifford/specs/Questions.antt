@@ -1,9 +1,9 @@
 -- The questions put to tableaux (scope document, "Questions on entry"), and those of each public function in their order.
-use Prim.Native.Nat.{ℕ, suc, _+_, _-_, max}
-use mathlib.Core.Bool.{Bool, _&&_, not}
+use Prim.Native.Nat.{ℕ, max}
+use mathlib.Core.Bool.{_&&_}
 use mathlib.Core.List.{List}
 use lib.Dec.{ltb, leb, eqb}
-use lib.ListN.{length, drop, getD}
+use lib.ListN.{length, drop}
 use Rattle.pauli_group.specs.PauliString.{PauliString, qubits}
 use Rattle.pauli.specs.declared.refusal.Refusal.the-variants.{Width, Length, ImageWidth, Slot}
 use Rattle.pauli.specs.declared.refusal.Outcome.{Outcome}
@@ -11,6 +11,7 @@ use Rattle.pauli.specs.Places.{firstPlace}
 use Rattle.pauli.specs.Layout.{stringLength, stringOf}
 use Rattle.pauli.specs.Questions.{ask, _andThen_, bytesQuestion, stringQuestions, roomQuestion}
 use Rattle.clifford.specs.Layout.{widthOf, recordLength}
+use Rattle.clifford.specs.Images.{hasLetter}
 
 -- "Is the width at most 128? 1"
 unfoldable pub widthQuestion : ℕ → Outcome
@@ -29,6 +30,13 @@ tableauQuestions b =
 unfoldable pub slotQuestion : ℕ → ℕ → Outcome
 slotQuestion slot w = ask (ltb slot w) (Slot slot w)
 
+-- "is the image inside the width? 14, its lowest qubit outside", or 128 where there is none
+unfoldable pub lowestOutside : ℕ → PauliString → ℕ
+lowestOutside w s = firstPlace qubits (λ q. leb w q && hasLetter s q)
+
+unfoldable pub insideQuestion : ℕ → PauliString → Outcome
+insideQuestion w s = ask (leb qubits (lowestOutside w s)) (ImageWidth (lowestOutside w s) w)
+
 -- ---- the questions of each public function, in their order: those on the inputs, and the answer, which the room has part in
 
 unfoldable pub identityAnswer : ℕ → ℕ → Outcome
@@ -43,6 +51,11 @@ applyQuestions t s = tableauQuestions t andThen stringQuestions s
 
 unfoldable pub applyAnswer : List ℕ → List ℕ → ℕ → Outcome
 applyAnswer t s room = applyQuestions t s andThen roomQuestion stringLength room
+
+-- "Setting an image": the tableau, the string, 14, and then 15
+unfoldable pub setQuestions : List ℕ → ℕ → List ℕ → Outcome
+setQuestions t slot s =
+    applyQuestions t s andThen insideQuestion (widthOf t) (stringOf s) andThen slotQuestion slot (widthOf t)
 
 -- "The first three are all put to the first record before the second"
 unfoldable pub composeQuestions : List ℕ → List ℕ → Outcome

@@ -3,7 +3,8 @@ use Prim.Native.Nat.{ℕ, _+_, _*_, _≤_, _<_, max}
 use mathlib.Core.Path.{_≡_}
 use mathlib.Core.List.{List}
 use lib.ListN.{length}
-use Rattle.pauli.specs.Layout.{stringLength, WellFormed}
+use Rattle.pauli_group.specs.PauliString.{Within}
+use Rattle.pauli.specs.Layout.{stringLength, stringOf, WellFormed}
 use Rattle.clifford.specs.Layout.{rowLength, recordLength, widthOf, FormedTableau}
 use Rattle.clifford.specs.Rows.{Sends, lettersIn}
 
@@ -77,3 +78,21 @@ pub record ComposesBy (a b : List ℕ) (w r : ℕ) (s k out : List ℕ) : Type 0
   pub row : ComposesRow a b w r out
   pub source : length s ≡ w + 1
   pub work : length k ≡ w + 1
+
+-- ---- an image set
+
+-- a string s of t's width
+pub record Setting (t s : List ℕ) : Type 0 where
+  pub tableau : FormedTableau t
+  pub string : WellFormed 128 s
+  pub inside : Within (widthOf t) (stringOf s)
+
+-- a tableau, a row of it, and a string of its width
+pub record SetsRow (t : List ℕ) (r : ℕ) (s : List ℕ) : Type 0 where
+  pub sets : Setting t s
+  pub own : r < 2 * widthOf t
+
+-- a tableau, a qubit of it, and a string of its width
+pub record Sets (t : List ℕ) (q : ℕ) (s : List ℕ) : Type 0 where
+  pub sets : Setting t s
+  pub slot : q < widthOf t

@@ -5,13 +5,15 @@ ghost use Prim.Native.Nat.{max};
 ghost use lib.ListN.{length};
 ghost use Rattle.pauli.specs.declared.refusal.Outcome.the-variants.{Done};
 ghost use Rattle.pauli.specs.Answers.{Written, written};
-ghost use Rattle.clifford.specs.Questions.{identityAnswer, applyQuestions, applyAnswer, composeAnswer, extendQuestions, extendAnswer};
-ghost use Rattle.clifford.specs.Tableaux.{identityRecord, applyRecord, composeRecord, extendRecord};
+ghost use Rattle.clifford.specs.Questions.{imageQuestions, identityAnswer, applyQuestions, applyAnswer, composeAnswer, extendQuestions, extendAnswer};
+ghost use Rattle.clifford.specs.Tableaux.{xImagePart, zImagePart, identityRecord, applyRecord, composeRecord, extendRecord};
 ghost use Rattle.clifford.specs.Writing.{Applies, Identifies, ExtendsTo, ComposesTo};
 use crate::composing::write_composed;
 use crate::composing::write_extended;
 use crate::layout::record_length;
+use crate::layout::row;
 use crate::layout::width;
+use crate::questions::check_slot;
 use crate::questions::check_tableau;
 use crate::questions::check_tableaux;
 use crate::questions::check_width;
@@ -24,6 +26,54 @@ fn larger(a: usize, b: usize) -> usize
     ensures { λ r. ⌜ r ≡ max a b ⌝ }
 {
     if a < b { b } else { a }
+}
+
+// ---- images
+
+fn check_image(t: &[u8], slot: usize) -> Outcome
+    ensures { λ r. ⌜ r ≡ imageQuestions (now (t .entry)) slot ⌝ }
+{
+    let first = check_tableau(t);
+    if let Outcome::Done = first {
+        return check_slot(slot, width(t));
+    }
+    first
+}
+
+// Whether X of this qubit has an image to hand out: Done, or the refusal.
+pub fn x_image_answer(t: &[u8], slot: usize) -> Outcome
+    ensures { λ r. ⌜ r ≡ imageQuestions (now (t .entry)) slot ⌝ }
+{
+    check_image(t, slot)
+}
+
+// The image of X on this qubit, the row's own part of the record; no bytes where the answer is a refusal.
+pub fn x_image(t: &[u8], slot: usize) -> &[u8]
+    ensures { λ p. ⌜ now p ≡ xImagePart (now (t .entry)) slot ⌝ }
+{
+    let answer = check_image(t, slot);
+    if let Outcome::Done = answer {
+        return row(t, slot);
+    }
+    &t[0..0]
+}
+
+// Whether Z of this qubit has an image to hand out: Done, or the refusal.
+pub fn z_image_answer(t: &[u8], slot: usize) -> Outcome
+    ensures { λ r. ⌜ r ≡ imageQuestions (now (t .entry)) slot ⌝ }
+{
+    check_image(t, slot)
+}
+
+// The image of Z on this qubit, the row's own part of the record; no bytes where the answer is a refusal.
+pub fn z_image(t: &[u8], slot: usize) -> &[u8]
+    ensures { λ p. ⌜ now p ≡ zImagePart (now (t .entry)) slot ⌝ }
+{
+    let answer = check_image(t, slot);
+    if let Outcome::Done = answer {
+        return row(t, width(t) + slot);
+    }
+    &t[0..0]
 }
 
 // ---- identity

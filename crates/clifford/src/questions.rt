@@ -2,7 +2,7 @@
 ghost use mathlib.Core.Path.{_≡_};
 ghost use lib.ListN.{drop};
 ghost use Rattle.pauli.specs.Questions.{bytesQuestion};
-ghost use Rattle.clifford.specs.Questions.{widthQuestion, tableauQuestions, composeQuestions};
+ghost use Rattle.clifford.specs.Questions.{widthQuestion, slotQuestion, tableauQuestions, composeQuestions};
 use crate::layout::record_length;
 use crate::layout::width;
 use pauli::refusal::Outcome;
@@ -16,6 +16,16 @@ pub fn check_width(width: usize) -> Outcome
         return Outcome::Refused(Refusal::Width);
     }
     Outcome::Done
+}
+
+// A qubit of a tableau whose image is meant.
+pub fn check_slot(slot: usize, width: usize) -> Outcome
+    ensures { λ r. ⌜ r ≡ slotQuestion slot width ⌝ }
+{
+    if slot < width {
+        return Outcome::Done;
+    }
+    Outcome::Refused(Refusal::Slot { slot, width })
 }
 
 // The bytes after the width.
