@@ -7,3 +7,4 @@ pub mod Sendings
 pub mod RecordWriting
 pub mod TableauAnswers
 pub mod TableauImages
+pub mod ImageSetting

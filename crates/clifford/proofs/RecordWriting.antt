@@ -8,7 +8,7 @@ use native.Mathlib.Numerals.{add-one}
 use native.Mathlib.Omega.{arith}
 use native.Mathlib.Decide.{decLt}
 use lib.Dec.{ltb}
-use lib.ListN.{length, getD, set, take, drop, replicate, length-set, length-append, length-drop, length-take, drop-of-length-le}
+use lib.ListN.{length, getD, set, take, drop, replicate, length-set, length-append, length-drop, length-take, drop-of-length-le, take-append-drop}
 use lib.Seq.{take-at, drop-at, drop-drop, drop-set-lt}
 use borrow.Author.Needs.{needs}
 use borrow.Author.Tests.{lt-ltb, le-ltb}
@@ -133,6 +133,50 @@ rows-all t {w} d {r} {e} et m h =
     ∙ ap (λ (l : List ℕ). rowsBefore w (rowOf t) (2 * w) ++ l) (drop-set-lt (recordLength w) d 0 w (some-room w))
     ∙ ap (λ (v : ℕ). rowsBefore v (rowOf t) (2 * v) ++ drop (recordLength v) d) (sym et)
     ∙ ap (λ (j : ℕ). tableauRecord t ++ drop j d) (sym (length-record t))
+
+-- rows that d₀ holds already
+rows-kept : {w : ℕ} {f : ℕ → PauliString} {d₀ : List ℕ} {r : ℕ} {d : List ℕ} → RowsTo w f d₀ r d → r < 2 * w
+    → take (rowLength w) (drop (rowOffset w r) d₀) ≡ encodeRow w (f r) → RowsTo w f d₀ (suc r) d
+rows-kept {w} {f} {d₀} {r} {d} m h k =
+    let off = rowOffset w r in
+    let tail : drop off d₀ ≡ encodeRow w (f r) ++ drop (rowOffset w (suc r)) d₀ =
+    sym (take-append-drop (rowLength w) (drop off d₀)) ∙ ap₂ _++_ k (drop-drop (rowLength w) off d₀ ∙ ap (λ (j : ℕ). drop j d₀) (next-offset w r)) in
+    record {
+      narrow = m .narrow;
+      room = m .room;
+      within = omega arith;
+      long = m .long;
+      bytes = m .bytes ∙ ap (λ (l : List ℕ). rowsBefore w f r ++ l) tail ∙ sym (append-assoc (rowsBefore w f r) (encodeRow w (f r)) (drop (rowOffset w (suc r)) d₀))
+          ∙ ap (λ (l : List ℕ). (w ∷ l) ++ drop (rowOffset w (suc r)) d₀) (sym (joined-more r (λ i. encodeRow w (f i))));
+    }
+
+pub rows-kept-to : {w : ℕ} {f : ℕ → PauliString} {d₀ : List ℕ} {r : ℕ} {d : List ℕ} (k : ℕ) → RowsTo w f d₀ r d → r + k ≤ 2 * w
+    → ((i : ℕ) → r ≤ i → i < r + k → take (rowLength w) (drop (rowOffset w i) d₀) ≡ encodeRow w (f i)) → RowsTo w f d₀ (r + k) d
+rows-kept-to {w} {f} {d₀} {r} {d} zero m h each = let e : r ≡ r + 0 = omega arith in subst (λ (j : ℕ). RowsTo w f d₀ j d) e m
+rows-kept-to {w} {f} {d₀} {r} {d} (suc k) m h each =
+    let e : suc (r + k) ≡ r + suc k = omega arith in
+    subst (λ (j : ℕ). RowsTo w f d₀ j d) e
+    (rows-kept (rows-kept-to k m (omega arith) (λ i a b. each i a (omega arith))) (omega arith) (each (r + k) (omega arith) (omega arith)))
+
+-- a record, with none of its rows looked at yet
+pub rows-own : {b : List ℕ} (f : ℕ → PauliString) → FormedTableau b → RowsTo (widthOf b) f b 0 b
+rows-own {b} f o = record {
+  narrow = o .narrow;
+  room = omega (arith, o .long);
+  within = omega arith;
+  long = refl;
+  bytes = first b (o .some) ∙ ap (λ (j : ℕ). (widthOf b ∷ joined 0 (λ i. encodeRow (widthOf b) (f i))) ++ drop j b) (sym (first-offset (widthOf b)));
+}
+  where
+    first : (b : List ℕ) → 0 < length b → b ≡ rowsBefore (widthOf b) f 0 ++ drop 1 b
+    first [] h = absurd (not-suc-le-zero h)
+    first (x ∷ b) h = unfold joined in refl
+
+pub rows-end : (t : Tableau) {w : ℕ} {d₀ : List ℕ} {e : List ℕ} → t .width ≡ w → length d₀ ≡ recordLength w → RowsTo w (rowOf t) d₀ (2 * w) e → e ≡ tableauRecord t
+unfolding tableauRecord
+rows-end t {w} {d₀} et long m =
+    m .bytes ∙ ap (λ (l : List ℕ). rowsBefore w (rowOf t) (2 * w) ++ l) (drop-of-length-le d₀ {i = rowOffset w (2 * w)} (omega (arith, all-rows w)))
+    ∙ append-nil (rowsBefore w (rowOf t) (2 * w)) ∙ ap (λ (v : ℕ). rowsBefore v (rowOf t) (2 * v)) (sym et)
 
 -- ---- the generator of row r, and rows that are made from generators
 pub letter-of-row : (w r : ℕ) {l : ℕ} → l ≡ letterByte (rowLetter w r) → letterOf l ≡ rowLetter w r

@@ -3,10 +3,11 @@ use Prim.Native.Nat.{ℕ, _+_, _*_, _-_, _≤_, _<_}
 use mathlib.Core.Path.{_≡_}
 use mathlib.Core.Bool.{cond}
 use mathlib.Core.List.{List, _++_}
-use lib.Dec.{ltb}
+use lib.Dec.{ltb, eqb}
 use lib.ListN.{length, drop}
 use Rattle.pauli_group.specs.Letter.{Letter, X, Z}
 use Rattle.pauli_group.specs.PauliString.{PauliString, mul, scale, identityString}
+use Rattle.clifford_group.specs.Tableau.{Tableau}
 use Rattle.pauli.specs.Layout.{phaseOf, encodeString, decodeString, WellFormed}
 use Rattle.clifford.specs.Layout.{rowLength, encodeRow, widthOf, FormedTableau}
 
@@ -40,6 +41,14 @@ clearedRow n p = encodeString (n - 1) (scale (phaseOf p) identityString)
 -- a finished row over the front of d
 unfoldable pub rowWritten : ℕ → PauliString → List ℕ → List ℕ
 rowWritten w s d = encodeRow w s ++ drop (rowLength w) d
+
+-- a tableau with row r replaced
+unfoldable pub withRow : Tableau → ℕ → PauliString → Tableau
+withRow t r s = record {
+  width = t .width;
+  xImage = λ q. cond (eqb q r) s (t .xImage q);
+  zImage = λ q. cond (eqb (t .width + q) r) s (t .zImage q);
+}
 
 -- ---- what they may count on
 
@@ -108,3 +117,8 @@ pub record SendsLetter (b d : List ℕ) (q : ℕ) : Type 0 where
   pub wide : widthOf b < length d
   pub place : q + 1 < length d
   pub narrow : length d ≤ 129
+
+-- a string record, and a width of a tableau
+pub record Beside (s : List ℕ) (w : ℕ) : Type 0 where
+  pub string : WellFormed 128 s
+  pub narrow : w ≤ 128

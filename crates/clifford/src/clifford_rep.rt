@@ -5,8 +5,8 @@ ghost use Prim.Native.Nat.{max};
 ghost use lib.ListN.{length};
 ghost use Rattle.pauli.specs.declared.refusal.Outcome.the-variants.{Done};
 ghost use Rattle.pauli.specs.Answers.{Written, written};
-ghost use Rattle.clifford.specs.Questions.{imageQuestions, identityAnswer, applyQuestions, applyAnswer, composeAnswer, extendQuestions, extendAnswer};
-ghost use Rattle.clifford.specs.Tableaux.{xImagePart, zImagePart, identityRecord, applyRecord, composeRecord, extendRecord};
+ghost use Rattle.clifford.specs.Questions.{imageQuestions, setQuestions, identityAnswer, applyQuestions, applyAnswer, composeAnswer, extendQuestions, extendAnswer};
+ghost use Rattle.clifford.specs.Tableaux.{xImagePart, zImagePart, setXRecord, setZRecord, identityRecord, applyRecord, composeRecord, extendRecord};
 ghost use Rattle.clifford.specs.Writing.{Applies, Identifies, ExtendsTo, ComposesTo};
 use crate::composing::write_composed;
 use crate::composing::write_extended;
@@ -18,6 +18,8 @@ use crate::questions::check_tableau;
 use crate::questions::check_tableaux;
 use crate::questions::check_width;
 use crate::sending::send;
+use crate::setting::check_inside;
+use crate::setting::set_row;
 use pauli::questions::check_room;
 use pauli::questions::check_string;
 use pauli::refusal::Outcome;
@@ -74,6 +76,43 @@ pub fn z_image(t: &[u8], slot: usize) -> &[u8]
         return row(t, width(t) + slot);
     }
     &t[0..0]
+}
+
+fn set_answer(t: &[u8], slot: usize, s: &[u8]) -> Outcome
+    ensures { λ r. ⌜ r ≡ setQuestions (now (t .entry)) slot (now (s .entry)) ⌝ }
+{
+    let first = check_apply(t, s);
+    let Outcome::Done = first else {
+        return first;
+    };
+    let n = width(t);
+    let second = check_inside(s, n);
+    let Outcome::Done = second else {
+        return second;
+    };
+    check_slot(slot, n)
+}
+
+// The image of X on this qubit, replaced by the string s.
+pub fn set_x_image(t: &mut [u8], slot: usize, s: &[u8]) -> Outcome
+    ensures { λ r. ⌜ Written (setQuestions (now (t .entry)) slot (now (s .entry))) (setXRecord (now (t .entry)) slot (now (s .entry))) (now (t .entry)) (now (t .exit)) r ⌝ }
+{
+    let answer = set_answer(t, slot, s);
+    if let Outcome::Done = answer {
+        set_row(t, slot, s);
+    }
+    answer
+}
+
+// The image of Z on this qubit, replaced by the string s.
+pub fn set_z_image(t: &mut [u8], slot: usize, s: &[u8]) -> Outcome
+    ensures { λ r. ⌜ Written (setQuestions (now (t .entry)) slot (now (s .entry))) (setZRecord (now (t .entry)) slot (now (s .entry))) (now (t .entry)) (now (t .exit)) r ⌝ }
+{
+    let answer = set_answer(t, slot, s);
+    if let Outcome::Done = answer {
+        set_row(t, width(t) + slot, s);
+    }
+    answer
 }
 
 // ---- identity

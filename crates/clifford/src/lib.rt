@@ -6,3 +6,4 @@ mod composing;
 mod layout;
 pub mod questions;
 mod sending;
+mod setting;
