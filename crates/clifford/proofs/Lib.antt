@@ -8,3 +8,4 @@ pub mod RecordWriting
 pub mod TableauAnswers
 pub mod TableauImages
 pub mod ImageSetting
+pub mod ValidRows

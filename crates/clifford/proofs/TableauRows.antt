@@ -4,10 +4,11 @@ use mathlib.Core.List.{List}
 use Prim.Native.Nat.{ℕ, zero, suc, _+_, _*_, _-_, _≤_, _<_}
 use native.Mathlib.Omega.{arith}
 use native.Mathlib.Decide.{decLt}
-use lib.ListN.{length, getD, List·getD-eq-default}
+use lib.ListN.{length, getD, drop, List·getD-eq-default}
+use lib.Seq.{getD-drop}
 use Rattle.pauli_group.specs.PauliString.{PauliString, Within}
-use Rattle.pauli.specs.Layout.{encodeString, decodeString, WellFormed}
-use Rattle.pauli.proofs.Records.{length-encode, encode-formed, decode-encode, encode-decode, decode-within}
+use Rattle.pauli.specs.Layout.{phaseOf, letterOf, encodeString, decodeString, WellFormed}
+use Rattle.pauli.proofs.Records.{length-encode, encode-formed, decode-encode, encode-decode, decode-within, decode-phase, decode-letter}
 use Rattle.clifford.specs.Layout.{rowLength, encodeRow, decodeRow}
 
 -- ---- a row has the bytes of a string of its letters
@@ -48,3 +49,12 @@ row-there {w} {b} f = row-of-string w (decodeRow w b) ∙ ap (encodeString w) (s
 
 pub row-within : (w : ℕ) (b : List ℕ) → Within w (decodeRow w b)
 row-within w b q h = ap (λ s. s .letters q) (string-of-row w b) ∙ decode-within w b q h
+
+-- ---- where the phase and the letters are
+pub row-phase-at : (w : ℕ) (b : List ℕ) → decodeRow w b .phase ≡ phaseOf (getD b 0 0)
+row-phase-at w b = ap (λ s. s .phase) (string-of-row w b) ∙ decode-phase w b
+
+pub row-letter-at : (w : ℕ) (b : List ℕ) (q : ℕ) → q < w → decodeRow w b .letters q ≡ letterOf (getD (drop 1 b) q 0)
+row-letter-at w b q h =
+    let e : 1 + q ≡ suc q = omega arith in
+    ap (λ s. s .letters q) (string-of-row w b) ∙ decode-letter w b q h ∙ ap (λ (j : ℕ). letterOf (getD b j 0)) (sym e) ∙ ap letterOf (sym (getD-drop 1 b q 0))

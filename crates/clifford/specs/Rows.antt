@@ -9,7 +9,7 @@ use Rattle.pauli_group.specs.Letter.{Letter, X, Z}
 use Rattle.pauli_group.specs.PauliString.{PauliString, mul, scale, identityString}
 use Rattle.clifford_group.specs.Tableau.{Tableau}
 use Rattle.pauli.specs.Layout.{phaseOf, encodeString, decodeString, WellFormed}
-use Rattle.clifford.specs.Layout.{rowLength, encodeRow, widthOf, FormedTableau}
+use Rattle.clifford.specs.Layout.{rowLength, encodeRow, rowPart, widthOf, FormedTableau}
 
 -- r is the size or offset n in a record, at most 33025
 pub record Sized (n r : ℕ) : Type 0 where
@@ -22,6 +22,10 @@ rowQubit w r = cond (ltb r w) r (r - w)
 
 unfoldable pub rowLetter : ℕ → ℕ → Letter
 rowLetter w r = cond (ltb r w) X Z
+
+-- the letter bytes of row r of a record
+unfoldable pub rowLetters : List ℕ → ℕ → List ℕ
+rowLetters b r = drop 1 (rowPart b r)
 
 -- the letters of a work row in number, and its string
 abbrev pub lettersIn : List ℕ → ℕ
@@ -61,6 +65,21 @@ pub record RowIndex (w r : ℕ) : Type 0 where
 pub record OwnRow (b : List ℕ) (r : ℕ) : Type 0 where
   pub tableau : FormedTableau b
   pub own : r < 2 * widthOf b
+
+-- two rows of it; a qubit of it; and two qubits
+pub record OwnRows (b : List ℕ) (r p : ℕ) : Type 0 where
+  pub tableau : FormedTableau b
+  pub first : r < 2 * widthOf b
+  pub second : p < 2 * widthOf b
+
+pub record OwnQubit (b : List ℕ) (q : ℕ) : Type 0 where
+  pub tableau : FormedTableau b
+  pub own : q < widthOf b
+
+pub record OwnQubits (b : List ℕ) (q r : ℕ) : Type 0 where
+  pub tableau : FormedTableau b
+  pub first : q < widthOf b
+  pub second : r < widthOf b
 
 -- a work row d with room for the letters of b's rows
 pub record WorkRow (b d : List ℕ) : Type 0 where

@@ -1,12 +1,16 @@
 -- What the public functions on tableau records give: the field's objects between decoding and encoding.
 use Prim.Native.Nat.{ℕ, _+_}
+use mathlib.Core.Bool.{Bool}
 use mathlib.Core.List.{List}
-use Rattle.clifford_group.specs.Tableau.{identityTableau, widen, apply, compose}
+use Rattle.clifford_group.specs.Tableau.{identityTableau, widen, apply, compose, isValid}
 use Rattle.pauli.specs.Layout.{stringOf, stringRecord}
 use Rattle.clifford.specs.Layout.{widthOf, rowPart, tableauOf, tableauRecord}
 use Rattle.clifford.specs.Answers.{partAnswer}
 use Rattle.clifford.specs.Images.{withXImage, withZImage}
 use Rattle.clifford.specs.Questions.{imageQuestions}
+
+unfoldable pub recordValid : List ℕ → Bool
+recordValid t = isValid (tableauOf t)
 
 unfoldable pub identityRecord : ℕ → List ℕ
 identityRecord n = tableauRecord (identityTableau n)

@@ -4,9 +4,9 @@ ghost use mathlib.Core.Path.{_≡_};
 ghost use Prim.Native.Nat.{max};
 ghost use lib.ListN.{length};
 ghost use Rattle.pauli.specs.declared.refusal.Outcome.the-variants.{Done};
-ghost use Rattle.pauli.specs.Answers.{Written, written};
-ghost use Rattle.clifford.specs.Questions.{imageQuestions, setQuestions, identityAnswer, applyQuestions, applyAnswer, composeAnswer, extendQuestions, extendAnswer};
-ghost use Rattle.clifford.specs.Tableaux.{xImagePart, zImagePart, setXRecord, setZRecord, identityRecord, applyRecord, composeRecord, extendRecord};
+ghost use Rattle.pauli.specs.Answers.{FlagAnswered, Written, written};
+ghost use Rattle.clifford.specs.Questions.{tableauQuestions, imageQuestions, setQuestions, identityAnswer, applyQuestions, applyAnswer, composeAnswer, extendQuestions, extendAnswer};
+ghost use Rattle.clifford.specs.Tableaux.{recordValid, xImagePart, zImagePart, setXRecord, setZRecord, identityRecord, applyRecord, composeRecord, extendRecord};
 ghost use Rattle.clifford.specs.Writing.{Applies, Identifies, ExtendsTo, ComposesTo};
 use crate::composing::write_composed;
 use crate::composing::write_extended;
@@ -20,8 +20,10 @@ use crate::questions::check_width;
 use crate::sending::send;
 use crate::setting::check_inside;
 use crate::setting::set_row;
+use crate::validity::valid_rows;
 use pauli::questions::check_room;
 use pauli::questions::check_string;
+use pauli::refusal::Flag;
 use pauli::refusal::Outcome;
 
 fn larger(a: usize, b: usize) -> usize
@@ -255,4 +257,17 @@ pub fn extended_to(t: &[u8], n: usize, dst: &mut [u8]) -> Outcome
         extend_into(t, n, dst);
     }
     answer
+}
+
+// ---- is_valid
+
+// Whether the tableau is valid.
+pub fn is_valid(t: &[u8]) -> Flag
+    ensures { λ r. ⌜ FlagAnswered (tableauQuestions (now (t .entry))) (recordValid (now (t .entry))) r ⌝ }
+{
+    let answer = check_tableau(t);
+    match answer {
+        Outcome::Done => if valid_rows(t) { Flag::Yes } else { Flag::No },
+        Outcome::Refused(why) => Flag::NoFlag(why),
+    }
 }

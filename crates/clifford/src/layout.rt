@@ -1,9 +1,9 @@
 // Tableau records: where their rows are, and how one row is read and written. Only here does code know the bytes of a row.
 ghost use mathlib.Core.Path.{_≡_};
 ghost use Prim.Native.Nat.{_≤_};
-ghost use Rattle.pauli.specs.Layout.{letterByte};
+ghost use Rattle.pauli.specs.Layout.{phaseOf, letterByte};
 ghost use Rattle.clifford.specs.Layout.{widthOf, recordLength, rowOffset, rowOf, rowPart, tableauOf};
-ghost use Rattle.clifford.specs.Rows.{Sized, RowIndex, OwnRow, WorkOnRow, Finished, rowQubit, rowLetter, rowTimes, rowWritten, lettersIn, stringIn};
+ghost use Rattle.clifford.specs.Rows.{Sized, RowIndex, OwnRow, WorkOnRow, Finished, rowQubit, rowLetter, rowTimes, rowWritten, rowLetters, lettersIn, stringIn};
 use pauli::rows::copy;
 use pauli::rows::multiply_row;
 
@@ -47,6 +47,22 @@ pub(crate) fn row(t: &[u8], r: usize) -> &[u8]
     let n = width(t);
     let at = row_offset(n, r);
     &t[at..at + (n + 1)]
+}
+
+// The phase of row r, and its letters.
+pub(crate) fn row_phase(t: &[u8], r: usize) -> u8
+    requires { ⌜ OwnRow (now t) r ⌝ }
+    ensures { λ p. ⌜ phaseOf p ≡ rowOf (tableauOf (now (t .entry))) r .phase ⌝ }
+{
+    row(t, r)[0]
+}
+
+pub(crate) fn row_letters(t: &[u8], r: usize) -> &[u8]
+    requires { ⌜ OwnRow (now t) r ⌝ }
+    ensures { λ l. ⌜ now l ≡ rowLetters (now (t .entry)) r ⌝ }
+{
+    let whole = row(t, r);
+    &whole[1..]
 }
 
 // A work row, multiplied by row r of the record.

@@ -7,3 +7,4 @@ mod layout;
 pub mod questions;
 mod sending;
 mod setting;
+mod validity;
