@@ -45,11 +45,11 @@ use Rattle.clifford.proofs.TableauRecords.{row-x, row-z, row-room, row-
 abbrev pub outside : ℕ → List ℕ → ℕ → Bool
 outside w s q = leb w q && hasLetter (stringOf s) q
 
-letter-of : (s : List ℕ) (q : ℕ) → q < 128 → stringOf s .letters q ≡ letterOf (getD s (suc q) 0)
+pub letter-of : (s : List ℕ) (q : ℕ) → q < 128 → stringOf s .letters q ≡ letterOf (getD s (suc q) 0)
 unfolding stringOf qubits
 letter-of s q h = decode-letter 128 s q h
 
-byte-letter : (n : ℕ) → (n ≡ 0 → ⊥) → notI (letterOf n) ≡ true
+pub byte-letter : (n : ℕ) → (n ≡ 0 → ⊥) → notI (letterOf n) ≡ true
 unfolding notI letterOf
 byte-letter zero h = absurd (h refl)
 byte-letter (suc zero) h = refl

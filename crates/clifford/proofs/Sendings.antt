@@ -22,17 +22,17 @@ use Rattle.clifford.proofs.TableauRecords.{proper-of, width-of}
 use Rattle.clifford.proofs.WorkRows.{decoded-times, times-formed, length-times}
 
 -- ---- a cleared row
-length-cleared : {e : List ℕ} {n : ℕ} (p : ℕ) → 0 < n → e ≡ clearedRow n p → length e ≡ n
+pub length-cleared : {e : List ℕ} {n : ℕ} (p : ℕ) → 0 < n → e ≡ clearedRow n p → length e ≡ n
 unfolding clearedRow
 length-cleared {e} {n} p h k = ap length k ∙ length-encode (n - 1) _ ∙ omega arith
 
-cleared-formed : {e : List ℕ} {n : ℕ} (p : ℕ) → 0 < n → e ≡ clearedRow n p → WellFormed (lettersIn e) e
+pub cleared-formed : {e : List ℕ} {n : ℕ} (p : ℕ) → 0 < n → e ≡ clearedRow n p → WellFormed (lettersIn e) e
 unfolding clearedRow
 cleared-formed {e} {n} p h k =
     let same : n - 1 ≡ lettersIn e = ap (λ (j : ℕ). j - 1) (sym (length-cleared p h k)) in
     subst (λ (w : ℕ). WellFormed w e) same (subst (WellFormed (n - 1)) (sym k) (encode-formed (n - 1) _))
 
-decoded-clear : (e : List ℕ) (n p : ℕ) → e ≡ clearedRow n p → decodeString (n - 1) e ≡ scale (phaseOf p) identityString
+pub decoded-clear : (e : List ℕ) (n p : ℕ) → e ≡ clearedRow n p → decodeString (n - 1) e ≡ scale (phaseOf p) identityString
 unfolding clearedRow
 decoded-clear e n p k =
     ap (decodeString (n - 1)) k

@@ -11,7 +11,7 @@ use Rattle.pauli.specs.Places.{firstPlace}
 use Rattle.pauli.specs.Layout.{stringLength, stringOf}
 use Rattle.pauli.specs.Questions.{ask, _andThen_, bytesQuestion, stringQuestions, roomQuestion}
 use Rattle.clifford.specs.Layout.{widthOf, recordLength}
-use Rattle.clifford.specs.Images.{hasLetter}
+use Rattle.clifford.specs.Images.{hasLetter, spanTo}
 
 -- "Is the width at most 128? 1"
 unfoldable pub widthQuestion : ℕ → Outcome
@@ -70,3 +70,6 @@ extendQuestions t n = tableauQuestions t andThen widthQuestion n
 
 unfoldable pub extendAnswer : List ℕ → ℕ → ℕ → Outcome
 extendAnswer t n room = extendQuestions t n andThen roomQuestion (recordLength (max (widthOf t) n)) room
+
+unfoldable pub pauliAnswer : List ℕ → ℕ → Outcome
+pauliAnswer s room = stringQuestions s andThen roomQuestion (recordLength (spanTo qubits (stringOf s))) room

@@ -5,10 +5,11 @@ use mathlib.Core.Bool.{cond}
 use mathlib.Core.List.{List, _++_}
 use lib.Dec.{ltb, eqb}
 use lib.ListN.{length, drop}
-use Rattle.pauli_group.specs.Letter.{Letter, X, Z}
+use Rattle.pauli_group.specs.Phase.{sign}
+use Rattle.pauli_group.specs.Letter.{Letter, X, Z, anticommute}
 use Rattle.pauli_group.specs.PauliString.{PauliString, mul, scale, identityString}
 use Rattle.clifford_group.specs.Tableau.{Tableau}
-use Rattle.pauli.specs.Layout.{phaseOf, encodeString, decodeString, WellFormed}
+use Rattle.pauli.specs.Layout.{phaseByte, phaseOf, letterOf, encodeString, decodeString, WellFormed}
 use Rattle.clifford.specs.Layout.{rowLength, encodeRow, rowPart, widthOf, FormedTableau}
 
 -- r is the size or offset n in a record, at most 33025
@@ -53,6 +54,10 @@ withRow t r s = record {
   xImage = λ q. cond (eqb q r) s (t .xImage q);
   zImage = λ q. cond (eqb (t .width + q) r) s (t .zImage q);
 }
+
+-- the sign byte by which two letters change when they change places
+unfoldable pub signByte : ℕ → ℕ → ℕ
+signByte a l = phaseByte (sign (anticommute (letterOf a) (letterOf l)))
 
 -- ---- what they may count on
 

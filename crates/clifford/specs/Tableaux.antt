@@ -6,7 +6,7 @@ use Rattle.clifford_group.specs.Tableau.{identityTableau, widen, apply, compose
 use Rattle.pauli.specs.Layout.{stringOf, stringRecord}
 use Rattle.clifford.specs.Layout.{widthOf, rowPart, tableauOf, tableauRecord}
 use Rattle.clifford.specs.Answers.{partAnswer}
-use Rattle.clifford.specs.Images.{withXImage, withZImage}
+use Rattle.clifford.specs.Images.{withXImage, withZImage, pauliTableau}
 use Rattle.clifford.specs.Questions.{imageQuestions}
 
 unfoldable pub recordValid : List ℕ → Bool
@@ -37,3 +37,6 @@ setXRecord t slot s = tableauRecord (withXImage (tableauOf t) slot (stringOf s))
 
 unfoldable pub setZRecord : List ℕ → ℕ → List ℕ → List ℕ
 setZRecord t slot s = tableauRecord (withZImage (tableauOf t) slot (stringOf s))
+
+unfoldable pub pauliRecord : List ℕ → List ℕ
+pauliRecord s = tableauRecord (pauliTableau (stringOf s))

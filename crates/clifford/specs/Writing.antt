@@ -6,6 +6,7 @@ use lib.ListN.{length}
 use Rattle.pauli_group.specs.PauliString.{Within}
 use Rattle.pauli.specs.Layout.{stringLength, stringOf, WellFormed}
 use Rattle.clifford.specs.Layout.{rowLength, recordLength, widthOf, FormedTableau}
+use Rattle.clifford.specs.Images.{spanTo}
 use Rattle.clifford.specs.Rows.{Sends, lettersIn}
 
 -- a tableau and a string, and room for a string
@@ -96,3 +97,34 @@ pub record SetsRow (t : List ℕ) (r : ℕ) (s : List ℕ) : Type 0 where
 pub record Sets (t : List ℕ) (q : ℕ) (s : List ℕ) : Type 0 where
   pub sets : Setting t s
   pub slot : q < widthOf t
+
+-- ---- the tableau of a Pauli string
+
+-- r is the width of it
+pub record Span (s : List ℕ) (r : ℕ) : Type 0 where
+  pub is : r ≡ spanTo 128 (stringOf s)
+  pub small : r ≤ 128
+
+-- the byte of X or of Z
+pub record IsGenerator (l : ℕ) : Type 0 where
+  pub some : 0 < l
+  pub small : l < 3
+
+pub record SignsTo (s d : List ℕ) : Type 0 where
+  pub string : WellFormed 128 s
+  pub room : recordLength (spanTo 128 (stringOf s)) ≤ length d
+
+pub record Signs (s : List ℕ) (w : ℕ) (d : List ℕ) : Type 0 where
+  pub string : WellFormed 128 s
+  pub wide : Span s w
+  pub room : recordLength w ≤ length d
+
+pub record SignsRow (s : List ℕ) (w r : ℕ) (out : List ℕ) : Type 0 where
+  pub string : WellFormed 128 s
+  pub wide : Span s w
+  pub own : r < 2 * w
+  pub room : rowLength w ≤ length out
+
+pub record SignsBy (s : List ℕ) (w r : ℕ) (k out : List ℕ) : Type 0 where
+  pub row : SignsRow s w r out
+  pub work : length k ≡ w + 1

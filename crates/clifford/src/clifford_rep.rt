@@ -5,9 +5,9 @@ ghost use Prim.Native.Nat.{max};
 ghost use lib.ListN.{length};
 ghost use Rattle.pauli.specs.declared.refusal.Outcome.the-variants.{Done};
 ghost use Rattle.pauli.specs.Answers.{FlagAnswered, Written, written};
-ghost use Rattle.clifford.specs.Questions.{tableauQuestions, imageQuestions, setQuestions, identityAnswer, applyQuestions, applyAnswer, composeAnswer, extendQuestions, extendAnswer};
-ghost use Rattle.clifford.specs.Tableaux.{recordValid, xImagePart, zImagePart, setXRecord, setZRecord, identityRecord, applyRecord, composeRecord, extendRecord};
-ghost use Rattle.clifford.specs.Writing.{Applies, Identifies, ExtendsTo, ComposesTo};
+ghost use Rattle.clifford.specs.Questions.{tableauQuestions, imageQuestions, setQuestions, identityAnswer, applyQuestions, applyAnswer, composeAnswer, extendQuestions, extendAnswer, pauliAnswer};
+ghost use Rattle.clifford.specs.Tableaux.{recordValid, xImagePart, zImagePart, setXRecord, setZRecord, identityRecord, applyRecord, composeRecord, extendRecord, pauliRecord};
+ghost use Rattle.clifford.specs.Writing.{Applies, Identifies, ExtendsTo, ComposesTo, SignsTo};
 use crate::composing::write_composed;
 use crate::composing::write_extended;
 use crate::layout::record_length;
@@ -20,6 +20,8 @@ use crate::questions::check_width;
 use crate::sending::send;
 use crate::setting::check_inside;
 use crate::setting::set_row;
+use crate::signing::span;
+use crate::signing::write_signs;
 use crate::validity::valid_rows;
 use pauli::questions::check_room;
 use pauli::questions::check_string;
@@ -270,4 +272,34 @@ pub fn is_valid(t: &[u8]) -> Flag
         Outcome::Done => if valid_rows(t) { Flag::Yes } else { Flag::No },
         Outcome::Refused(why) => Flag::NoFlag(why),
     }
+}
+
+// ---- the tableau of a Pauli string
+
+fn pauli_answer(s: &[u8], room: usize) -> Outcome
+    ensures { λ r. ⌜ r ≡ pauliAnswer (now (s .entry)) room ⌝ }
+{
+    let first = check_string(s);
+    if let Outcome::Done = first {
+        return check_room(record_length(span(s)), room);
+    }
+    first
+}
+
+fn write_pauli(s: &[u8], dst: &mut [u8])
+    requires { ⌜ SignsTo (now s) (now dst) ⌝ }
+    ensures { λ _. ⌜ now (dst .exit) ≡ written Done (pauliRecord (now (s .entry))) (now (dst .entry)) ⌝ }
+{
+    write_signs(s, span(s), dst);
+}
+
+// The string as a tableau, of width 1 where it has no letters.
+pub fn from_pauli_string(s: &[u8], dst: &mut [u8]) -> Outcome
+    ensures { λ r. ⌜ Written (pauliAnswer (now (s .entry)) (length (now (dst .entry)))) (pauliRecord (now (s .entry))) (now (dst .entry)) (now (dst .exit)) r ⌝ }
+{
+    let answer = pauli_answer(s, dst.len());
+    if let Outcome::Done = answer {
+        write_pauli(s, dst);
+    }
+    answer
 }

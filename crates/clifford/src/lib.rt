@@ -7,4 +7,5 @@ mod layout;
 pub mod questions;
 mod sending;
 mod setting;
+mod signing;
 mod validity;

@@ -27,7 +27,7 @@ pub(crate) fn clear_row(work: &mut [u8], phase: u8)
 }
 
 // A work row multiplied by one letter, on qubit q.
-fn multiply_letter(work: &mut [u8], q: usize, letter: u8)
+pub(crate) fn multiply_letter(work: &mut [u8], q: usize, letter: u8)
     requires { ⌜ WorkPlace (now work) q ⌝ }
     ensures { λ _. ⌜ now (work .exit) ≡ rowTimes (now (work .entry)) (single (letterOf letter) q) ⌝ }
 {
