@@ -1,7 +1,7 @@
 //! Gates by number, and gate lists.
 
 use super::Book;
-use super::inputs::Random;
+use super::inputs::{Random, one_qubit_tableaux};
 use crate::clifford::Clifford;
 use crate::driver::line::Call;
 
@@ -10,6 +10,7 @@ pub fn fill(book: &mut Book) {
     by_number(book);
     one_qubit(book);
     two_qubits(book);
+    naming(book, &mut Random::new(5));
 }
 
 fn by_number(book: &mut Book) {
@@ -46,6 +47,17 @@ fn two_qubits(book: &mut Book) {
     }
     book.comment("The last qubit.");
     book.add_sized(&Call::new("on_qubits").n(&[28, 127, 0]), 1);
+}
+
+fn naming(book: &mut Book, random: &mut Random) {
+    book.comment("The gate of every record of width 1, and of some other widths, which have none.");
+    for record in one_qubit_tableaux() {
+        book.add(Call::new("from_clifford_rep").b1(&record));
+    }
+    for width in [0, 2, 3, 7] {
+        book.add(Call::new("from_clifford_rep").b1(&random.any_tableau(width)));
+        book.add(Call::new("from_clifford_rep").b1(&random.valid_tableau(width, width)));
+    }
 }
 
 /// A list whose chain holds these gates at these places; other records are left as they are.

@@ -57,6 +57,24 @@ impl Random {
         record
     }
 
+    /// A record of this width with any phases, and letters in runs: its line is short.
+    pub fn drawn_tableau(&mut self, width: usize) -> Vec<u8> {
+        let mut record = vec![width as u8];
+        for _ in 0..2 * width {
+            record.push(self.below(4) as u8);
+            let (from, to) = (self.below(width), self.below(width));
+            let (outside, inside) = (self.below(4) as u8, self.below(4) as u8);
+            record.extend((0..width).map(|qubit| {
+                if from <= qubit && qubit <= to {
+                    inside
+                } else {
+                    outside
+                }
+            }));
+        }
+        record
+    }
+
     /// A gate of the Rust on random qubits below the width, which is at least 1.
     pub fn gate(&mut self, width: usize) -> (Clifford, usize, usize) {
         let gates = if width == 1 {

@@ -19,6 +19,7 @@ pub fn fill(book: &mut Book) {
     from_strings(book, random);
     middle(book, random);
     wide(book, random);
+    widest(book, random);
 }
 
 fn identities(book: &mut Book) {
@@ -98,7 +99,6 @@ fn one_qubit(book: &mut Book) {
     book.comment("Every record of width 1.");
     for record in one_qubit_tableaux() {
         book.add(Call::new("is_valid").b1(&record));
-        book.add(Call::new("from_clifford_rep").b1(&record));
         book.add_sized(&Call::new("inverse").b1(&record), 1);
         book.add_sized(&Call::new("support_qubits").b1(&record), 1);
     }
@@ -112,7 +112,6 @@ fn one_qubit(book: &mut Book) {
 /// What is asked of one tableau.
 fn ask(book: &mut Book, record: &[u8], more: usize) {
     book.add(Call::new("is_valid").b1(record));
-    book.add(Call::new("from_clifford_rep").b1(record));
     for name in ["inverse", "support_qubits", "display"] {
         book.add_sized(&Call::new(name).b1(record), more);
     }
@@ -244,7 +243,6 @@ fn wide(book: &mut Book, random: &mut Random) {
     for byte in 0..4 {
         let record = plain(QUBITS, byte);
         book.add(Call::new("is_valid").b1(&record));
-        book.add(Call::new("from_clifford_rep").b1(&record));
         let full = random.full_string(byte);
         book.add_sized(&Call::new("apply").b1(&record).b2(&full), 2);
         book.add_sized(&Call::new("support_qubits").b1(&record), 1);
@@ -255,4 +253,28 @@ fn wide(book: &mut Book, random: &mut Random) {
     book.add_sized(&Call::new("inverse").b1(&plain(QUBITS, 0)), 0);
     book.add_sized(&Call::new("extended_to").b1(&plain(QUBITS, 3)).n(&[128]), 1);
     book.add_sized(&Call::new("identity").n(&[128]), 0);
+}
+
+/// What is asked of tableaux whose records are long: few runs of equal letters keep the lines short.
+fn widest(book: &mut Book, random: &mut Random) {
+    book.comment("Widths 127 and 128, valid and other tableaux.");
+    for width in [QUBITS - 1, QUBITS] {
+        let (valid, other) = (random.valid_tableau(width, 24), random.drawn_tableau(width));
+        let full = random.full_string((width % 4) as u8);
+        for record in [&valid, &random.damaged(&valid), &other] {
+            book.add(Call::new("is_valid").b1(record));
+            book.add_sized(&Call::new("support_qubits").b1(record), 1);
+            book.add_sized(&Call::new("apply").b1(record).b2(&full), 0);
+            book.add_sized(&Call::new("inverse").b1(record), 1);
+        }
+        book.add_sized(&Call::new("display").b1(&valid), 1);
+        book.add_sized(&Call::new("compose").b1(&valid).b2(&other), 2);
+        book.add_sized(&Call::new("compose").b1(&other).b2(&valid), 0);
+        book.add_sized(&Call::new("extended_to").b1(&valid).n(&[QUBITS as u64]), 0);
+        for slot in [0, width as u64 - 1, width as u64] {
+            set(book, &valid, slot, &random.full_string(2)[..]);
+            set(book, &other, slot, &string(1, &[(0, 3), (width - 1, 2)]));
+        }
+    }
+    book.add_sized(&Call::new("identity").n(&[127]), 1);
 }

@@ -1,0 +1,146 @@
+// Replays vectors from standard input on the functions of `clifford::clifford_rep`. From `run` on the
+// program is that of `replay_sample`.
+use clifford::clifford_rep;
+use pauli::refusal;
+use vectors::Case;
+use vectors::Expected;
+use vectors::Outcome;
+use vectors::Reply;
+use vectors::Tally;
+
+// The library's reply, as the reader has it.
+fn told(r: refusal::Reply) -> Reply {
+    Reply::Of(r.number, r.value)
+}
+
+fn done(r: refusal::Outcome) -> Reply {
+    told(refusal::outcome_reply(r))
+}
+
+// Whether the part is the row of the record that starts at this offset.
+fn is_row(t: &[u8], at: usize, part: &[u8]) -> bool {
+    if t.len() == 0 {
+        return false;
+    }
+    if part.len() != 1 + t[0] as usize {
+        return false;
+    }
+    if t.len() < at {
+        return false;
+    }
+    let rest = &t[at..];
+    if rest.len() < part.len() {
+        return false;
+    }
+    vectors::same(&rest[0..part.len()], part)
+}
+
+// The value is the offset of the part handed out, so the part is compared with what stands there.
+fn image(case: Case, t: &[u8], answer: refusal::Outcome, part: &[u8]) -> Reply {
+    let refusal::Outcome::Done = answer else {
+        return done(answer);
+    };
+    let Expected::Exactly(_, at) = case.expected else {
+        return Reply::Unknown;
+    };
+    if is_row(t, at as usize, part) {
+        return Reply::Of(0, at);
+    }
+    Reply::Unknown
+}
+
+fn call_image(line: &[u8], case: Case, t: &[u8]) -> Reply {
+    let slot = case.n1 as usize;
+    if vectors::is_named(line, b"x_image") {
+        return image(
+            case,
+            t,
+            clifford_rep::x_image_answer(t, slot),
+            clifford_rep::x_image(t, slot),
+        );
+    }
+    if vectors::is_named(line, b"z_image") {
+        return image(
+            case,
+            t,
+            clifford_rep::z_image_answer(t, slot),
+            clifford_rep::z_image(t, slot),
+        );
+    }
+    Reply::Unknown
+}
+
+// The functions of one tableau.
+fn call_one(line: &[u8], case: Case, t: &[u8], d: &mut [u8]) -> Reply {
+    if vectors::is_named(line, b"is_valid") {
+        return told(refusal::flag_reply(clifford_rep::is_valid(t)));
+    }
+    if vectors::is_named(line, b"extended_to") {
+        return done(clifford_rep::extended_to(t, case.n1 as usize, d));
+    }
+    call_image(line, case, t)
+}
+
+// Those of a string, or of a width.
+fn call_other(line: &[u8], case: Case, a: &[u8], d: &mut [u8]) -> Reply {
+    if vectors::is_named(line, b"identity") {
+        return done(clifford_rep::identity(case.n1 as usize, d));
+    }
+    if vectors::is_named(line, b"from_pauli_string") {
+        return done(clifford_rep::from_pauli_string(a, d));
+    }
+    if vectors::is_named(line, b"set_x_image") {
+        return done(clifford_rep::set_x_image(d, case.n1 as usize, a));
+    }
+    if vectors::is_named(line, b"set_z_image") {
+        return done(clifford_rep::set_z_image(d, case.n1 as usize, a));
+    }
+    call_one(line, case, a, d)
+}
+
+// Calls the function that the line names.
+fn call(line: &[u8], case: Case, a: &[u8], b: &[u8], d: &mut [u8]) -> Reply {
+    if vectors::is_named(line, b"compose") {
+        return done(clifford_rep::compose(a, b, d));
+    }
+    if vectors::is_named(line, b"apply") {
+        return done(clifford_rep::apply(a, b, d));
+    }
+    call_other(line, case, a, d)
+}
+
+// Runs one line, with room for its bytes.
+fn run_in(line: &[u8], a: &mut [u8], b: &mut [u8], d: &mut [u8], e: &mut [u8]) -> Outcome {
+    let case = vectors::read_case(line, a, b, d, e);
+    let a_len = case.a_len;
+    let b_len = case.b_len;
+    let d_len = case.d_len;
+    let e_len = case.e_len;
+    let reply = call(line, case, &a[0..a_len], &b[0..b_len], &mut d[0..d_len]);
+    vectors::compared(case, reply, &d[0..d_len], &e[0..e_len])
+}
+
+fn run(line: &[u8]) -> Outcome {
+    let mut a = vectors::field_room();
+    let mut b = vectors::field_room();
+    let mut d = vectors::field_room();
+    let mut e = vectors::field_room();
+    run_in(line, &mut a, &mut b, &mut d, &mut e)
+}
+
+fn replay(text: &[u8]) -> Tally {
+    let mut tally = Tally::new();
+    let mut at = 0;
+    while at < text.len() {
+        tally = tally.with(run(vectors::line_at(text, at)));
+        at = vectors::next_line(text, at);
+    }
+    tally
+}
+
+fn main() {
+    let mut text = vectors::text_room();
+    let n = io::read_full(0, &mut text);
+    let tally = replay(&text[..n]);
+    tally.finish(n == text.len());
+}
