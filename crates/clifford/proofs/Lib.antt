@@ -10,3 +10,4 @@ pub mod TableauImages
 pub mod ImageSetting
 pub mod ValidRows
 pub mod PauliTableaux
+pub mod Supports

@@ -23,7 +23,7 @@ use Rattle.pauli.proofs.Places.{first-is, first-before, from, from-is}
 use Rattle.clifford.specs.Layout.{recordLength, rowLength, tableauRecord, widthOf, tableauOf, FormedTableau}
 use Rattle.clifford.specs.Rows.{Sized}
 use Rattle.clifford.specs.Questions.{widthQuestion, lengthQuestion, tableauQuestions, slotQuestion}
-use Rattle.clifford.proofs.TableauRecords.{record-small, record-there, record-formed}
+use Rattle.clifford.proofs.TableauRecords.{record-small, record-there, record-formed, proper-of}
 
 -- ---- width, length, slot
 pub width-wide : {n : ℕ} → 128 < n → Refused Width ≡ widthQuestion n
@@ -197,3 +197,6 @@ tableaux-admitted t p = formed-good (tableauRecord t) (record-formed t (p .narro
 
 pub admitted-tableaux : (b : List ℕ) → tableauQuestions b ≡ Done → b ≡ tableauRecord (tableauOf b)
 admitted-tableaux b e = sym (record-there (tableau-formed b e))
+
+pub admitted-proper : (b : List ℕ) → tableauQuestions b ≡ Done → Proper (tableauOf b)
+admitted-proper b e = proper-of (tableau-formed b e)

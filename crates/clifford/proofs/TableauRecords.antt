@@ -145,6 +145,10 @@ pub record-there : {b : List ℕ} → FormedTableau b → tableauRecord (tableau
 record-there {b} f = there b f
 
 -- ---- which tableaux and which bytes
+pub record-at-most : (t : Tableau) → Proper t → length (tableauRecord t) ≤ 33025
+unfolding qubits
+record-at-most t p = omega (arith, length-record t, record-small (t .width) (p .narrow))
+
 pub proper-of : {b : List ℕ} → FormedTableau b → Proper (tableauOf b)
 unfolding tableauOf qubits
 proper-of {b} f = record {

@@ -114,11 +114,11 @@ module _ {b : List ℕ} {r p : ℕ} (o : OwnRows b r p) where
 pub ruleset row-commutation = (commute-is, first-row, second-row, needs)
 
 -- ---- tests that were put the other way round
-not-true : (b : Bool) → not b ≡ true → b ≡ false
+pub not-true : (b : Bool) → not b ≡ true → b ≡ false
 not-true true e = sym e
 not-true false e = refl
 
-not-false : (b : Bool) → not b ≡ false → b ≡ true
+pub not-false : (b : Bool) → not b ≡ false → b ≡ true
 not-false true e = refl
 not-false false e = sym e
 
@@ -218,7 +218,7 @@ pub all-start : (n : ℕ) (f : ℕ → Bool) → AllBefore n f 0
 unfolding allTo
 all-start n f = record { within = omega arith; all = refl }
 
-all-step : {n : ℕ} {f : ℕ → Bool} {i : ℕ} → AllBefore n f i → i < n → f i ≡ true → AllBefore n f (i + 1)
+pub all-step : {n : ℕ} {f : ℕ → Bool} {i : ℕ} → AllBefore n f i → i < n → f i ≡ true → AllBefore n f (i + 1)
 all-step {n} {f} {i} m h e = record { within = omega arith; all = ap (λ (j : ℕ). allTo j f) (add-one i) ∙ more }
   where
     more : allTo (suc i) f ≡ true
@@ -229,7 +229,7 @@ and-false : (b : Bool) → (b && false) ≡ false
 and-false true = refl
 and-false false = refl
 
-all-fail : (n : ℕ) (f : ℕ → Bool) (i : ℕ) → i < n → f i ≡ false → allTo n f ≡ false
+pub all-fail : (n : ℕ) (f : ℕ → Bool) (i : ℕ) → i < n → f i ≡ false → allTo n f ≡ false
 unfolding allTo
 all-fail zero f i h e = absurd (not-suc-le-zero h)
 all-fail (suc n) f i h e = elim (ℕ-discrete i n) [

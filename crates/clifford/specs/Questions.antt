@@ -10,7 +10,8 @@ use Rattle.pauli.specs.declared.refusal.Outcome.{Outcome}
 use Rattle.pauli.specs.Places.{firstPlace}
 use Rattle.pauli.specs.Layout.{stringLength, stringOf}
 use Rattle.pauli.specs.Questions.{ask, _andThen_, bytesQuestion, stringQuestions, roomQuestion}
-use Rattle.clifford.specs.Layout.{widthOf, recordLength}
+use Rattle.clifford.specs.Layout.{widthOf, tableauOf, recordLength}
+use Rattle.clifford.specs.Support.{supportQubits}
 use Rattle.clifford.specs.Images.{hasLetter, spanTo}
 
 -- "Is the width at most 128? 1"
@@ -73,3 +74,7 @@ extendAnswer t n room = extendQuestions t n andThen roomQuestion (recordLength (
 
 unfoldable pub pauliAnswer : List ℕ → ℕ → Outcome
 pauliAnswer s room = stringQuestions s andThen roomQuestion (recordLength (spanTo qubits (stringOf s))) room
+
+-- the room goes by the count
+unfoldable pub supportAnswer : List ℕ → ℕ → Outcome
+supportAnswer t room = tableauQuestions t andThen roomQuestion (length (supportQubits (tableauOf t))) room

@@ -6,6 +6,7 @@ use Rattle.clifford_group.specs.Tableau.{identityTableau, widen, apply, compose
 use Rattle.pauli.specs.Layout.{stringOf, stringRecord}
 use Rattle.clifford.specs.Layout.{widthOf, rowPart, tableauOf, tableauRecord}
 use Rattle.clifford.specs.Answers.{partAnswer}
+use Rattle.clifford.specs.Support.{supportQubits}
 use Rattle.clifford.specs.Images.{withXImage, withZImage, pauliTableau}
 use Rattle.clifford.specs.Questions.{imageQuestions}
 
@@ -40,3 +41,6 @@ setZRecord t slot s = tableauRecord (withZImage (tableauOf t) slot (stringOf s))
 
 unfoldable pub pauliRecord : List ℕ → List ℕ
 pauliRecord s = tableauRecord (pauliTableau (stringOf s))
+
+unfoldable pub supportBytes : List ℕ → List ℕ
+supportBytes t = supportQubits (tableauOf t)

@@ -1,13 +1,15 @@
 -- What a function that writes may count on once the questions have let it by.
 use Prim.Native.Nat.{ℕ, _+_, _*_, _≤_, _<_, max}
 use mathlib.Core.Path.{_≡_}
+use mathlib.Core.Bool.{true, cond}
 use mathlib.Core.List.{List}
-use lib.ListN.{length}
+use lib.ListN.{length, set}
 use Rattle.pauli_group.specs.PauliString.{Within}
 use Rattle.pauli.specs.Layout.{stringLength, stringOf, WellFormed}
-use Rattle.clifford.specs.Layout.{rowLength, recordLength, widthOf, FormedTableau}
+use Rattle.clifford.specs.Layout.{rowLength, recordLength, widthOf, tableauOf, FormedTableau}
 use Rattle.clifford.specs.Images.{spanTo}
-use Rattle.clifford.specs.Rows.{Sends, lettersIn}
+use Rattle.clifford.specs.Support.{inSupport, supportQubits}
+use Rattle.clifford.specs.Rows.{OwnRow, OwnQubit, Sends, lettersIn}
 
 -- a tableau and a string, and room for a string
 pub record Applies (t s d : List ℕ) : Type 0 where
@@ -128,3 +130,36 @@ pub record SignsRow (s : List ℕ) (w r : ℕ) (out : List ℕ) : Type 0 where
 pub record SignsBy (s : List ℕ) (w r : ℕ) (k out : List ℕ) : Type 0 where
   pub row : SignsRow s w r out
   pub work : length k ≡ w + 1
+
+-- ---- the support
+
+-- a row of t, and X or Z
+pub record SingleRow (t : List ℕ) (r l : ℕ) : Type 0 where
+  pub row : OwnRow t r
+  pub letter : IsGenerator l
+
+-- r is the number of qubits of t's support
+pub record SupportCount (t : List ℕ) (r : ℕ) : Type 0 where
+  pub is : r ≡ length (supportQubits (tableauOf t))
+  pub small : r ≤ 128
+
+pub record SupportFits (t d : List ℕ) : Type 0 where
+  pub tableau : FormedTableau t
+  pub room : length (supportQubits (tableauOf t)) ≤ length d
+
+-- 1 for a qubit of the support, else 0
+pub record SupportBit (t : List ℕ) (k r : ℕ) : Type 0 where
+  pub is : r ≡ cond (inSupport (tableauOf t) k) 1 0
+  pub small : r ≤ 1
+
+-- the qubit k of t, and a place c of d for it where it is in the support
+pub record QubitFits (t : List ℕ) (k c : ℕ) (d : List ℕ) : Type 0 where
+  pub own : OwnQubit t k
+  pub room : inSupport (tableauOf t) k ≡ true → c < length d
+  pub small : c ≤ 128
+
+-- it is written there, and r is the next place
+pub record QubitWritten (t : List ℕ) (k c : ℕ) (d e : List ℕ) (r : ℕ) : Type 0 where
+  pub bytes : e ≡ cond (inSupport (tableauOf t) k) (set d c k) d
+  pub next : r ≡ cond (inSupport (tableauOf t) k) (c + 1) c
+  pub same : length e ≡ length d

@@ -5,9 +5,11 @@ ghost use Prim.Native.Nat.{max};
 ghost use lib.ListN.{length};
 ghost use Rattle.pauli.specs.declared.refusal.Outcome.the-variants.{Done};
 ghost use Rattle.pauli.specs.Answers.{FlagAnswered, Written, written};
-ghost use Rattle.clifford.specs.Questions.{tableauQuestions, imageQuestions, setQuestions, identityAnswer, applyQuestions, applyAnswer, composeAnswer, extendQuestions, extendAnswer, pauliAnswer};
-ghost use Rattle.clifford.specs.Tableaux.{recordValid, xImagePart, zImagePart, setXRecord, setZRecord, identityRecord, applyRecord, composeRecord, extendRecord, pauliRecord};
+ghost use Rattle.clifford.specs.Answers.{CountWritten};
+ghost use Rattle.clifford.specs.Questions.{tableauQuestions, imageQuestions, setQuestions, identityAnswer, applyQuestions, applyAnswer, composeAnswer, extendQuestions, extendAnswer, pauliAnswer, supportAnswer};
+ghost use Rattle.clifford.specs.Tableaux.{recordValid, xImagePart, zImagePart, setXRecord, setZRecord, identityRecord, applyRecord, composeRecord, extendRecord, pauliRecord, supportBytes};
 ghost use Rattle.clifford.specs.Writing.{Applies, Identifies, ExtendsTo, ComposesTo, SignsTo};
+use crate::answer::Count;
 use crate::composing::write_composed;
 use crate::composing::write_extended;
 use crate::layout::record_length;
@@ -22,6 +24,8 @@ use crate::setting::check_inside;
 use crate::setting::set_row;
 use crate::signing::span;
 use crate::signing::write_signs;
+use crate::support::support_count;
+use crate::support::write_support;
 use crate::validity::valid_rows;
 use pauli::questions::check_room;
 use pauli::questions::check_string;
@@ -302,4 +306,30 @@ pub fn from_pauli_string(s: &[u8], dst: &mut [u8]) -> Outcome
         write_pauli(s, dst);
     }
     answer
+}
+
+// ---- support_qubits
+
+fn support_answer(t: &[u8], room: usize) -> Outcome
+    ensures { λ r. ⌜ r ≡ supportAnswer (now (t .entry)) room ⌝ }
+{
+    let first = check_tableau(t);
+    if let Outcome::Done = first {
+        return check_room(support_count(t), room);
+    }
+    first
+}
+
+// The qubits of the support, rising, and their number.
+pub fn support_qubits(t: &[u8], dst: &mut [u8]) -> Count
+    ensures { λ r. ⌜ CountWritten (supportAnswer (now (t .entry)) (length (now (dst .entry)))) (length (supportBytes (now (t .entry)))) (supportBytes (now (t .entry))) (now (dst .entry)) (now (dst .exit)) r ⌝ }
+{
+    let answer = support_answer(t, dst.len());
+    match answer {
+        Outcome::Done => {
+            write_support(t, dst);
+            Count::Counted(support_count(t))
+        }
+        Outcome::Refused(why) => Count::NoCount(why),
+    }
 }

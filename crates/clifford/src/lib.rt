@@ -8,4 +8,5 @@ pub mod questions;
 mod sending;
 mod setting;
 mod signing;
+mod support;
 mod validity;
