@@ -7,3 +7,6 @@ pub mod Sendings
 pub mod RecordWriting
 pub mod TableauAnswers
 pub mod TableauImages
+pub mod RecordLaws
+pub mod WayBacks
+pub mod WayBackSteps

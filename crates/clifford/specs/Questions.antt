@@ -70,3 +70,6 @@ extendQuestions t n = tableauQuestions t andThen widthQuestion n
 
 unfoldable pub extendAnswer : List ℕ → ℕ → ℕ → Outcome
 extendAnswer t n room = extendQuestions t n andThen roomQuestion (recordLength (max (widthOf t) n)) room
+
+unfoldable pub inverseAnswer : List ℕ → ℕ → Outcome
+inverseAnswer t room = tableauQuestions t andThen roomQuestion (recordLength (widthOf t)) room

@@ -1,7 +1,7 @@
 -- What the public functions on tableau records give: the field's objects between decoding and encoding.
 use Prim.Native.Nat.{ℕ, _+_}
 use mathlib.Core.List.{List}
-use Rattle.clifford_group.specs.Tableau.{identityTableau, widen, apply, compose}
+use Rattle.clifford_group.specs.Tableau.{identityTableau, widen, apply, compose, inverse}
 use Rattle.pauli.specs.Layout.{stringOf, stringRecord}
 use Rattle.clifford.specs.Layout.{widthOf, rowPart, tableauOf, tableauRecord}
 use Rattle.clifford.specs.Answers.{partAnswer}
@@ -16,6 +16,9 @@ applyRecord t s = stringRecord (apply (tableauOf t) (stringOf s))
 
 unfoldable pub composeRecord : List ℕ → List ℕ → List ℕ
 composeRecord a b = tableauRecord (compose (tableauOf a) (tableauOf b))
+
+unfoldable pub inverseRecord : List ℕ → List ℕ
+inverseRecord t = tableauRecord (inverse (tableauOf t))
 
 -- "a smaller width gives a copy"
 unfoldable pub extendRecord : List ℕ → ℕ → List ℕ
