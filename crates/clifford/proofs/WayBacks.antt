@@ -112,6 +112,7 @@ steps-append r (c ∷ cs) ds = go (accepts r c) refl (steps-append (nextRecord r
   where
     rest : List (List ℕ)
     rest = stepsOf (recordAfter r (c ∷ cs)) ds
+
     go : (b : Bool) → accepts r c ≡ b → stepsOf (nextRecord r c) (cs ++ ds) ≡ stepsOf (nextRecord r c) cs ++ stepsOf (recordAfter (nextRecord r c) cs) ds
         → stepsOf r (c ∷ cs ++ ds) ≡ stepsOf r (c ∷ cs) ++ rest
     go true h e = steps-more r c (cs ++ ds) h ∙ ap (λ (l : List (List ℕ)). c .a ∷ l) (e ∙ later) ∙ sym (ap (λ (l : List (List ℕ)). l ++ rest) (steps-more r c cs h))
