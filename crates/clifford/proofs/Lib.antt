@@ -5,6 +5,7 @@ pub mod TableauAsking
 pub mod WorkRows
 pub mod Sendings
 pub mod RecordWriting
+pub mod InverseRows
 pub mod TableauAnswers
 pub mod TableauImages
 pub mod RecordLaws

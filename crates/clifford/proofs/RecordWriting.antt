@@ -49,7 +49,7 @@ length-before w f r =
     ap suc (length-joined (rowLength w) (λ i. encodeRow w (f i)) (λ i. length-row w (f i)) r)
     ∙ (let e : suc (r * rowLength w) ≡ 1 + r * rowLength w = omega arith in e)
 
-some-room : (w : ℕ) → 0 < recordLength w
+pub some-room : (w : ℕ) → 0 < recordLength w
 unfolding recordLength
 some-room w = omega arith
 
@@ -57,7 +57,7 @@ first-offset : (w : ℕ) → rowOffset w 0 ≡ 1
 unfolding rowOffset
 first-offset w = omega (arith, zero-mul (rowLength w))
 
-rows-none : (w : ℕ) (f : ℕ → PauliString) (d : List ℕ) → w ≤ 128 → recordLength w ≤ length d → RowsTo w f (set d 0 w) 0 (set d 0 w)
+pub rows-none : (w : ℕ) (f : ℕ → PauliString) (d : List ℕ) → w ≤ 128 → recordLength w ≤ length d → RowsTo w f (set d 0 w) 0 (set d 0 w)
 unfolding joined
 rows-none w f [] n h = absurd (empty (some-room w) h)
   where
@@ -123,7 +123,7 @@ all-rows : (w : ℕ) → rowOffset w (2 * w) ≡ recordLength w
 unfolding rowOffset recordLength
 all-rows w = refl
 
-rows-all : (t : Tableau) {w : ℕ} (d : List ℕ) {r : ℕ} {e : List ℕ} → t .width ≡ w → RowsTo w (rowOf t) (set d 0 w) r e → 2 * w ≤ r
+pub rows-all : (t : Tableau) {w : ℕ} (d : List ℕ) {r : ℕ} {e : List ℕ} → t .width ≡ w → RowsTo w (rowOf t) (set d 0 w) r e → 2 * w ≤ r
     → e ≡ written Done (tableauRecord t) d
 unfolding written tableauRecord
 rows-all t {w} d {r} {e} et m h =
@@ -156,32 +156,32 @@ row-made t f x z w r e h = elim (decLt r w) [
 ]
 
 -- ---- finished rows
-encoded-row : (w : ℕ) {k : List ℕ} (s : PauliString) → length k ≡ suc w → k ≡ encodeString w s → Within w s → stringIn k ≡ s
+pub encoded-row : (w : ℕ) {k : List ℕ} (s : PauliString) → length k ≡ suc w → k ≡ encodeString w s → Within w s → stringIn k ≡ s
 encoded-row w {k} s long e h =
     let same : lettersIn k ≡ w = omega arith in
     ap (λ (j : ℕ). decodeString j k) same ∙ ap (decodeString w) e ∙ decode-encode w s h
 
-encoded-formed : (w : ℕ) {k : List ℕ} (s : PauliString) → k ≡ encodeString w s → WellFormed (lettersIn k) k
+pub encoded-formed : (w : ℕ) {k : List ℕ} (s : PauliString) → k ≡ encodeString w s → WellFormed (lettersIn k) k
 encoded-formed w {k} s e =
     let long : length k ≡ suc w = ap length e ∙ length-encode w s in
     let same : w ≡ lettersIn k = omega arith in
     subst (λ (j : ℕ). WellFormed j k) same (subst (WellFormed w) (sym e) (encode-formed w s))
 
 -- a row of the string that a work row holds is written
-put-row : (w : ℕ) {k e : List ℕ} (out : List ℕ) (s : PauliString) → k ≡ encodeString w s → Within w s → e ≡ rowWritten (lettersIn k) (stringIn k) out → e ≡ rowWritten w s out
+pub put-row : (w : ℕ) {k e : List ℕ} (out : List ℕ) (s : PauliString) → k ≡ encodeString w s → Within w s → e ≡ rowWritten (lettersIn k) (stringIn k) out → e ≡ rowWritten w s out
 put-row w {k} out s ek h e =
     let long : length k ≡ suc w = ap length ek ∙ length-encode w s in
     let same : lettersIn k ≡ w = omega arith in
     e ∙ ap₂ (λ (j : ℕ) (u : PauliString). rowWritten j u out) same (encoded-row w s long ek h)
 
-put-room : (w : ℕ) {k out : List ℕ} (s : PauliString) → k ≡ encodeString w s → rowLength w ≤ length out → Finished k out
+pub put-room : (w : ℕ) {k out : List ℕ} (s : PauliString) → k ≡ encodeString w s → rowLength w ≤ length out → Finished k out
 put-room w {k} {out} s ek h =
     let long : length k ≡ suc w = ap length ek ∙ length-encode w s in
     let same : w ≡ lettersIn k = omega arith in
     record { row = encoded-formed w s ek; room = subst (λ (j : ℕ). rowLength j ≤ length out) same h }
 
 -- the first w + 1 of 129 zeros, lent as a work row
-zeros-long : (w : ℕ) → w ≤ 128 → length {A = ℕ} (take (w + 1 - 0) (drop 0 (replicate 129 0))) ≡ w + 1
+pub zeros-long : (w : ℕ) → w ≤ 128 → length {A = ℕ} (take (w + 1 - 0) (drop 0 (replicate 129 0))) ≡ w + 1
 zeros-long w h = length-take {A = ℕ} (w + 1 - 0) (replicate 129 0) ∙ omega arith
 
 -- ---- a widened tableau

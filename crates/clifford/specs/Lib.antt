@@ -3,6 +3,7 @@ pub mod Images
 pub mod Answers
 pub mod Questions
 pub mod Rows
+pub mod InverseRows
 pub mod Tableaux
 pub mod Writing
 pub mod WayBack

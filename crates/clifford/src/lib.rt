@@ -3,6 +3,7 @@
 pub mod answer;
 pub mod clifford_rep;
 mod composing;
+mod inverting;
 mod layout;
 pub mod questions;
 mod sending;

@@ -1,0 +1,295 @@
+-- The rows of an inverse: the bits and letters of its bodies, and the phases that turn these back.
+use mathlib.Core.Path.{_≡_, refl, sym, ap, ap₂, _∙_, subst}
+use mathlib.Core.Bool.{Bool, true, false, cond}
+use mathlib.Core.List.{List}
+use Prim.Native.Nat.{ℕ, zero, suc, _+_, _*_, _-_, _/_, _%_, _≤_, _<_}
+use native.Mathlib.Nat.{not-suc-le-zero}
+use native.Mathlib.Numerals.{add-one}
+use native.Mathlib.Omega.{arith}
+use native.Mathlib.Decide.{ℕ-discrete}
+use lib.Dec.{ltb}
+use lib.ListN.{length, getD, set, take, drop, replicate, length-set}
+use lib.Seq.{getD-set-same, getD-set-other}
+use mir.Syntax.{w8}
+use mir.Val.{Fits}
+use borrow.Author.Needs.{needs}
+use borrow.Author.Tests.{lt-ltb, le-ltb}
+use Rattle.pauli_group.specs.Phase.{PlusOne, conjugate}
+use Rattle.pauli_group.specs.Letter.{Letter, I, X, Z, Y}
+use Rattle.pauli_group.specs.PauliString.{PauliString}
+use Rattle.clifford_group.specs.Tableau.{Tableau, apply, hasX, hasZ, letterOf, transposed, inverseRow, inverse}
+use Rattle.clifford_group.proofs.Inverse.{within-transposed, width-inverse}
+use Rattle.pauli.specs.declared.refusal.Outcome.the-variants.{Done}
+use Rattle.pauli.specs.Answers.{written}
+use Rattle.pauli.specs.Layout.{phaseByte, phaseOf, letterByte, encodeString, decodeString, WellFormed}
+use Rattle.pauli.specs.Rows.{conjugateByte}
+use Rattle.pauli.proofs.Places.{from}
+use Rattle.pauli.proofs.Records.{phase-back, letter-there, length-encode, encode-phase, decode-letter, decode-within}
+use Rattle.clifford.specs.Layout.{rowLength, rowOffset, recordLength, rowOf, rowPart, widthOf, tableauOf, tableauRecord, FormedTableau}
+use Rattle.clifford.specs.Rows.{Sized, OwnRow, OwnLetter, Finished, Sends, rowQubit, rowWritten, lettersIn, stringIn}
+use Rattle.clifford.specs.InverseRows.{rowBit, bitRead, bitByte, bodyOf, turnedBack, RowBack, ReadsBit, ReadsLetter, WritesBody, TurnsBack, InvertsRow, InvertsBy, Inverts}
+use Rattle.clifford.proofs.TableauRows.{string-of-row}
+use Rattle.clifford.proofs.TableauRecords.{row-x, row-z, row-part, part-formed, width-of}
+use Rattle.clifford.proofs.WorkRows.{row-is}
+use Rattle.clifford.proofs.RecordWriting.{RowsTo, rows-none, rows-room, rows-start, rows-index, rows-length, rows-more, rows-all, some-room, qubit-below, encoded-row, encoded-formed, put-row, put-room, zeros-long}
+
+-- ---- one letter of a row
+pub letter-row : {b : List ℕ} {r q : ℕ} → OwnLetter b r q → OwnRow b r
+letter-row o = o .row
+
+pub letter-inside : {b p : List ℕ} {r q : ℕ} → OwnLetter b r q → p ≡ rowPart b r → q + 1 < length p
+unfolding rowLength
+letter-inside {b} {p} {r} {q} o e = omega (arith, o .qubit, ap length e, part-formed (o .row .tableau) r (o .row .own) .long)
+
+pub letter-read : {b p : List ℕ} {r q : ℕ} → OwnLetter b r q → p ≡ rowPart b r → getD p (q + 1) 0 ≡ letterByte (rowOf (tableauOf b) r .letters q)
+unfolding rowLength
+letter-read {b} {p} {r} {q} o e =
+    let f = part-formed (o .row .tableau) r (o .row .own) in
+    ap₂ (λ (l : List ℕ) (j : ℕ). getD l j 0) e (add-one q)
+    ∙ sym (letter-there (getD (rowPart b r) (suc q) 0) (f .small (suc q) (omega (arith, o .qubit, f .long))))
+    ∙ ap letterByte (sym (ap (λ (s : PauliString). s .letters q) (row-part b r (o .row .own) ∙ string-of-row (widthOf b) (rowPart b r)) ∙ decode-letter (widthOf b) (rowPart b r) q (o .qubit)))
+
+pub ruleset letter-reads = (letter-row, letter-inside, letter-read, needs)
+
+-- ---- the bit that a row of the inverse reads: the byte of a letter is its x bit and twice its z bit
+z-bit : (a : Letter) → letterByte a / 2 ≡ bitByte (hasZ a)
+unfolding letterByte bitByte hasZ
+z-bit I = refl
+z-bit X = refl
+z-bit Z = refl
+z-bit Y = refl
+
+x-bit : (a : Letter) → letterByte a % 2 ≡ bitByte (hasX a)
+unfolding letterByte bitByte hasX
+x-bit I = refl
+x-bit X = refl
+x-bit Z = refl
+x-bit Y = refl
+
+of-bits : (x z : Bool) → bitByte x + 2 * bitByte z ≡ letterByte (letterOf x z)
+unfolding letterByte bitByte letterOf
+of-bits false false = refl
+of-bits true false = refl
+of-bits false true = refl
+of-bits true true = refl
+
+bit-small : (b : Bool) → bitByte b ≤ 1
+unfolding bitByte
+bit-small false = omega arith
+bit-small true = omega arith
+
+pub bit-letter : {b : List ℕ} {w r s q : ℕ} → ReadsBit b w r s → q ≡ rowQubit w r → OwnLetter b s q
+bit-letter {b} {w} {r} o e = record {
+  row = record { tableau = o .row .tableau; own = omega (arith, o .row .wide, o .source) };
+  qubit = omega (arith, o .row .wide, qubit-below w r e (o .row .own));
+}
+
+module _ {b : List ℕ} {w r s q l : ℕ} (o : ReadsBit b w r s) (eq : q ≡ rowQubit w r) (el : l ≡ letterByte (rowOf (tableauOf b) s .letters q)) where
+  abbrev T : Tableau
+  T = tableauOf b
+
+  same-width : w ≡ T .width
+  same-width = o .row .wide ∙ sym (width-of b)
+
+  read-here : l ≡ letterByte (rowOf T s .letters (rowQubit (T .width) r))
+  read-here = el ∙ ap (λ (j : ℕ). letterByte (rowOf T s .letters j)) (eq ∙ ap (λ (j : ℕ). rowQubit j r) same-width)
+
+  pub bit-for-x : r < w → l / 2 ≡ bitByte (bitRead T r s)
+  unfolding bitRead rowBit
+  bit-for-x h =
+      let a : Letter = rowOf T s .letters (rowQubit (T .width) r) in
+      ap (λ (j : ℕ). j / 2) read-here ∙ z-bit a
+      ∙ sym (ap (λ (c : Bool). bitByte (cond c hasZ hasX a)) (lt-ltb r (T .width) (omega (arith, same-width))))
+
+  pub bit-for-z : w ≤ r → l % 2 ≡ bitByte (bitRead T r s)
+  unfolding bitRead rowBit
+  bit-for-z h =
+      let a : Letter = rowOf T s .letters (rowQubit (T .width) r) in
+      ap (λ (j : ℕ). j % 2) read-here ∙ x-bit a
+      ∙ sym (ap (λ (c : Bool). bitByte (cond c hasZ hasX a)) (le-ltb r (T .width) (omega (arith, same-width))))
+
+pub ruleset bit-reads = (bit-letter, bit-for-x, bit-for-z, needs)
+
+-- ---- one letter of a body
+pub letter-bit-z : {b : List ℕ} {w r c : ℕ} → ReadsLetter b w r c → ReadsBit b w r c
+letter-bit-z o = record { row = o .row; source = omega (arith, o .place) }
+
+pub letter-bit-x : {b : List ℕ} {w r c : ℕ} → ReadsLetter b w r c → ReadsBit b w r (w + c)
+letter-bit-x o = record { row = o .row; source = omega (arith, o .place) }
+
+pub twice-fits : (t : Tableau) (r s : ℕ) {z : ℕ} → z ≡ bitByte (bitRead t r s) → Fits w8 (2 * z)
+twice-fits t r s e = record { fits = omega (arith, bit-small (bitRead t r s)) }
+
+pub sum-fits : (t : Tableau) (r s p : ℕ) {x z : ℕ} → x ≡ bitByte (bitRead t r s) → z ≡ bitByte (bitRead t r p) → Fits w8 (x + 2 * z)
+sum-fits t r s p e k = record { fits = omega (arith, bit-small (bitRead t r s), bit-small (bitRead t r p)) }
+
+pub letter-made : {b : List ℕ} {w r c x z : ℕ} → ReadsLetter b w r c → x ≡ bitByte (bitRead (tableauOf b) r (w + c)) → z ≡ bitByte (bitRead (tableauOf b) r c)
+    → x + 2 * z ≡ letterByte (bodyOf (tableauOf b) r .letters c)
+unfolding bodyOf transposed bitRead
+letter-made {b} {w} {r} {c} {x} {z} o ex ez =
+    let t : Tableau = tableauOf b in
+    let same : w ≡ t .width = o .row .wide ∙ sym (width-of b) in
+    let bit : PauliString → Bool = λ s. rowBit (t .width) r (s .letters (rowQubit (t .width) r)) in
+    ap₂ (λ (i : ℕ) (j : ℕ). i + 2 * j) (ex ∙ ap (λ s. bitByte (bit s)) (ap (λ (j : ℕ). rowOf t (j + c)) same ∙ row-z t c))
+    (ez ∙ ap (λ s. bitByte (bit s)) (row-x t c (omega (arith, o .place))))
+    ∙ of-bits (bit (t .zImage c)) (bit (t .xImage c))
+    ∙ ap (λ (d : Bool). letterByte (cond d (letterOf (bit (t .zImage c)) (bit (t .xImage c))) I)) (sym (lt-ltb c (t .width) (omega (arith, o .place))))
+
+pub ruleset body-letters = (letter-bit-z, letter-bit-x, twice-fits, sum-fits, letter-made, needs)
+
+-- ---- the letters of a body before c stand in the work row d
+pub record BodyTo (b : List ℕ) (w r c : ℕ) (d : List ℕ) : Type 0 where
+  pub fits : WritesBody b w r d
+  pub within : c ≤ w
+  pub first : getD d 0 0 ≡ 0
+  pub letters : (k : ℕ) → k < c → getD d (suc k) 0 ≡ letterByte (bodyOf (tableauOf b) r .letters k)
+
+put-long : {b : List ℕ} {w r : ℕ} {d : List ℕ} (i v : ℕ) → WritesBody b w r d → WritesBody b w r (set d i v)
+put-long {d = d} i v o = record { row = o .row; long = length-set d i v ∙ o .long }
+
+pub body-some : {b : List ℕ} {w r : ℕ} {d : List ℕ} → WritesBody b w r d → 0 < length d
+body-some o = omega (arith, o .long)
+
+pub body-none : {b : List ℕ} {w r : ℕ} {d : List ℕ} → WritesBody b w r d → BodyTo b w r 0 (set d 0 0)
+body-none {d = d} o = record {
+  fits = put-long 0 0 o;
+  within = omega arith;
+  first = getD-set-same d 0 0 0 (body-some o);
+  letters = λ k l. absurd (not-suc-le-zero l);
+}
+
+pub body-place : {b : List ℕ} {w r c : ℕ} {d : List ℕ} → BodyTo b w r c d → c < w → c + 1 < length d
+body-place m h = omega (arith, m .fits .long)
+
+pub body-reads : {b : List ℕ} {w r c : ℕ} {d : List ℕ} → BodyTo b w r c d → c < w → ReadsLetter b w r c
+body-reads m h = record { row = m .fits .row; place = h }
+
+pub body-step : {b : List ℕ} {w r c : ℕ} {d : List ℕ} {l : ℕ} → BodyTo b w r c d → c < w → l ≡ letterByte (bodyOf (tableauOf b) r .letters c)
+    → BodyTo b w r (c + 1) (set d (c + 1) l)
+body-step {b} {w} {r} {c} {d} {l} m h e = record {
+  fits = put-long (c + 1) l (m .fits);
+  within = omega arith;
+  first = getD-set-other d (c + 1) 0 l 0 (omega arith) ∙ m .first;
+  letters = λ k i. elim (ℕ-discrete k c) [
+    | yes z ↦ (let j : suc k ≡ c + 1 = omega arith in ap (λ (j : ℕ). getD (set d (c + 1) l) j 0) j)
+        ∙ getD-set-same d (c + 1) l 0 (body-place m h) ∙ e ∙ ap (λ (j : ℕ). letterByte (bodyOf (tableauOf b) r .letters j)) (sym z)
+    | no z ↦ getD-set-other d (c + 1) (suc k) l 0 (omega arith) ∙ m .letters k (omega arith)
+  ];
+}
+
+pub body-length : {b : List ℕ} {w r c : ℕ} {d e : List ℕ} → WritesBody b w r d → BodyTo b w r c e → length e ≡ length d
+body-length o m = m .fits .long ∙ sym (o .long)
+
+pub body-all : {b : List ℕ} {w r c : ℕ} {e : List ℕ} → BodyTo b w r c e → w ≤ c → e ≡ encodeString w (bodyOf (tableauOf b) r)
+body-all {b} {w} {r} {c} {e} m h =
+    row-is w e (bodyOf (tableauOf b) r) (omega (arith, m .fits .long)) (m .first ∙ plain) (λ q l. m .letters q (omega arith))
+  where
+    plain : 0 ≡ phaseByte (bodyOf (tableauOf b) r .phase)
+    plain = unfold bodyOf transposed phaseByte in refl
+
+pub ruleset bodies = (body-some, body-none, body-place, body-reads, body-step, body-length, body-all, needs)
+
+-- ---- a body turned back
+module _ {b s k out : List ℕ} (o : TurnsBack b s k out) where
+  abbrev S : PauliString
+  S = turnedBack (tableauOf b) (stringIn s)
+
+  module _ {k′ : List ℕ} {p : ℕ} (ek : k′ ≡ encodeString (lettersIn k) (apply (tableauOf b) (stringIn s))) (ep : p ≡ conjugateByte (getD k′ 0 0)) where
+    turned : set s 0 p ≡ encodeString (lettersIn s) S
+    unfolding turnedBack conjugateByte
+    turned =
+        let f : WellFormed (lettersIn s) s = o .sends .string in
+        let image : PauliString = apply (tableauOf b) (stringIn s) in
+        row-is (lettersIn s) (set s 0 p) S (length-set s 0 p ∙ f .long)
+        (getD-set-same s 0 p 0 (omega (arith, f .long)) ∙ ep
+        ∙ ap (λ (j : ℕ). phaseByte (conjugate (phaseOf j))) (ap (λ (l : List ℕ). getD l 0 0) ek ∙ encode-phase (lettersIn k) image)
+        ∙ ap (λ x. phaseByte (conjugate x)) (phase-back (image .phase)))
+        (λ c l. getD-set-other s 0 (suc c) p 0 (omega arith) ∙ sym (letter-there (getD s (suc c) 0) (f .small (suc c) (omega (arith, f .long))))
+        ∙ ap letterByte (sym (decode-letter (lettersIn s) s c l)))
+
+    pub turned-room : Finished (set s 0 p) out
+    turned-room = put-room (lettersIn s) S turned (o .room)
+
+    pub turned-made : {e : List ℕ} → e ≡ rowWritten (lettersIn (set s 0 p)) (stringIn (set s 0 p)) out → e ≡ rowWritten (lettersIn s) S out
+    unfolding turnedBack
+    turned-made e = put-row (lettersIn s) out S turned (decode-within (lettersIn s) s) e
+
+pub turned-sends : {b s k out : List ℕ} → TurnsBack b s k out → Sends b s k
+turned-sends o = o .sends
+
+pub ruleset turning = (turned-room, turned-made, turned-sends, needs)
+
+-- ---- a row of the inverse
+by-kind : (t : Tableau) (c : Bool) (m n : ℕ) → cond c (inverseRow t hasZ m) (inverseRow t hasX n) ≡ turnedBack t (transposed t (cond c hasZ hasX) (cond c m n))
+unfolding inverseRow turnedBack
+by-kind t true m n = refl
+by-kind t false m n = refl
+
+pub inverse-row : (t : Tableau) (r : ℕ) → rowOf (inverse t) r ≡ turnedBack t (bodyOf t r)
+unfolding inverse rowOf bodyOf rowBit rowQubit
+inverse-row t r = by-kind t (ltb r (t .width)) r (r - t .width)
+
+module _ {b : List ℕ} {w r : ℕ} {s k out : List ℕ} (o : InvertsBy b w r s k out) where
+  abbrev B : Tableau
+  B = tableauOf b
+
+  pub invert-body : WritesBody b w r s
+  invert-body = record { row = o .inverts .row; long = o .body }
+
+  module _ {s′ : List ℕ} (es : s′ ≡ encodeString w (bodyOf B r)) where
+    long-s : length s′ ≡ suc w
+    long-s = ap length es ∙ length-encode w (bodyOf B r)
+
+    letters-s : lettersIn s′ ≡ w
+    letters-s = omega (arith, long-s)
+
+    pub invert-turns : TurnsBack b s′ k out
+    invert-turns = record {
+      sends = record {
+        tableau = o .inverts .row .tableau;
+        string = encoded-formed w (bodyOf B r) es;
+        wide = omega (arith, o .work, o .inverts .row .wide);
+        reach = omega (arith, o .work, long-s);
+        narrow = omega (arith, o .work, o .inverts .row .wide, o .inverts .row .tableau .narrow);
+      };
+      room = subst (λ (j : ℕ). rowLength j ≤ length out) (sym letters-s) (o .inverts .room);
+    }
+
+    body-is : stringIn s′ ≡ bodyOf B r
+    unfolding bodyOf
+    body-is =
+        encoded-row w (bodyOf B r) long-s es
+        (λ c h. within-transposed B (rowBit (B .width) r) (rowQubit (B .width) r) c (omega (arith, o .inverts .row .wide, width-of b)))
+
+    pub invert-made : {e : List ℕ} → e ≡ rowWritten (lettersIn s′) (turnedBack B (stringIn s′)) out → e ≡ rowWritten w (rowOf (inverse B) r) out
+    invert-made e =
+        e ∙ ap₂ (λ (j : ℕ) (u : PauliString). rowWritten j u out) letters-s (ap (turnedBack B) body-is ∙ sym (inverse-row B r))
+
+pub invert-narrow : {b : List ℕ} {w r : ℕ} {out : List ℕ} → InvertsRow b w r out → w ≤ 128
+invert-narrow o = omega (arith, o .row .wide, o .row .tableau .narrow)
+
+pub invert-zeros : {b : List ℕ} {w r : ℕ} {out : List ℕ} → InvertsRow b w r out
+    → InvertsBy b w r (take (w + 1 - 0) (drop 0 (replicate 129 0))) (take (w + 1 - 0) (drop 0 (replicate 129 0))) out
+invert-zeros o = record { inverts = o; body = zeros-long _ (invert-narrow o); work = zeros-long _ (invert-narrow o) }
+
+pub ruleset inverting = (invert-body, invert-turns, invert-made, invert-narrow, invert-zeros, needs)
+
+-- ---- all rows of the inverse
+pub inverse-narrow : {b : List ℕ} {w : ℕ} {d : List ℕ} → Inverts b w d → w ≤ 128
+inverse-narrow o = omega (arith, o .wide, o .tableau .narrow)
+
+pub inverse-first : {b : List ℕ} {w : ℕ} {d : List ℕ} → Inverts b w d → 0 < length d
+inverse-first {w = w} o = omega (arith, o .room, some-room w)
+
+pub inverse-none : {b : List ℕ} {w : ℕ} {d : List ℕ} → Inverts b w d → RowsTo w (rowOf (inverse (tableauOf b))) (set d 0 w) 0 (set d 0 w)
+inverse-none {b} {w} {d} o = rows-none w (rowOf (inverse (tableauOf b))) d (inverse-narrow o) (o .room)
+
+pub inverse-here : {b : List ℕ} {w : ℕ} {d′ : List ℕ} {f : ℕ → PauliString} {d₀ : List ℕ} {r : ℕ} {d : List ℕ} {at : ℕ} → Inverts b w d′ → RowsTo w f d₀ r d → r < 2 * w
+    → Sized (rowOffset w r) at → InvertsRow b w r (from at d)
+inverse-here {d = d} {at = at} o m h s = record { row = record { tableau = o .tableau; wide = o .wide; own = h }; room = rows-room d at m h s }
+
+pub inverse-all : {b : List ℕ} {w : ℕ} {d : List ℕ} {r : ℕ} {e : List ℕ} → Inverts b w d → RowsTo w (rowOf (inverse (tableauOf b))) (set d 0 w) r e → 2 * w ≤ r
+    → e ≡ written Done (tableauRecord (inverse (tableauOf b))) d
+inverse-all {b} {w} {d} o m h = rows-all (inverse (tableauOf b)) d (width-inverse (tableauOf b) ∙ width-of b ∙ sym (o .wide)) m h
+
+pub ruleset inverse-loops = (inverse-none, inverse-here, inverse-all, inverse-first, inverse-narrow, rows-start, rows-index, rows-more, rows-length, needs)
