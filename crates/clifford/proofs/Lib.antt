@@ -7,6 +7,7 @@ pub mod Sendings
 pub mod RecordWriting
 pub mod InverseRows
 pub mod TableauAnswers
+pub mod InverseAnswers
 pub mod TableauImages
 pub mod RecordLaws
 pub mod WayBacks
