@@ -10,7 +10,7 @@ use Rattle.pauli.specs.declared.refusal.Refusal.{Refusal}
 use Rattle.pauli.specs.declared.refusal.Outcome.{Outcome}
 use Rattle.pauli.specs.declared.refusal.Outcome.the-variants.{Done, Refused}
 use Rattle.pauli.specs.Answers.{written}
-use Rattle.pauli.specs.Questions.{_andThen_, roomQuestion}
+use Rattle.pauli.specs.Questions.{roomQuestion}
 use Rattle.pauli.proofs.Answers.{answers}
 use Rattle.pauli.proofs.Asking.{refused, passed, done-first, done-second, room-is}
 use Rattle.clifford.specs.Layout.{recordLength, widthOf, tableauOf, tableauRecord}

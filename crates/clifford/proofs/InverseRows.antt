@@ -2,7 +2,7 @@
 use mathlib.Core.Path.{_≡_, refl, sym, ap, ap₂, _∙_, subst}
 use mathlib.Core.Bool.{Bool, true, false, cond}
 use mathlib.Core.List.{List}
-use Prim.Native.Nat.{ℕ, zero, suc, _+_, _*_, _-_, _/_, _%_, _≤_, _<_}
+use Prim.Native.Nat.{ℕ, suc, _+_, _*_, _-_, _/_, _%_, _≤_, _<_}
 use native.Mathlib.Nat.{not-suc-le-zero}
 use native.Mathlib.Numerals.{add-one}
 use native.Mathlib.Omega.{arith}
@@ -14,20 +14,20 @@ use mir.Syntax.{w8}
 use mir.Val.{Fits}
 use borrow.Author.Needs.{needs}
 use borrow.Author.Tests.{lt-ltb, le-ltb}
-use Rattle.pauli_group.specs.Phase.{PlusOne, conjugate}
+use Rattle.pauli_group.specs.Phase.{Phase, conjugate}
 use Rattle.pauli_group.specs.Letter.{Letter, I, X, Z, Y}
-use Rattle.pauli_group.specs.PauliString.{PauliString}
+use Rattle.pauli_group.specs.PauliString.{PauliString, Within}
 use Rattle.clifford_group.specs.Tableau.{Tableau, apply, hasX, hasZ, letterOf, transposed, inverseRow, inverse}
 use Rattle.clifford_group.proofs.Inverse.{within-transposed, width-inverse}
 use Rattle.pauli.specs.declared.refusal.Outcome.the-variants.{Done}
 use Rattle.pauli.specs.Answers.{written}
-use Rattle.pauli.specs.Layout.{phaseByte, phaseOf, letterByte, encodeString, decodeString, WellFormed}
+use Rattle.pauli.specs.Layout.{phaseByte, letterByte, encodeString}
 use Rattle.pauli.specs.Rows.{conjugateByte}
 use Rattle.pauli.proofs.Places.{from}
-use Rattle.pauli.proofs.Records.{phase-back, letter-there, length-encode, encode-phase, decode-letter, decode-within}
-use Rattle.clifford.specs.Layout.{rowLength, rowOffset, recordLength, rowOf, rowPart, widthOf, tableauOf, tableauRecord, FormedTableau}
+use Rattle.pauli.proofs.Records.{phase-back, letter-there, length-encode, encode-phase, encode-letter, decode-letter}
+use Rattle.clifford.specs.Layout.{rowLength, rowOffset, rowOf, rowPart, widthOf, tableauOf, tableauRecord}
 use Rattle.clifford.specs.Rows.{Sized, OwnRow, OwnLetter, Finished, Sends, rowQubit, rowWritten, lettersIn, stringIn}
-use Rattle.clifford.specs.InverseRows.{rowBit, bitRead, bitByte, bodyOf, turnedBack, RowBack, ReadsBit, ReadsLetter, WritesBody, TurnsBack, InvertsRow, InvertsBy, Inverts}
+use Rattle.clifford.specs.InverseRows.{rowBit, bitRead, bitByte, bodyOf, ReadsBit, ReadsLetter, WritesBody, InvertsRow, InvertsBy, Inverts}
 use Rattle.clifford.proofs.TableauRows.{string-of-row}
 use Rattle.clifford.proofs.TableauRecords.{row-x, row-z, row-part, part-formed, width-of}
 use Rattle.clifford.proofs.WorkRows.{row-is}
@@ -189,81 +189,81 @@ body-all {b} {w} {r} {c} {e} m h =
 
 pub ruleset bodies = (body-some, body-none, body-place, body-reads, body-step, body-length, body-all, needs)
 
--- ---- a body turned back
-module _ {b s k out : List ℕ} (o : TurnsBack b s k out) where
-  abbrev S : PauliString
-  S = turnedBack (tableauOf b) (stringIn s)
-
-  module _ {k′ : List ℕ} {p : ℕ} (ek : k′ ≡ encodeString (lettersIn k) (apply (tableauOf b) (stringIn s))) (ep : p ≡ conjugateByte (getD k′ 0 0)) where
-    turned : set s 0 p ≡ encodeString (lettersIn s) S
-    unfolding turnedBack conjugateByte
-    turned =
-        let f : WellFormed (lettersIn s) s = o .sends .string in
-        let image : PauliString = apply (tableauOf b) (stringIn s) in
-        row-is (lettersIn s) (set s 0 p) S (length-set s 0 p ∙ f .long)
-        (getD-set-same s 0 p 0 (omega (arith, f .long)) ∙ ep
-        ∙ ap (λ (j : ℕ). phaseByte (conjugate (phaseOf j))) (ap (λ (l : List ℕ). getD l 0 0) ek ∙ encode-phase (lettersIn k) image)
-        ∙ ap (λ x. phaseByte (conjugate x)) (phase-back (image .phase)))
-        (λ c l. getD-set-other s 0 (suc c) p 0 (omega arith) ∙ sym (letter-there (getD s (suc c) 0) (f .small (suc c) (omega (arith, f .long))))
-        ∙ ap letterByte (sym (decode-letter (lettersIn s) s c l)))
-
-    pub turned-room : Finished (set s 0 p) out
-    turned-room = put-room (lettersIn s) S turned (o .room)
-
-    pub turned-made : {e : List ℕ} → e ≡ rowWritten (lettersIn (set s 0 p)) (stringIn (set s 0 p)) out → e ≡ rowWritten (lettersIn s) S out
-    unfolding turnedBack
-    turned-made e = put-row (lettersIn s) out S turned (decode-within (lettersIn s) s) e
-
-pub turned-sends : {b s k out : List ℕ} → TurnsBack b s k out → Sends b s k
-turned-sends o = o .sends
-
-pub ruleset turning = (turned-room, turned-made, turned-sends, needs)
-
 -- ---- a row of the inverse
-by-kind : (t : Tableau) (c : Bool) (m n : ℕ) → cond c (inverseRow t hasZ m) (inverseRow t hasX n) ≡ turnedBack t (transposed t (cond c hasZ hasX) (cond c m n))
-unfolding inverseRow turnedBack
+by-kind : (t : Tableau) (c : Bool) (m n : ℕ) → cond c (inverseRow t hasZ m) (inverseRow t hasX n) ≡ inverseRow t (cond c hasZ hasX) (cond c m n)
 by-kind t true m n = refl
 by-kind t false m n = refl
 
-pub inverse-row : (t : Tableau) (r : ℕ) → rowOf (inverse t) r ≡ turnedBack t (bodyOf t r)
-unfolding inverse rowOf bodyOf rowBit rowQubit
+pub inverse-row : (t : Tableau) (r : ℕ) → rowOf (inverse t) r ≡ inverseRow t (rowBit (t .width) r) (rowQubit (t .width) r)
+unfolding inverse rowOf rowBit rowQubit
 inverse-row t r = by-kind t (ltb r (t .width)) r (r - t .width)
+
+inverse-phase : (t : Tableau) (r : ℕ) → rowOf (inverse t) r .phase ≡ conjugate (apply t (bodyOf t r) .phase)
+unfolding inverseRow bodyOf
+inverse-phase t r = ap (λ (s : PauliString). s .phase) (inverse-row t r)
+
+inverse-letter : (t : Tableau) (r c : ℕ) → rowOf (inverse t) r .letters c ≡ bodyOf t r .letters c
+unfolding inverseRow bodyOf
+inverse-letter t r c = ap (λ (s : PauliString). s .letters c) (inverse-row t r)
+
+within-body : (t : Tableau) (r : ℕ) → Within (t .width) (bodyOf t r)
+unfolding bodyOf
+within-body t r = within-transposed t (rowBit (t .width) r) (rowQubit (t .width) r)
+
+conjugate-is : (x : Phase) {p : ℕ} → p ≡ conjugateByte (phaseByte x) → p ≡ phaseByte (conjugate x)
+unfolding conjugateByte
+conjugate-is x e = e ∙ ap (λ y. phaseByte (conjugate y)) (phase-back x)
 
 module _ {b : List ℕ} {w r : ℕ} {s k out : List ℕ} (o : InvertsBy b w r s k out) where
   abbrev B : Tableau
   B = tableauOf b
 
+  abbrev body : PauliString
+  body = bodyOf B r
+
+  abbrev made : PauliString
+  made = rowOf (inverse B) r
+
+  body-in : Within w body
+  body-in c h = within-body B r c (omega (arith, o .inverts .row .wide, width-of b))
+
   pub invert-body : WritesBody b w r s
   invert-body = record { row = o .inverts .row; long = o .body }
 
-  module _ {s′ : List ℕ} (es : s′ ≡ encodeString w (bodyOf B r)) where
+  module _ {s′ : List ℕ} (es : s′ ≡ encodeString w body) where
     long-s : length s′ ≡ suc w
-    long-s = ap length es ∙ length-encode w (bodyOf B r)
+    long-s = ap length es ∙ length-encode w body
 
-    letters-s : lettersIn s′ ≡ w
-    letters-s = omega (arith, long-s)
+    pub invert-some : 0 < length s′
+    invert-some = omega (arith, long-s)
 
-    pub invert-turns : TurnsBack b s′ k out
-    invert-turns = record {
-      sends = record {
-        tableau = o .inverts .row .tableau;
-        string = encoded-formed w (bodyOf B r) es;
-        wide = omega (arith, o .work, o .inverts .row .wide);
-        reach = omega (arith, o .work, long-s);
-        narrow = omega (arith, o .work, o .inverts .row .wide, o .inverts .row .tableau .narrow);
-      };
-      room = subst (λ (j : ℕ). rowLength j ≤ length out) (sym letters-s) (o .inverts .room);
+    pub invert-sends : Sends b s′ k
+    invert-sends = record {
+      tableau = o .inverts .row .tableau;
+      string = encoded-formed w body es;
+      wide = omega (arith, o .work, o .inverts .row .wide);
+      reach = omega (arith, o .work, long-s);
+      narrow = omega (arith, o .work, o .inverts .row .wide, o .inverts .row .tableau .narrow);
     }
 
-    body-is : stringIn s′ ≡ bodyOf B r
-    unfolding bodyOf
-    body-is =
-        encoded-row w (bodyOf B r) long-s es
-        (λ c h. within-transposed B (rowBit (B .width) r) (rowQubit (B .width) r) c (omega (arith, o .inverts .row .wide, width-of b)))
+    module _ {k′ : List ℕ} {p : ℕ} (ek : k′ ≡ encodeString (lettersIn k) (apply B (stringIn s′))) (ep : p ≡ conjugateByte (getD k′ 0 0)) where
+      phase-met : getD k′ 0 0 ≡ phaseByte (apply B body .phase)
+      phase-met =
+          ap (λ (l : List ℕ). getD l 0 0) ek ∙ encode-phase (lettersIn k) (apply B (stringIn s′))
+          ∙ ap (λ u. phaseByte (apply B u .phase)) (encoded-row w body long-s es body-in)
 
-    pub invert-made : {e : List ℕ} → e ≡ rowWritten (lettersIn s′) (turnedBack B (stringIn s′)) out → e ≡ rowWritten w (rowOf (inverse B) r) out
-    invert-made e =
-        e ∙ ap₂ (λ (j : ℕ) (u : PauliString). rowWritten j u out) letters-s (ap (turnedBack B) body-is ∙ sym (inverse-row B r))
+      turned : set s′ 0 p ≡ encodeString w made
+      turned =
+          row-is w (set s′ 0 p) made (length-set s′ 0 p ∙ long-s)
+          (getD-set-same s′ 0 p 0 invert-some ∙ conjugate-is (apply B body .phase) (ep ∙ ap conjugateByte phase-met) ∙ ap phaseByte (sym (inverse-phase B r)))
+          (λ c l. getD-set-other s′ 0 (suc c) p 0 (omega arith) ∙ ap (λ (j : List ℕ). getD j (suc c) 0) es ∙ encode-letter w body c l
+          ∙ ap letterByte (sym (inverse-letter B r c)))
+
+      pub invert-room : Finished (set s′ 0 p) out
+      invert-room = put-room w made turned (o .inverts .room)
+
+      pub invert-made : {e : List ℕ} → e ≡ rowWritten (lettersIn (set s′ 0 p)) (stringIn (set s′ 0 p)) out → e ≡ rowWritten w made out
+      invert-made e = put-row w out made turned (λ c h. inverse-letter B r c ∙ body-in c h) e
 
 pub invert-narrow : {b : List ℕ} {w r : ℕ} {out : List ℕ} → InvertsRow b w r out → w ≤ 128
 invert-narrow o = omega (arith, o .row .wide, o .row .tableau .narrow)
@@ -272,7 +272,7 @@ pub invert-zeros : {b : List ℕ} {w r : ℕ} {out : List ℕ} → InvertsRow b 
     → InvertsBy b w r (take (w + 1 - 0) (drop 0 (replicate 129 0))) (take (w + 1 - 0) (drop 0 (replicate 129 0))) out
 invert-zeros o = record { inverts = o; body = zeros-long _ (invert-narrow o); work = zeros-long _ (invert-narrow o) }
 
-pub ruleset inverting = (invert-body, invert-turns, invert-made, invert-narrow, invert-zeros, needs)
+pub ruleset inverting = (invert-body, invert-some, invert-sends, invert-room, invert-made, invert-narrow, invert-zeros, needs)
 
 -- ---- all rows of the inverse
 pub inverse-narrow : {b : List ℕ} {w : ℕ} {d : List ℕ} → Inverts b w d → w ≤ 128

@@ -1,16 +1,15 @@
--- The rows of an inverse in the order of its record: letters by the symplectic transpose, then the phase met on the way forward.
+-- The rows of an inverse in the order of its record: their bodies, which have the letters by the symplectic transpose.
 use Prim.Native.Nat.{ℕ, _+_, _*_, _≤_, _<_}
 use mathlib.Core.Path.{_≡_}
 use mathlib.Core.Bool.{Bool, true, false, cond}
 use mathlib.Core.List.{List}
 use lib.Dec.{ltb}
 use lib.ListN.{length}
-use Rattle.pauli_group.specs.Phase.{conjugate}
 use Rattle.pauli_group.specs.Letter.{Letter}
 use Rattle.pauli_group.specs.PauliString.{PauliString}
-use Rattle.clifford_group.specs.Tableau.{Tableau, apply, hasX, hasZ, transposed}
+use Rattle.clifford_group.specs.Tableau.{Tableau, hasX, hasZ, transposed}
 use Rattle.clifford.specs.Layout.{rowLength, recordLength, rowOf, widthOf, FormedTableau}
-use Rattle.clifford.specs.Rows.{Sends, rowQubit, lettersIn}
+use Rattle.clifford.specs.Rows.{rowQubit}
 
 -- which bit of a letter row r of the inverse reads, of width w: the z bit for an X row and the x bit for a Z row
 unfoldable pub rowBit : ℕ → ℕ → Letter → Bool
@@ -27,10 +26,6 @@ bitByte true = 1
 -- the body of row r: phase +1, and the letters by the transpose
 unfoldable pub bodyOf : Tableau → ℕ → PauliString
 bodyOf t r = transposed t (rowBit (t .width) r) (rowQubit (t .width) r)
-
--- a body with the conjugate of the phase met when it is sent forward through t
-unfoldable pub turnedBack : Tableau → PauliString → PauliString
-turnedBack t s = record { phase = conjugate (apply t s .phase); letters = s .letters }
 
 -- ---- what the functions that write them may count on
 
@@ -53,11 +48,6 @@ pub record ReadsLetter (b : List ℕ) (w r c : ℕ) : Type 0 where
 pub record WritesBody (b : List ℕ) (w r : ℕ) (d : List ℕ) : Type 0 where
   pub row : RowBack b w r
   pub long : length d ≡ w + 1
-
--- a body s to be sent forward into the work row k, and room for its row
-pub record TurnsBack (b s k out : List ℕ) : Type 0 where
-  pub sends : Sends b s k
-  pub room : rowLength (lettersIn s) ≤ length out
 
 -- row r, into out; and by way of the work rows s, for its body, and k
 pub record InvertsRow (b : List ℕ) (w r : ℕ) (out : List ℕ) : Type 0 where

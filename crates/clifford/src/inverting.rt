@@ -6,8 +6,8 @@ ghost use Rattle.pauli.specs.declared.refusal.Outcome.the-variants.{Done};
 ghost use Rattle.pauli.specs.Answers.{written};
 ghost use Rattle.pauli.specs.Layout.{letterByte, encodeString};
 ghost use Rattle.clifford.specs.Layout.{rowOf, tableauOf, tableauRecord};
-ghost use Rattle.clifford.specs.Rows.{rowWritten, lettersIn, stringIn};
-ghost use Rattle.clifford.specs.InverseRows.{bitRead, bitByte, bodyOf, turnedBack, ReadsBit, ReadsLetter, WritesBody, TurnsBack, InvertsRow, InvertsBy, Inverts};
+ghost use Rattle.clifford.specs.Rows.{rowWritten};
+ghost use Rattle.clifford.specs.InverseRows.{bitRead, bitByte, bodyOf, ReadsBit, ReadsLetter, WritesBody, InvertsRow, InvertsBy, Inverts};
 use crate::layout::letter_in_row;
 use crate::layout::row_offset;
 use crate::layout::row_qubit;
@@ -47,23 +47,15 @@ fn write_body(t: &[u8], width: usize, r: usize, body: &mut [u8])
     }
 }
 
-// A body as the row at the front of dst, with the conjugate of the phase met when it is sent forward.
-fn turn_back(t: &[u8], body: &mut [u8], work: &mut [u8], dst: &mut [u8])
-    requires { ⌜ TurnsBack (now t) (now body) (now work) (now dst) ⌝ }
-    ensures { λ _. ⌜ now (dst .exit) ≡ rowWritten (lettersIn (now (body .entry))) (turnedBack (tableauOf (now (t .entry))) (stringIn (now (body .entry)))) (now (dst .entry)) ⌝ }
-{
-    send(t, body, work);
-    body[0] = phase_conjugate(work[0]);
-    write_row(body, dst);
-}
-
-// Row r of the inverse, by way of its body and a work row.
+// Row r of the inverse, by way of its body and a work row: the phase is the conjugate of the one met when the body is sent forward.
 fn invert_by(t: &[u8], width: usize, r: usize, body: &mut [u8], work: &mut [u8], dst: &mut [u8])
     requires { ⌜ InvertsBy (now t) width r (now body) (now work) (now dst) ⌝ }
     ensures { λ _. ⌜ now (dst .exit) ≡ rowWritten width (rowOf (inverse (tableauOf (now (t .entry)))) r) (now (dst .entry)) ⌝ }
 {
     write_body(t, width, r, body);
-    turn_back(t, body, work, dst);
+    send(t, body, work);
+    body[0] = phase_conjugate(work[0]);
+    write_row(body, dst);
 }
 
 // Row r of the inverse, over the front of dst.
