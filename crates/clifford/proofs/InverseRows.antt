@@ -27,7 +27,7 @@ use Rattle.pauli.proofs.Places.{from}
 use Rattle.pauli.proofs.Records.{phase-back, letter-there, length-encode, encode-phase, encode-letter, decode-letter}
 use Rattle.clifford.specs.Layout.{rowLength, rowOffset, rowOf, rowPart, widthOf, tableauOf, tableauRecord}
 use Rattle.clifford.specs.Rows.{Sized, OwnRow, OwnLetter, Finished, Sends, rowQubit, rowWritten, lettersIn, stringIn}
-use Rattle.clifford.specs.InverseRows.{rowBit, bitRead, bitByte, bodyOf, ReadsBit, ReadsLetter, WritesBody, InvertsRow, InvertsBy, Inverts}
+use Rattle.clifford.specs.InverseRows.{rowBit, bitRead, bitByte, bodyOf, RowBack, ReadsBit, ReadsLetter, WritesBody, SendsBody, InvertsRow, InvertsBy, Inverts}
 use Rattle.clifford.proofs.TableauRows.{string-of-row}
 use Rattle.clifford.proofs.TableauRecords.{row-x, row-z, row-part, part-formed, width-of}
 use Rattle.clifford.proofs.WorkRows.{row-is}
@@ -214,56 +214,66 @@ conjugate-is : (x : Phase) {p : ℕ} → p ≡ conjugateByte (phaseByte x) → p
 unfolding conjugateByte
 conjugate-is x e = e ∙ ap (λ y. phaseByte (conjugate y)) (phase-back x)
 
-module _ {b : List ℕ} {w r : ℕ} {s k out : List ℕ} (o : InvertsBy b w r s k out) where
-  abbrev B : Tableau
-  B = tableauOf b
+body-in : {b : List ℕ} {w r : ℕ} → RowBack b w r → Within w (bodyOf (tableauOf b) r)
+body-in {b} {w} {r} o c h = within-body (tableauOf b) r c (omega (arith, o .wide, width-of b))
 
+module _ {b : List ℕ} {w r : ℕ} {s k : List ℕ} (o : SendsBody b w r s k) where
   abbrev body : PauliString
-  body = bodyOf B r
+  body = bodyOf (tableauOf b) r
 
+  long : length s ≡ suc w
+  long = ap length (o .body) ∙ length-encode w body
+
+  pub back-sends : Sends b s k
+  back-sends = record {
+    tableau = o .row .tableau;
+    string = encoded-formed w body (o .body);
+    wide = omega (arith, o .work, o .row .wide);
+    reach = omega (arith, o .work, long);
+    narrow = omega (arith, o .work, o .row .wide, o .row .tableau .narrow);
+  }
+
+  pub back-phase : {k′ : List ℕ} {p : ℕ} → k′ ≡ encodeString (lettersIn k) (apply (tableauOf b) (stringIn s)) → p ≡ conjugateByte (getD k′ 0 0)
+      → p ≡ phaseByte (rowOf (inverse (tableauOf b)) r .phase)
+  back-phase ek ep =
+      conjugate-is (apply (tableauOf b) body .phase)
+      (ep
+      ∙ ap conjugateByte
+      (ap (λ (l : List ℕ). getD l 0 0) ek ∙ encode-phase (lettersIn k) (apply (tableauOf b) (stringIn s))
+      ∙ ap (λ u. phaseByte (apply (tableauOf b) u .phase)) (encoded-row w body long (o .body) (body-in (o .row)))))
+      ∙ ap phaseByte (sym (inverse-phase (tableauOf b) r))
+
+pub ruleset phases-back = (back-sends, back-phase, needs)
+
+module _ {b : List ℕ} {w r : ℕ} {s k out : List ℕ} (o : InvertsBy b w r s k out) where
   abbrev made : PauliString
-  made = rowOf (inverse B) r
-
-  body-in : Within w body
-  body-in c h = within-body B r c (omega (arith, o .inverts .row .wide, width-of b))
+  made = rowOf (inverse (tableauOf b)) r
 
   pub invert-body : WritesBody b w r s
   invert-body = record { row = o .inverts .row; long = o .body }
 
-  module _ {s′ : List ℕ} (es : s′ ≡ encodeString w body) where
+  module _ {s′ : List ℕ} (es : s′ ≡ encodeString w (bodyOf (tableauOf b) r)) where
+    pub invert-sends : SendsBody b w r s′ k
+    invert-sends = record { row = o .inverts .row; body = es; work = o .work }
+
     long-s : length s′ ≡ suc w
-    long-s = ap length es ∙ length-encode w body
+    long-s = ap length es ∙ length-encode w (bodyOf (tableauOf b) r)
 
     pub invert-some : 0 < length s′
     invert-some = omega (arith, long-s)
 
-    pub invert-sends : Sends b s′ k
-    invert-sends = record {
-      tableau = o .inverts .row .tableau;
-      string = encoded-formed w body es;
-      wide = omega (arith, o .work, o .inverts .row .wide);
-      reach = omega (arith, o .work, long-s);
-      narrow = omega (arith, o .work, o .inverts .row .wide, o .inverts .row .tableau .narrow);
-    }
-
-    module _ {k′ : List ℕ} {p : ℕ} (ek : k′ ≡ encodeString (lettersIn k) (apply B (stringIn s′))) (ep : p ≡ conjugateByte (getD k′ 0 0)) where
-      phase-met : getD k′ 0 0 ≡ phaseByte (apply B body .phase)
-      phase-met =
-          ap (λ (l : List ℕ). getD l 0 0) ek ∙ encode-phase (lettersIn k) (apply B (stringIn s′))
-          ∙ ap (λ u. phaseByte (apply B u .phase)) (encoded-row w body long-s es body-in)
-
+    module _ {p : ℕ} (ep : p ≡ phaseByte (made .phase)) where
       turned : set s′ 0 p ≡ encodeString w made
       turned =
-          row-is w (set s′ 0 p) made (length-set s′ 0 p ∙ long-s)
-          (getD-set-same s′ 0 p 0 invert-some ∙ conjugate-is (apply B body .phase) (ep ∙ ap conjugateByte phase-met) ∙ ap phaseByte (sym (inverse-phase B r)))
-          (λ c l. getD-set-other s′ 0 (suc c) p 0 (omega arith) ∙ ap (λ (j : List ℕ). getD j (suc c) 0) es ∙ encode-letter w body c l
-          ∙ ap letterByte (sym (inverse-letter B r c)))
+          row-is w (set s′ 0 p) made (length-set s′ 0 p ∙ long-s) (getD-set-same s′ 0 p 0 invert-some ∙ ep)
+          (λ c l. getD-set-other s′ 0 (suc c) p 0 (omega arith) ∙ ap (λ (j : List ℕ). getD j (suc c) 0) es
+          ∙ encode-letter w (bodyOf (tableauOf b) r) c l ∙ ap letterByte (sym (inverse-letter (tableauOf b) r c)))
 
       pub invert-room : Finished (set s′ 0 p) out
       invert-room = put-room w made turned (o .inverts .room)
 
       pub invert-made : {e : List ℕ} → e ≡ rowWritten (lettersIn (set s′ 0 p)) (stringIn (set s′ 0 p)) out → e ≡ rowWritten w made out
-      invert-made e = put-row w out made turned (λ c h. inverse-letter B r c ∙ body-in c h) e
+      invert-made e = put-row w out made turned (λ c h. inverse-letter (tableauOf b) r c ∙ body-in (o .inverts .row) c h) e
 
 pub invert-narrow : {b : List ℕ} {w r : ℕ} {out : List ℕ} → InvertsRow b w r out → w ≤ 128
 invert-narrow o = omega (arith, o .row .wide, o .row .tableau .narrow)

@@ -8,7 +8,8 @@ use lib.ListN.{length}
 use Rattle.pauli_group.specs.Letter.{Letter}
 use Rattle.pauli_group.specs.PauliString.{PauliString}
 use Rattle.clifford_group.specs.Tableau.{Tableau, hasX, hasZ, transposed}
-use Rattle.clifford.specs.Layout.{rowLength, recordLength, rowOf, widthOf, FormedTableau}
+use Rattle.pauli.specs.Layout.{encodeString}
+use Rattle.clifford.specs.Layout.{rowLength, recordLength, rowOf, widthOf, tableauOf, FormedTableau}
 use Rattle.clifford.specs.Rows.{rowQubit}
 
 -- which bit of a letter row r of the inverse reads, of width w: the z bit for an X row and the x bit for a Z row
@@ -48,6 +49,12 @@ pub record ReadsLetter (b : List ℕ) (w r c : ℕ) : Type 0 where
 pub record WritesBody (b : List ℕ) (w r : ℕ) (d : List ℕ) : Type 0 where
   pub row : RowBack b w r
   pub long : length d ≡ w + 1
+
+-- the same, with its body s, to be sent forward into the work row k
+pub record SendsBody (b : List ℕ) (w r : ℕ) (s k : List ℕ) : Type 0 where
+  pub row : RowBack b w r
+  pub body : s ≡ encodeString w (bodyOf (tableauOf b) r)
+  pub work : length k ≡ w + 1
 
 -- row r, into out; and by way of the work rows s, for its body, and k
 pub record InvertsRow (b : List ℕ) (w r : ℕ) (out : List ℕ) : Type 0 where

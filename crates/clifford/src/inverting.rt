@@ -4,10 +4,10 @@ ghost use mathlib.Core.Path.{_≡_};
 ghost use Rattle.clifford_group.specs.Tableau.{inverse};
 ghost use Rattle.pauli.specs.declared.refusal.Outcome.the-variants.{Done};
 ghost use Rattle.pauli.specs.Answers.{written};
-ghost use Rattle.pauli.specs.Layout.{letterByte, encodeString};
+ghost use Rattle.pauli.specs.Layout.{phaseByte, letterByte, encodeString};
 ghost use Rattle.clifford.specs.Layout.{rowOf, tableauOf, tableauRecord};
 ghost use Rattle.clifford.specs.Rows.{rowWritten};
-ghost use Rattle.clifford.specs.InverseRows.{bitRead, bitByte, bodyOf, ReadsBit, ReadsLetter, WritesBody, InvertsRow, InvertsBy, Inverts};
+ghost use Rattle.clifford.specs.InverseRows.{bitRead, bitByte, bodyOf, ReadsBit, ReadsLetter, WritesBody, SendsBody, InvertsRow, InvertsBy, Inverts};
 use crate::layout::letter_in_row;
 use crate::layout::row_offset;
 use crate::layout::row_qubit;
@@ -47,14 +47,22 @@ fn write_body(t: &[u8], width: usize, r: usize, body: &mut [u8])
     }
 }
 
-// Row r of the inverse, by way of its body and a work row: the phase is the conjugate of the one met when the body is sent forward.
+// The phase of row r: the conjugate of the one met when its body is sent forward.
+fn phase_back(t: &[u8], width: usize, r: usize, body: &[u8], work: &mut [u8]) -> u8
+    requires { ⌜ SendsBody (now t) width r (now body) (now work) ⌝ }
+    ensures { λ p. ⌜ p ≡ phaseByte (rowOf (inverse (tableauOf (now (t .entry)))) r .phase) ⌝ }
+{
+    send(t, body, work);
+    phase_conjugate(work[0])
+}
+
+// Row r of the inverse, by way of its body and a work row.
 fn invert_by(t: &[u8], width: usize, r: usize, body: &mut [u8], work: &mut [u8], dst: &mut [u8])
     requires { ⌜ InvertsBy (now t) width r (now body) (now work) (now dst) ⌝ }
     ensures { λ _. ⌜ now (dst .exit) ≡ rowWritten width (rowOf (inverse (tableauOf (now (t .entry)))) r) (now (dst .entry)) ⌝ }
 {
     write_body(t, width, r, body);
-    send(t, body, work);
-    body[0] = phase_conjugate(work[0]);
+    body[0] = phase_back(t, width, r, body, work);
     write_row(body, dst);
 }
 

@@ -8,4 +8,4 @@ invert-by-spec =
     tie.close
     (tie.spec
     (λ c. search inverting) (λ c. search inverting) (λ c. search inverting) (λ c. search inverting) (λ c. search inverting)
-    (λ c. search inverting) (λ c. search inverting) (λ c. search inverting) (λ c. search inverting) (λ c. search inverting))
+    (λ c. search inverting) (λ c. search inverting) (λ c. search inverting))
