@@ -17,7 +17,7 @@ use Rattle.clifford.specs.Layout.{recordLength, widthOf, tableauOf, tabl
 use Rattle.clifford.specs.Questions.{tableauQuestions, inverseAnswer}
 use Rattle.clifford.specs.Rows.{Sized}
 use Rattle.clifford.specs.Tableaux.{inverseRecord}
-use Rattle.clifford.specs.InverseRows.{Inverts, InvertsTo}
+use Rattle.clifford.specs.InverseRows.{InvertsTo}
 use Rattle.clifford.proofs.TableauAsking.{tableau-formed, checked}
 
 pub inverts : {t d : List ℕ} {r : Outcome} → r ≡ inverseAnswer t (length d) → r ≡ Done → InvertsTo t d
@@ -27,8 +27,11 @@ inverts {t} {d} p h = record {
   room = room-is (recordLength (widthOf t)) (length d) (done-second (tableauQuestions t) _ (sym p ∙ h));
 }
 
-pub inverse-width : {t d : List ℕ} {w : ℕ} → InvertsTo t d → w ≡ widthOf t → Inverts t w d
-inverse-width {t} {d} o e = record { tableau = o .tableau; wide = e; room = subst (λ (j : ℕ). recordLength j ≤ length d) (sym e) (o .room) }
+pub width-narrow : {t d : List ℕ} {w : ℕ} → InvertsTo t d → w ≡ widthOf t → w ≤ 128
+width-narrow o e = omega (arith, o .tableau .narrow)
+
+pub width-room : {t d : List ℕ} {w : ℕ} → InvertsTo t d → w ≡ widthOf t → recordLength w ≤ length d
+width-room {t} {d} o e = subst (λ (j : ℕ). recordLength j ≤ length d) (sym e) (o .room)
 
 pub checked-narrow : (t : List ℕ) {r : Outcome} {w : ℕ} → r ≡ tableauQuestions t → r ≡ Done → w ≡ widthOf t → w ≤ 128
 checked-narrow t p h e = omega (arith, checked p h .narrow)
@@ -46,4 +49,4 @@ pub inverse-written : (t d : List ℕ) {e : List ℕ} → e ≡ written Done (ta
 unfolding inverseRecord
 inverse-written t d e = e
 
-pub ruleset inverses = (inverts, inverse-width, checked-narrow, inverse-room, inverse-refused, inverse-written, answers, needs)
+pub ruleset inverses = (inverts, width-narrow, width-room, checked-narrow, inverse-room, inverse-refused, inverse-written, answers, needs)

@@ -80,8 +80,8 @@ bit-small true = omega arith
 
 pub bit-letter : {b : List ℕ} {w r s q : ℕ} → ReadsBit b w r s → q ≡ rowQubit w r → OwnLetter b s q
 bit-letter {b} {w} {r} o e = record {
-  row = record { tableau = o .row .tableau; own = omega (arith, o .row .wide, o .source) };
-  qubit = omega (arith, o .row .wide, qubit-below w r e (o .row .own));
+  row = record { tableau = o .row .old .tableau; own = omega (arith, o .row .wide, o .source) };
+  qubit = omega (arith, o .row .wide, qubit-below w r e (omega (arith, o .row .old .own, o .row .wide)));
 }
 
 module _ {b : List ℕ} {w r s q l : ℕ} (o : ReadsBit b w r s) (eq : q ≡ rowQubit w r) (el : l ≡ letterByte (rowOf (tableauOf b) s .letters q)) where
@@ -226,11 +226,11 @@ module _ {b : List ℕ} {w r : ℕ} {s k : List ℕ} (o : SendsBody b w r s k) w
 
   pub back-sends : Sends b s k
   back-sends = record {
-    tableau = o .row .tableau;
+    tableau = o .row .old .tableau;
     string = encoded-formed w body (o .body);
     wide = omega (arith, o .work, o .row .wide);
     reach = omega (arith, o .work, long);
-    narrow = omega (arith, o .work, o .row .wide, o .row .tableau .narrow);
+    narrow = omega (arith, o .work, o .row .wide, o .row .old .tableau .narrow);
   }
 
   pub back-phase : {k′ : List ℕ} {p : ℕ} → k′ ≡ encodeString (lettersIn k) (apply (tableauOf b) (stringIn s)) → p ≡ conjugateByte (getD k′ 0 0)
@@ -276,7 +276,7 @@ module _ {b : List ℕ} {w r : ℕ} {s k out : List ℕ} (o : InvertsBy b w r s 
       invert-made e = put-row w out made turned (λ c h. inverse-letter (tableauOf b) r c ∙ body-in (o .inverts .row) c h) e
 
 pub invert-narrow : {b : List ℕ} {w r : ℕ} {out : List ℕ} → InvertsRow b w r out → w ≤ 128
-invert-narrow o = omega (arith, o .row .wide, o .row .tableau .narrow)
+invert-narrow o = omega (arith, o .row .wide, o .row .old .tableau .narrow)
 
 pub invert-zeros : {b : List ℕ} {w r : ℕ} {out : List ℕ} → InvertsRow b w r out
     → InvertsBy b w r (take (w + 1 - 0) (drop 0 (replicate 129 0))) (take (w + 1 - 0) (drop 0 (replicate 129 0))) out
@@ -286,7 +286,7 @@ pub ruleset inverting = (invert-body, invert-some, invert-sends, invert-room, in
 
 -- ---- all rows of the inverse
 pub inverse-narrow : {b : List ℕ} {w : ℕ} {d : List ℕ} → Inverts b w d → w ≤ 128
-inverse-narrow o = omega (arith, o .wide, o .tableau .narrow)
+inverse-narrow o = o .narrow
 
 pub inverse-first : {b : List ℕ} {w : ℕ} {d : List ℕ} → Inverts b w d → 0 < length d
 inverse-first {w = w} o = omega (arith, o .room, some-room w)
@@ -296,7 +296,10 @@ inverse-none {b} {w} {d} o = rows-none w (rowOf (inverse (tableauOf b))) d (inve
 
 pub inverse-here : {b : List ℕ} {w : ℕ} {d′ : List ℕ} {f : ℕ → PauliString} {d₀ : List ℕ} {r : ℕ} {d : List ℕ} {at : ℕ} → Inverts b w d′ → RowsTo w f d₀ r d → r < 2 * w
     → Sized (rowOffset w r) at → InvertsRow b w r (from at d)
-inverse-here {d = d} {at = at} o m h s = record { row = record { tableau = o .tableau; wide = o .wide; own = h }; room = rows-room d at m h s }
+inverse-here {d = d} {at = at} o m h s = record {
+  row = record { old = record { tableau = o .tableau; own = omega (arith, o .wide) }; wide = o .wide };
+  room = rows-room d at m h s;
+}
 
 pub inverse-all : {b : List ℕ} {w : ℕ} {d : List ℕ} {r : ℕ} {e : List ℕ} → Inverts b w d → RowsTo w (rowOf (inverse (tableauOf b))) (set d 0 w) r e → 2 * w ≤ r
     → e ≡ written Done (tableauRecord (inverse (tableauOf b))) d

@@ -10,7 +10,7 @@ use Rattle.pauli_group.specs.PauliString.{PauliString}
 use Rattle.clifford_group.specs.Tableau.{Tableau, hasX, hasZ, transposed}
 use Rattle.pauli.specs.Layout.{encodeString}
 use Rattle.clifford.specs.Layout.{rowLength, recordLength, rowOf, widthOf, tableauOf, FormedTableau}
-use Rattle.clifford.specs.Rows.{rowQubit}
+use Rattle.clifford.specs.Rows.{OwnRow, rowQubit}
 
 -- which bit of a letter row r of the inverse reads, of width w: the z bit for an X row and the x bit for a Z row
 unfoldable pub rowBit : ℕ → ℕ → Letter → Bool
@@ -30,11 +30,10 @@ bodyOf t r = transposed t (rowBit (t .width) r) (rowQubit (t .width) r)
 
 -- ---- what the functions that write them may count on
 
--- row r of the inverse of b, which has width w
+-- row r of the inverse of b, which has width w: the old row r is one of b's
 pub record RowBack (b : List ℕ) (w r : ℕ) : Type 0 where
-  pub tableau : FormedTableau b
+  pub old : OwnRow b r
   pub wide : w ≡ widthOf b
-  pub own : r < 2 * w
 
 -- the same, with a row s of b to be read; and with a qubit c of its body
 pub record ReadsBit (b : List ℕ) (w r s : ℕ) : Type 0 where
@@ -74,4 +73,5 @@ pub record InvertsTo (b d : List ℕ) : Type 0 where
 pub record Inverts (b : List ℕ) (w : ℕ) (d : List ℕ) : Type 0 where
   pub tableau : FormedTableau b
   pub wide : w ≡ widthOf b
+  pub narrow : w ≤ 128
   pub room : recordLength w ≤ length d
