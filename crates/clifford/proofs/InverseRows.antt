@@ -37,6 +37,11 @@ use Rattle.clifford.proofs.RecordWriting.{RowsTo, rows-none, rows-room,
 pub letter-row : {b : List ℕ} {r q : ℕ} → OwnLetter b r q → OwnRow b r
 letter-row o = o .row
 
+-- a row has a phase, and its letters
+pub phase-inside : {b p : List ℕ} {r : ℕ} → OwnRow b r → p ≡ rowPart b r → 0 < length p
+unfolding rowLength
+phase-inside {b} {p} {r} o e = omega (arith, ap length e, part-formed (o .tableau) r (o .own) .long)
+
 pub letter-inside : {b p : List ℕ} {r q : ℕ} → OwnLetter b r q → p ≡ rowPart b r → q + 1 < length p
 unfolding rowLength
 letter-inside {b} {p} {r} {q} o e = omega (arith, o .qubit, ap length e, part-formed (o .row .tableau) r (o .row .own) .long)
@@ -243,7 +248,7 @@ module _ {b : List ℕ} {w r : ℕ} {s k : List ℕ} (o : SendsBody b w r s k) w
       ∙ ap (λ u. phaseByte (apply (tableauOf b) u .phase)) (encoded-row w body long (o .body) (body-in (o .row)))))
       ∙ ap phaseByte (sym (inverse-phase (tableauOf b) r))
 
-pub ruleset phases-back = (back-sends, back-phase, needs)
+pub ruleset phases-back = (back-sends, back-phase, phase-inside, needs)
 
 module _ {b : List ℕ} {w r : ℕ} {s k out : List ℕ} (o : InvertsBy b w r s k out) where
   abbrev made : PauliString
