@@ -5,9 +5,14 @@ pub mod TableauAsking
 pub mod WorkRows
 pub mod Sendings
 pub mod RecordWriting
+pub mod InverseRows
 pub mod TableauAnswers
+pub mod InverseAnswers
 pub mod TableauImages
 pub mod ImageSetting
 pub mod ValidRows
 pub mod PauliTableaux
 pub mod Supports
+pub mod RecordLaws
+pub mod WayBacks
+pub mod WayBackSteps

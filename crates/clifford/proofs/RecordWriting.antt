@@ -200,12 +200,12 @@ row-made t f x z w r e h = elim (decLt r w) [
 ]
 
 -- ---- finished rows
-encoded-row : (w : ℕ) {k : List ℕ} (s : PauliString) → length k ≡ suc w → k ≡ encodeString w s → Within w s → stringIn k ≡ s
+pub encoded-row : (w : ℕ) {k : List ℕ} (s : PauliString) → length k ≡ suc w → k ≡ encodeString w s → Within w s → stringIn k ≡ s
 encoded-row w {k} s long e h =
     let same : lettersIn k ≡ w = omega arith in
     ap (λ (j : ℕ). decodeString j k) same ∙ ap (decodeString w) e ∙ decode-encode w s h
 
-encoded-formed : (w : ℕ) {k : List ℕ} (s : PauliString) → k ≡ encodeString w s → WellFormed (lettersIn k) k
+pub encoded-formed : (w : ℕ) {k : List ℕ} (s : PauliString) → k ≡ encodeString w s → WellFormed (lettersIn k) k
 encoded-formed w {k} s e =
     let long : length k ≡ suc w = ap length e ∙ length-encode w s in
     let same : w ≡ lettersIn k = omega arith in

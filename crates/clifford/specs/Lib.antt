@@ -4,5 +4,7 @@ pub mod Support
 pub mod Answers
 pub mod Questions
 pub mod Rows
+pub mod InverseRows
 pub mod Tableaux
 pub mod Writing
+pub mod WayBack

@@ -78,3 +78,6 @@ pauliAnswer s room = stringQuestions s andThen roomQuestion (recordLength (spanT
 -- the room goes by the count
 unfoldable pub supportAnswer : List ℕ → ℕ → Outcome
 supportAnswer t room = tableauQuestions t andThen roomQuestion (length (supportQubits (tableauOf t))) room
+
+unfoldable pub inverseAnswer : List ℕ → ℕ → Outcome
+inverseAnswer t room = tableauQuestions t andThen roomQuestion (recordLength (widthOf t)) room

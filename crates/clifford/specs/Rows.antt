@@ -117,6 +117,11 @@ pub record WorkPlace (d : List ℕ) (q : ℕ) : Type 0 where
   pub place : q + 1 < length d
   pub narrow : length d ≤ 129
 
+-- a row of the record b, and a qubit of it
+pub record OwnLetter (b : List ℕ) (r q : ℕ) : Type 0 where
+  pub row : OwnRow b r
+  pub qubit : q < widthOf b
+
 -- a row of any content, to be cleared
 pub record ClearRow (d : List ℕ) (p : ℕ) : Type 0 where
   pub some : 0 < length d

@@ -2,7 +2,7 @@
 use Prim.Native.Nat.{ℕ, _+_}
 use mathlib.Core.Bool.{Bool}
 use mathlib.Core.List.{List}
-use Rattle.clifford_group.specs.Tableau.{identityTableau, widen, apply, compose, isValid}
+use Rattle.clifford_group.specs.Tableau.{identityTableau, widen, apply, compose, isValid, inverse}
 use Rattle.pauli.specs.Layout.{stringOf, stringRecord}
 use Rattle.clifford.specs.Layout.{widthOf, rowPart, tableauOf, tableauRecord}
 use Rattle.clifford.specs.Answers.{partAnswer}
@@ -21,6 +21,9 @@ applyRecord t s = stringRecord (apply (tableauOf t) (stringOf s))
 
 unfoldable pub composeRecord : List ℕ → List ℕ → List ℕ
 composeRecord a b = tableauRecord (compose (tableauOf a) (tableauOf b))
+
+unfoldable pub inverseRecord : List ℕ → List ℕ
+inverseRecord t = tableauRecord (inverse (tableauOf t))
 
 -- "a smaller width gives a copy"
 unfoldable pub extendRecord : List ℕ → ℕ → List ℕ

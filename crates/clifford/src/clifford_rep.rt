@@ -6,12 +6,14 @@ ghost use lib.ListN.{length};
 ghost use Rattle.pauli.specs.declared.refusal.Outcome.the-variants.{Done};
 ghost use Rattle.pauli.specs.Answers.{FlagAnswered, Written, written};
 ghost use Rattle.clifford.specs.Answers.{CountWritten};
-ghost use Rattle.clifford.specs.Questions.{tableauQuestions, imageQuestions, setQuestions, identityAnswer, applyQuestions, applyAnswer, composeAnswer, extendQuestions, extendAnswer, pauliAnswer, supportAnswer};
-ghost use Rattle.clifford.specs.Tableaux.{recordValid, xImagePart, zImagePart, setXRecord, setZRecord, identityRecord, applyRecord, composeRecord, extendRecord, pauliRecord, supportBytes};
+ghost use Rattle.clifford.specs.Questions.{tableauQuestions, imageQuestions, setQuestions, identityAnswer, applyQuestions, applyAnswer, composeAnswer, extendQuestions, extendAnswer, inverseAnswer, pauliAnswer, supportAnswer};
+ghost use Rattle.clifford.specs.Tableaux.{recordValid, xImagePart, zImagePart, setXRecord, setZRecord, identityRecord, applyRecord, composeRecord, extendRecord, inverseRecord, pauliRecord, supportBytes};
 ghost use Rattle.clifford.specs.Writing.{Applies, Identifies, ExtendsTo, ComposesTo, SignsTo};
+ghost use Rattle.clifford.specs.InverseRows.{InvertsTo};
 use crate::answer::Count;
 use crate::composing::write_composed;
 use crate::composing::write_extended;
+use crate::inverting::write_inverse;
 use crate::layout::record_length;
 use crate::layout::row;
 use crate::layout::width;
@@ -261,6 +263,36 @@ pub fn extended_to(t: &[u8], n: usize, dst: &mut [u8]) -> Outcome
     let answer = extend_answer(t, n, dst.len());
     if let Outcome::Done = answer {
         extend_into(t, n, dst);
+    }
+    answer
+}
+
+// ---- inverse
+
+fn inverse_answer(t: &[u8], room: usize) -> Outcome
+    ensures { λ r. ⌜ r ≡ inverseAnswer (now (t .entry)) room ⌝ }
+{
+    let first = check_tableau(t);
+    if let Outcome::Done = first {
+        return check_room(record_length(width(t)), room);
+    }
+    first
+}
+
+fn inverse_into(t: &[u8], dst: &mut [u8])
+    requires { ⌜ InvertsTo (now t) (now dst) ⌝ }
+    ensures { λ _. ⌜ now (dst .exit) ≡ written Done (inverseRecord (now (t .entry))) (now (dst .entry)) ⌝ }
+{
+    write_inverse(t, width(t), dst);
+}
+
+// The inverse. Of an invalid tableau, what the same rule gives.
+pub fn inverse(t: &[u8], dst: &mut [u8]) -> Outcome
+    ensures { λ r. ⌜ Written (inverseAnswer (now (t .entry)) (length (now (dst .entry)))) (inverseRecord (now (t .entry))) (now (dst .entry)) (now (dst .exit)) r ⌝ }
+{
+    let answer = inverse_answer(t, dst.len());
+    if let Outcome::Done = answer {
+        inverse_into(t, dst);
     }
     answer
 }

@@ -3,7 +3,7 @@ ghost use mathlib.Core.Path.{_≡_};
 ghost use Prim.Native.Nat.{_≤_};
 ghost use Rattle.pauli.specs.Layout.{phaseOf, letterByte};
 ghost use Rattle.clifford.specs.Layout.{widthOf, recordLength, rowOffset, rowOf, rowPart, tableauOf};
-ghost use Rattle.clifford.specs.Rows.{Sized, RowIndex, OwnRow, WorkOnRow, Finished, rowQubit, rowLetter, rowTimes, rowWritten, rowLetters, lettersIn, stringIn};
+ghost use Rattle.clifford.specs.Rows.{Sized, RowIndex, OwnRow, OwnLetter, WorkOnRow, Finished, rowQubit, rowLetter, rowTimes, rowWritten, rowLetters, lettersIn, stringIn};
 use pauli::rows::copy;
 use pauli::rows::multiply_row;
 
@@ -92,4 +92,12 @@ pub(crate) fn row_letter(width: usize, r: usize) -> u8
     ensures { λ l. ⌜ l ≡ letterByte (rowLetter width r) ⌝ }
 {
     if r < width { 1 } else { 2 }
+}
+
+// The letter of row r at qubit q.
+pub(crate) fn letter_in_row(t: &[u8], r: usize, q: usize) -> u8
+    requires { ⌜ OwnLetter (now t) r q ⌝ }
+    ensures { λ l. ⌜ l ≡ letterByte (rowOf (tableauOf (now (t .entry))) r .letters q) ⌝ }
+{
+    row(t, r)[q + 1]
 }

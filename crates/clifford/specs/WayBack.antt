@@ -1,0 +1,106 @@
+-- Steps and the way back (scope document, section of that name): lists of calls `compose(a, record)`, refused ones included.
+use Prim.Native.Nat.{ℕ, suc, max, _≤_}
+use mathlib.Core.Path.{_≡_}
+use mathlib.Core.Bool.{Bool, true, false, cond}
+use mathlib.Core.List.{List, [], _∷_, _++_}
+use lib.ListN.{length, take}
+use Rattle.clifford_group.specs.Tableau.{isValid}
+use Rattle.pauli.specs.declared.refusal.Outcome.{Outcome}
+use Rattle.pauli.specs.declared.refusal.Outcome.the-variants.{Done, Refused}
+use Rattle.pauli.specs.Answers.{written}
+use Rattle.pauli.specs.Layout.{stringLength}
+use Rattle.pauli.specs.Questions.{stringQuestions}
+use Rattle.clifford.specs.Layout.{recordLength, widthOf, tableauOf}
+use Rattle.clifford.specs.Questions.{tableauQuestions, applyAnswer, composeAnswer, inverseAnswer}
+use Rattle.clifford.specs.Tableaux.{identityRecord, applyRecord, composeRecord, inverseRecord}
+
+-- "a and the destination are whatever the caller brings"
+pub record Call : Type 0 where
+  pub a : List ℕ
+  pub destination : List ℕ
+
+-- "A call is accepted when its questions on entry all let it by": the answer that `compose` promises, where b is the record r
+unfoldable pub isDone : Outcome → Bool
+isDone Done = true
+isDone (Refused x) = false
+
+unfoldable pub callAnswer : List ℕ → Call → Outcome
+callAnswer r c = composeAnswer (c .a) r (length (c .destination))
+
+unfoldable pub accepts : List ℕ → Call → Bool
+accepts r c = isDone (callAnswer r c)
+
+-- what `compose` promises the destination to hold then
+unfoldable pub destinationAfter : List ℕ → Call → List ℕ
+destinationAfter r c = written (callAnswer r c) (composeRecord (c .a) r) (c .destination)
+
+-- "then what the last accepted call wrote", the record's own bytes of its destination; "A refused call changes no record"
+unfoldable pub nextRecord : List ℕ → Call → List ℕ
+nextRecord r c = cond (accepts r c) (take (recordLength (max (widthOf (c .a)) (widthOf r))) (destinationAfter r c)) r
+
+-- the record after a list of calls, from the record r on
+unfoldable pub recordAfter : List ℕ → List Call → List ℕ
+recordAfter r [] = r
+recordAfter r (c ∷ cs) = recordAfter (nextRecord r c) cs
+
+-- "step j is the j-th accepted one": the tableaux that the accepted calls brought, in their order
+unfoldable pub stepsOf : List ℕ → List Call → List (List ℕ)
+stepsOf r [] = []
+stepsOf r (c ∷ cs) = cond (accepts r c) (c .a ∷ stepsOf (nextRecord r c) cs) (stepsOf (nextRecord r c) cs)
+
+-- "That its a is valid by the rule of `is_valid`, and no wider than n, is a premise on the list"
+pub record Step (n : ℕ) (a : List ℕ) : Type 0 where
+  pub valid : isValid (tableauOf a) ≡ true
+  pub narrow : widthOf a ≤ n
+
+pub data Steps (n : ℕ) : List (List ℕ) → Type 0 where
+  none : Steps n []
+  step : {a : List ℕ} {rest : List (List ℕ)} → Step n a → Steps n rest → Steps n (a ∷ rest)
+
+-- "composes their tableaux in that order, each on the left", from the record p on
+unfoldable pub productFrom : List ℕ → List (List ℕ) → List ℕ
+productFrom p [] = p
+productFrom p (a ∷ rest) = productFrom (composeRecord a p) rest
+
+-- "from the identity of any one width up to n"
+unfoldable pub productOf : ℕ → List (List ℕ) → List ℕ
+productOf w steps = productFrom (identityRecord w) steps
+
+-- "what the steps give it is by that rule over their own tableaux, each fed the answer of the one before"
+unfoldable pub sentBy : List (List ℕ) → List ℕ → List ℕ
+sentBy [] s = s
+sentBy (a ∷ rest) s = sentBy rest (applyRecord a s)
+
+-- The way back from the whole list, first and then rest, to the record after first. p is the product of the steps of rest from
+-- the identity of width w, v its inverse.
+module _ (n w : ℕ) (first rest : List Call) where
+  abbrev pub recordThen : List ℕ
+  recordThen = recordAfter (identityRecord n) first
+
+  abbrev pub recordNow : List ℕ
+  recordNow = recordAfter (identityRecord n) (first ++ rest)
+
+  abbrev pub stepsThen : List (List ℕ)
+  stepsThen = stepsOf (identityRecord n) first
+
+  abbrev pub product : List ℕ
+  product = productOf w (stepsOf recordThen rest)
+
+  abbrev pub back : List ℕ
+  back = inverseRecord product
+
+  pub record WayBack : Type 0 where
+    -- each call is accepted wherever the room suffices
+    pub inverts : (room : ℕ) → length product ≤ room → inverseAnswer product room ≡ Done
+    pub composes : (room : ℕ) → length recordNow ≤ room → composeAnswer back recordNow room ≡ Done
+    pub applies : (s : List ℕ) → stringQuestions s ≡ Done → (room : ℕ) → stringLength ≤ room → applyAnswer (composeRecord back recordNow) s room ≡ Done
+    -- byte for byte, the record after first
+    pub bytes : composeRecord back recordNow ≡ recordThen
+    -- strings of all letters and phases go as by the steps of first
+    pub strings : (s : List ℕ) → stringQuestions s ≡ Done → applyRecord (composeRecord back recordNow) s ≡ sentBy stepsThen s
+    -- the inverse is a record, valid, of the product's width, and two-sided
+    pub formed : tableauQuestions back ≡ Done
+    pub valid : isValid (tableauOf back) ≡ true
+    pub width : widthOf back ≡ widthOf product
+    pub left : composeRecord back product ≡ identityRecord (widthOf product)
+    pub right : composeRecord product back ≡ identityRecord (widthOf product)
