@@ -1,0 +1,57 @@
+-- Lists of one length, one after another.
+use mathlib.Core.Path.{_≡_, refl, sym, ap, ap₂, _∙_, subst}
+use mathlib.Core.Logic.{_≢_}
+use mathlib.Core.List.{List, [], _∷_, _++_}
+use Prim.Native.Nat.{ℕ, zero, suc, _+_, _*_, _-_, _≤_, _<_, zero-le}
+use native.Mathlib.Nat.{le-refl, not-suc-le-zero, mul-le-mul-right, suc-mul, zero-mul}
+use native.Mathlib.Omega.{arith}
+use native.Mathlib.Decide.{ℕ-discrete, decLt}
+use lib.ListN.{length, getD, take, drop, length-append, length-drop, List·getD-append}
+use lib.Seq.{take-add, take-all, drop-at, take-append-le, drop-append-le, getD-append-add}
+use Rattle.clifford.specs.Layout.{joined}
+
+pub joined-ext : (k : ℕ) (f g : ℕ → List ℕ) → ((r : ℕ) → r < k → f r ≡ g r) → joined k f ≡ joined k g
+unfolding joined
+joined-ext zero f g h = refl
+joined-ext (suc k) f g h = ap₂ _++_ (joined-ext k f g (λ r l. h r (omega arith))) (h k (le-refl (suc k)))
+
+pub joined-more : (k : ℕ) (f : ℕ → List ℕ) → joined (suc k) f ≡ joined k f ++ f k
+unfolding joined
+joined-more k f = refl
+
+module _ (m : ℕ) (f : ℕ → List ℕ) (each : (r : ℕ) → length (f r) ≡ m) where
+  pub length-joined : (k : ℕ) → length (joined k f) ≡ k * m
+  unfolding joined
+  length-joined zero = sym (zero-mul m)
+  length-joined (suc k) = length-append (joined k f) (f k) ∙ ap₂ _+_ (length-joined k) (each k) ∙ sym (suc-mul k m)
+
+  -- the part of each
+  pub joined-part : (k r : ℕ) → r < k → take m (drop (r * m) (joined k f)) ≡ f r
+  unfolding joined
+  joined-part zero r l = absurd (not-suc-le-zero l)
+  joined-part (suc k) r l = elim (ℕ-discrete r k) [
+    | yes e ↦ ap (take m) (drop-at (joined k f) (f k) (r * m) (length-joined k ∙ ap (λ j. j * m) (sym e)))
+        ∙ take-all m (f k) (omega (arith, each k)) ∙ ap f (sym e)
+    | no e ↦ let room : suc r * m ≤ k * m = mul-le-mul-right m (omega arith) in
+        ap (take m) (drop-append-le (r * m) (joined k f) (f k) (omega (arith, length-joined k)))
+        ∙ take-append-le m (drop (r * m) (joined k f)) (f k) (omega (arith, length-joined k, length-drop (r * m) (joined k f)))
+        ∙ joined-part k r (omega arith)
+  ]
+
+-- a list is made of its parts
+pub parts-joined : (k m : ℕ) (l : List ℕ) → joined k (λ r. take m (drop (r * m) l)) ≡ take (k * m) l
+unfolding joined
+parts-joined zero m l = ap (λ j. take j l) (sym (zero-mul m))
+parts-joined (suc k) m l =
+    ap (λ a. a ++ take m (drop (k * m) l)) (parts-joined k m l) ∙ sym (take-add (k * m) m l) ∙ ap (λ j. take j l) (sym (suc-mul k m))
+
+-- a byte of them is a byte of one of them
+pub joined-small : (b : ℕ) (f : ℕ → List ℕ) → ((r i : ℕ) → getD (f r) i 0 ≤ b) → (k i : ℕ) → getD (joined k f) i 0 ≤ b
+unfolding joined
+joined-small b f h zero i = zero-le
+joined-small b f h (suc k) i = elim (decLt i (length (joined k f))) [
+  | yes l ↦ omega (arith, List·getD-append (joined k f) (f k) 0 i l, joined-small b f h k i)
+  | no l ↦ let at : i ≡ length (joined k f) + (i - length (joined k f)) = omega arith in
+      subst (λ j. getD (joined k f ++ f k) j 0 ≤ b) (sym at)
+      (omega (arith, getD-append-add (joined k f) (f k) (i - length (joined k f)) 0, h k (i - length (joined k f))))
+]

@@ -1,0 +1,98 @@
+-- Images handed out: the row's own part of the record, and no bytes exactly where the questions refuse.
+use mathlib.Core.Path.{_≡_, refl, sym, ap, ap₂, _∙_, subst}
+use mathlib.Core.List.{List, []}
+use Prim.Native.Nat.{ℕ, zero, suc, _+_, _*_, _-_, _≤_, _<_}
+use native.Mathlib.Omega.{arith}
+use lib.ListN.{length, take, drop}
+use mir.Syntax.{w64}
+use mir.Val.{Fits}
+use borrow.Author.Needs.{needs}
+use Rattle.clifford_group.specs.Tableau.{Tableau}
+use Rattle.pauli.specs.declared.refusal.Refusal.{Refusal}
+use Rattle.pauli.specs.declared.refusal.Outcome.{Outcome}
+use Rattle.pauli.specs.declared.refusal.Outcome.the-variants.{Done, Refused}
+use Rattle.pauli.specs.Questions.{_andThen_}
+use Rattle.pauli.proofs.Asking.{passed, refused, done-first, done-second}
+use Rattle.clifford.specs.Answers.{partAnswer}
+use Rattle.clifford.specs.Layout.{rowLength, encodeRow, rowOf, widthOf, rowPart, tableauOf}
+use Rattle.clifford.specs.Questions.{tableauQuestions, slotQuestion, imageQuestions}
+use Rattle.clifford.specs.Rows.{OwnRow}
+use Rattle.clifford.specs.Tableaux.{xImagePart, zImagePart}
+use Rattle.clifford.proofs.TableauRows.{row-there}
+use Rattle.clifford.proofs.TableauRecords.{row-x, row-z, row-part, part-formed, width-of}
+use Rattle.clifford.proofs.TableauAsking.{tableau-formed, slot-is}
+
+pub image-slot : (t : List ℕ) (slot : ℕ) {w : ℕ} {r q : Outcome} → r ≡ tableauQuestions t → r ≡ Done → w ≡ widthOf t → q ≡ slotQuestion slot w → q ≡ imageQuestions t slot
+unfolding imageQuestions
+image-slot t slot p h e k = passed p h (k ∙ ap (slotQuestion slot) e)
+
+pub image-not : (t : List ℕ) (slot : ℕ) {r : Outcome} {x : Refusal} → r ≡ tableauQuestions t → r ≡ Refused x → r ≡ imageQuestions t slot
+unfolding imageQuestions
+image-not t slot p h = refused _ p h
+
+module _ (t : List ℕ) (slot : ℕ) {r : Outcome} (p : r ≡ imageQuestions t slot) (h : r ≡ Done) where
+  both : tableauQuestions t andThen slotQuestion slot (widthOf t) ≡ Done
+  unfolding imageQuestions
+  both = sym p ∙ h
+
+  below : slot < widthOf t
+  below = slot-is slot (widthOf t) (done-second (tableauQuestions t) _ both)
+
+  pub own-x : OwnRow t slot
+  own-x = record { tableau = tableau-formed t (done-first _ _ both); own = omega (arith, below) }
+
+  pub own-z : {n : ℕ} → n ≡ widthOf t → OwnRow t (n + slot)
+  own-z e = record { tableau = tableau-formed t (done-first _ _ both); own = omega (arith, below) }
+
+  pub image-fits : {n : ℕ} → n ≡ widthOf t → Fits w64 (n + slot)
+  image-fits e = record { fits = omega (arith, below, own-x .tableau .narrow) }
+
+  answered : (l : List ℕ) → l ≡ partAnswer (imageQuestions t slot) l
+  unfolding partAnswer
+  answered l = ap (λ q. partAnswer q l) (sym h ∙ p)
+
+  pub x-handed : {l : List ℕ} → l ≡ rowPart t slot → l ≡ xImagePart t slot
+  unfolding xImagePart
+  x-handed e = e ∙ answered (rowPart t slot)
+
+  pub z-handed : {l : List ℕ} {n : ℕ} → n ≡ widthOf t → l ≡ rowPart t (n + slot) → l ≡ zImagePart t slot
+  unfolding zImagePart
+  z-handed en e = e ∙ ap (λ (j : ℕ). rowPart t (j + slot)) en ∙ answered (rowPart t (widthOf t + slot))
+
+  -- it is the image, and some bytes
+  pub x-image : xImagePart t slot ≡ encodeRow (widthOf t) (tableauOf t .xImage slot)
+  x-image =
+      sym (x-handed refl) ∙ sym (row-there (part-formed (own-x .tableau) slot (own-x .own)))
+      ∙ ap (encodeRow (widthOf t)) (sym (row-part t slot (own-x .own)) ∙ row-x (tableauOf t) slot (omega (arith, below, width-of t)))
+
+  pub z-image : zImagePart t slot ≡ encodeRow (widthOf t) (tableauOf t .zImage slot)
+  z-image =
+      let own : widthOf t + slot < 2 * widthOf t = own-z refl .own in
+      sym (z-handed refl refl) ∙ sym (row-there (part-formed (own-x .tableau) (widthOf t + slot) own))
+      ∙ ap (encodeRow (widthOf t)) (sym (row-part t (widthOf t + slot) own) ∙ ap (λ (j : ℕ). rowOf (tableauOf t) (j + slot)) (sym (width-of t)) ∙ row-z (tableauOf t) slot)
+
+module _ (t : List ℕ) (slot : ℕ) {r : Outcome} {x : Refusal} (p : r ≡ imageQuestions t slot) (h : r ≡ Refused x) where
+  empty : (l : List ℕ) → [] ≡ partAnswer (imageQuestions t slot) l
+  unfolding partAnswer
+  empty l = ap (λ q. partAnswer q l) (sym h ∙ p)
+
+  pub x-none : [] ≡ xImagePart t slot
+  unfolding xImagePart
+  x-none = empty (rowPart t slot)
+
+  pub z-none : [] ≡ zImagePart t slot
+  unfolding zImagePart
+  z-none = empty (rowPart t (widthOf t + slot))
+
+-- the part is empty exactly where the questions refuse: it is where they do (above), and only there
+row-some : {t : List ℕ} {r : ℕ} → OwnRow t r → rowPart t r ≡ [] → ⊥
+unfolding rowLength
+row-some {t} {r} o e = let long = part-formed (o .tableau) r (o .own) .long in omega (arith, ap length e)
+
+pub x-empty : (t : List ℕ) (slot : ℕ) → xImagePart t slot ≡ [] → imageQuestions t slot ≡ Done → ⊥
+x-empty t slot e h = row-some (own-x t slot refl h) (x-handed t slot refl h refl ∙ e)
+
+pub z-empty : (t : List ℕ) (slot : ℕ) → zImagePart t slot ≡ [] → imageQuestions t slot ≡ Done → ⊥
+z-empty t slot e h = row-some (own-z t slot refl h refl) (z-handed t slot refl h refl refl ∙ e)
+
+pub ruleset images = (image-slot, image-not, own-x, own-z, image-fits, x-handed, z-handed, x-none, z-none, needs)

@@ -1,0 +1,11 @@
+-- `clifford_rep::compose` meets its contract: the questions, and the composition where they let it by.
+use Rattle.clifford.proofs.TableauAnswers.{compositions}
+use Rattle.clifford.proofs.clifford_rep.compose.Statement.{statement}
+use Rattle.clifford.proofs.clifford_rep.compose.Tie as tie
+
+pub compose-spec : {M : Type 1} → statement M
+compose-spec =
+    tie.close
+    (tie.spec
+    (λ c. search compositions) (λ c. search compositions) (λ c. search compositions) (λ c. search compositions)
+    (λ c. search compositions) (λ c. search compositions) (λ c. search compositions))

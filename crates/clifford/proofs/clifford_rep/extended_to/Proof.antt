@@ -1,0 +1,11 @@
+-- `clifford_rep::extended_to` meets its contract: the questions, and the widened tableau where they let it by.
+use Rattle.clifford.proofs.TableauAnswers.{extensions}
+use Rattle.clifford.proofs.clifford_rep.extended_to.Statement.{statement}
+use Rattle.clifford.proofs.clifford_rep.extended_to.Tie as tie
+
+pub extended-to-spec : {M : Type 1} → statement M
+extended-to-spec =
+    tie.close
+    (tie.spec
+    (λ c. search extensions) (λ c. search extensions) (λ c. search extensions) (λ c. search extensions)
+    (λ c. search extensions) (λ c. search extensions) (λ c. search extensions))

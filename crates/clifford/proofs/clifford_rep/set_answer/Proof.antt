@@ -1,0 +1,12 @@
+-- `clifford_rep::set_answer` meets its contract: the questions in their order.
+use Rattle.clifford.proofs.ImageSetting.{image-questions}
+use Rattle.clifford.proofs.clifford_rep.set_answer.Statement.{statement}
+use Rattle.clifford.proofs.clifford_rep.set_answer.Tie as tie
+
+pub set-answer-spec : {M : Type 1} → statement M
+set-answer-spec =
+    tie.close
+    (tie.spec
+    (λ c. search image-questions) (λ c. search image-questions) (λ c. search image-questions) (λ c. search image-questions)
+    (λ c. search image-questions) (λ c. search image-questions) (λ c. search image-questions) (λ c. search image-questions)
+    (λ c. search image-questions) (λ c. search image-questions) (λ c. search image-questions))

@@ -1,0 +1,68 @@
+-- The bytes of a tableau record. Its layout stands here and nowhere else. Scope document, "Tableau record".
+use Prim.Native.Nat.{ℕ, zero, suc, _+_, _*_, _-_, _≤_, _<_}
+use mathlib.Core.Path.{_≡_}
+use mathlib.Core.Bool.{cond}
+use mathlib.Core.List.{List, [], _∷_, _++_}
+use lib.Dec.{ltb}
+use lib.ListN.{length, take, drop, getD}
+use Rattle.pauli_group.specs.Letter.{I}
+use Rattle.pauli_group.specs.PauliString.{PauliString}
+use Rattle.clifford_group.specs.Tableau.{Tableau}
+use Rattle.pauli.specs.Places.{listed}
+use Rattle.pauli.specs.Layout.{phaseByte, phaseOf, letterByte, letterOf}
+
+-- ---- rows: "a row is a phase and n letters". A row of a tableau has a codec of its own, apart from that of strings.
+unfoldable pub rowLength : ℕ → ℕ
+rowLength w = suc w
+
+unfoldable pub encodeRow : ℕ → PauliString → List ℕ
+encodeRow w s = phaseByte (s .phase) ∷ listed w (λ q. letterByte (s .letters q))
+
+unfoldable pub decodeRow : ℕ → List ℕ → PauliString
+decodeRow w b = record {
+  phase = phaseOf (getD b 0 0);
+  letters = λ q. cond (ltb q w) (letterOf (getD b (suc q) 0)) I;
+}
+
+-- ---- records: "Byte 0 is the width n, 0 to 128. X rows 0 to n−1 follow, then Z rows"
+
+-- where row r starts
+unfoldable pub rowOffset : ℕ → ℕ → ℕ
+rowOffset w r = 1 + r * rowLength w
+
+-- "Length 1 + 2n(n+1)"
+unfoldable pub recordLength : ℕ → ℕ
+recordLength w = 1 + 2 * w * rowLength w
+
+-- the rows of a tableau in the order of its record
+unfoldable pub rowOf : Tableau → ℕ → PauliString
+rowOf t r = cond (ltb r (t .width)) (t .xImage r) (t .zImage (r - t .width))
+
+-- the lists f 0 to f (k - 1), one after another
+unfoldable pub joined : ℕ → (ℕ → List ℕ) → List ℕ
+joined zero f = []
+joined (suc k) f = joined k f ++ f k
+
+unfoldable pub tableauRecord : Tableau → List ℕ
+tableauRecord t = t .width ∷ joined (2 * t .width) (λ r. encodeRow (t .width) (rowOf t r))
+
+-- the way back: the width, the part of row r, and the tableau
+abbrev pub widthOf : List ℕ → ℕ
+widthOf b = getD b 0 0
+
+unfoldable pub rowPart : List ℕ → ℕ → List ℕ
+rowPart b r = take (rowLength (widthOf b)) (drop (rowOffset (widthOf b) r) b)
+
+unfoldable pub tableauOf : List ℕ → Tableau
+tableauOf b = record {
+  width = widthOf b;
+  xImage = λ q. decodeRow (widthOf b) (rowPart b q);
+  zImage = λ q. decodeRow (widthOf b) (rowPart b (widthOf b + q));
+}
+
+-- the bytes of some tableau of width at most 128
+pub record FormedTableau (b : List ℕ) : Type 0 where
+  pub some : 0 < length b
+  pub narrow : widthOf b ≤ 128
+  pub long : length b ≡ recordLength (widthOf b)
+  pub small : (k : ℕ) → 0 < k → k < length b → getD b k 0 ≤ 3

@@ -1,0 +1,7 @@
+pub mod Layout
+pub mod Images
+pub mod Answers
+pub mod Questions
+pub mod Rows
+pub mod Tableaux
+pub mod Writing

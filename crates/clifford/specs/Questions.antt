@@ -1,0 +1,72 @@
+-- The questions put to tableaux (scope document, "Questions on entry"), and those of each public function in their order.
+use Prim.Native.Nat.{ℕ, max}
+use mathlib.Core.Bool.{_&&_}
+use mathlib.Core.List.{List}
+use lib.Dec.{ltb, leb, eqb}
+use lib.ListN.{length, drop}
+use Rattle.pauli_group.specs.PauliString.{PauliString, qubits}
+use Rattle.pauli.specs.declared.refusal.Refusal.the-variants.{Width, Length, ImageWidth, Slot}
+use Rattle.pauli.specs.declared.refusal.Outcome.{Outcome}
+use Rattle.pauli.specs.Places.{firstPlace}
+use Rattle.pauli.specs.Layout.{stringLength, stringOf}
+use Rattle.pauli.specs.Questions.{ask, _andThen_, bytesQuestion, stringQuestions, roomQuestion}
+use Rattle.clifford.specs.Layout.{widthOf, recordLength}
+use Rattle.clifford.specs.Images.{hasLetter}
+
+-- "Is the width at most 128? 1"
+unfoldable pub widthQuestion : ℕ → Outcome
+widthQuestion n = ask (leb n qubits) Width
+
+-- "Is the length exact (.. tableau as above)? 2"
+unfoldable pub lengthQuestion : List ℕ → Outcome
+lengthQuestion b = ask (eqb (length b) (recordLength (widthOf b))) Length
+
+-- "a tableau of no bytes has no width and gives 2"; then 1, 2, and 3 for the first bad offset after the width
+unfoldable pub tableauQuestions : List ℕ → Outcome
+tableauQuestions b =
+    ask (ltb 0 (length b)) Length andThen widthQuestion (widthOf b) andThen lengthQuestion b andThen bytesQuestion 1 (drop 1 b)
+
+-- "Is the slot (also of an image handed out) [inside the width]? 15, the slot"
+unfoldable pub slotQuestion : ℕ → ℕ → Outcome
+slotQuestion slot w = ask (ltb slot w) (Slot slot w)
+
+-- "is the image inside the width? 14, its lowest qubit outside", or 128 where there is none
+unfoldable pub lowestOutside : ℕ → PauliString → ℕ
+lowestOutside w s = firstPlace qubits (λ q. leb w q && hasLetter s q)
+
+unfoldable pub insideQuestion : ℕ → PauliString → Outcome
+insideQuestion w s = ask (leb qubits (lowestOutside w s)) (ImageWidth (lowestOutside w s) w)
+
+-- ---- the questions of each public function, in their order: those on the inputs, and the answer, which the room has part in
+
+unfoldable pub identityAnswer : ℕ → ℕ → Outcome
+identityAnswer n room = widthQuestion n andThen roomQuestion (recordLength n) room
+
+unfoldable pub imageQuestions : List ℕ → ℕ → Outcome
+imageQuestions t slot = tableauQuestions t andThen slotQuestion slot (widthOf t)
+
+-- "a tableau comes before a string"
+unfoldable pub applyQuestions : List ℕ → List ℕ → Outcome
+applyQuestions t s = tableauQuestions t andThen stringQuestions s
+
+unfoldable pub applyAnswer : List ℕ → List ℕ → ℕ → Outcome
+applyAnswer t s room = applyQuestions t s andThen roomQuestion stringLength room
+
+-- "Setting an image": the tableau, the string, 14, and then 15
+unfoldable pub setQuestions : List ℕ → ℕ → List ℕ → Outcome
+setQuestions t slot s =
+    applyQuestions t s andThen insideQuestion (widthOf t) (stringOf s) andThen slotQuestion slot (widthOf t)
+
+-- "The first three are all put to the first record before the second"
+unfoldable pub composeQuestions : List ℕ → List ℕ → Outcome
+composeQuestions a b = tableauQuestions a andThen tableauQuestions b
+
+unfoldable pub composeAnswer : List ℕ → List ℕ → ℕ → Outcome
+composeAnswer a b room = composeQuestions a b andThen roomQuestion (recordLength (max (widthOf a) (widthOf b))) room
+
+-- "A width given beside a tableau meets 1 after that tableau's 3"
+unfoldable pub extendQuestions : List ℕ → ℕ → Outcome
+extendQuestions t n = tableauQuestions t andThen widthQuestion n
+
+unfoldable pub extendAnswer : List ℕ → ℕ → ℕ → Outcome
+extendAnswer t n room = extendQuestions t n andThen roomQuestion (recordLength (max (widthOf t) n)) room

@@ -1,0 +1,143 @@
+-- What the functions on rows promise. A work row is a string of w letters, w + 1 bytes long; a finished one is put into a record.
+use Prim.Native.Nat.{ℕ, _+_, _*_, _-_, _≤_, _<_}
+use mathlib.Core.Path.{_≡_}
+use mathlib.Core.Bool.{cond}
+use mathlib.Core.List.{List, _++_}
+use lib.Dec.{ltb, eqb}
+use lib.ListN.{length, drop}
+use Rattle.pauli_group.specs.Letter.{Letter, X, Z}
+use Rattle.pauli_group.specs.PauliString.{PauliString, mul, scale, identityString}
+use Rattle.clifford_group.specs.Tableau.{Tableau}
+use Rattle.pauli.specs.Layout.{phaseOf, encodeString, decodeString, WellFormed}
+use Rattle.clifford.specs.Layout.{rowLength, encodeRow, rowPart, widthOf, FormedTableau}
+
+-- r is the size or offset n in a record, at most 33025
+pub record Sized (n r : ℕ) : Type 0 where
+  pub is : r ≡ n
+  pub small : r ≤ 33025
+
+-- row r of a record of width w is the image of this letter on this qubit
+unfoldable pub rowQubit : ℕ → ℕ → ℕ
+rowQubit w r = cond (ltb r w) r (r - w)
+
+unfoldable pub rowLetter : ℕ → ℕ → Letter
+rowLetter w r = cond (ltb r w) X Z
+
+-- the letter bytes of row r of a record
+unfoldable pub rowLetters : List ℕ → ℕ → List ℕ
+rowLetters b r = drop 1 (rowPart b r)
+
+-- the letters of a work row in number, and its string
+abbrev pub lettersIn : List ℕ → ℕ
+lettersIn d = length d - 1
+
+abbrev pub stringIn : List ℕ → PauliString
+stringIn d = decodeString (lettersIn d) d
+
+-- a work row multiplied by a string on the right
+unfoldable pub rowTimes : List ℕ → PauliString → List ℕ
+rowTimes d s = encodeString (lettersIn d) (mul (stringIn d) s)
+
+-- phase byte p and I everywhere, in n bytes
+unfoldable pub clearedRow : ℕ → ℕ → List ℕ
+clearedRow n p = encodeString (n - 1) (scale (phaseOf p) identityString)
+
+-- a finished row over the front of d
+unfoldable pub rowWritten : ℕ → PauliString → List ℕ → List ℕ
+rowWritten w s d = encodeRow w s ++ drop (rowLength w) d
+
+-- a tableau with row r replaced
+unfoldable pub withRow : Tableau → ℕ → PauliString → Tableau
+withRow t r s = record {
+  width = t .width;
+  xImage = λ q. cond (eqb q r) s (t .xImage q);
+  zImage = λ q. cond (eqb (t .width + q) r) s (t .zImage q);
+}
+
+-- ---- what they may count on
+
+-- a row of some record of width w
+pub record RowIndex (w r : ℕ) : Type 0 where
+  pub narrow : w ≤ 128
+  pub own : r < 2 * w
+
+-- a row of the record b
+pub record OwnRow (b : List ℕ) (r : ℕ) : Type 0 where
+  pub tableau : FormedTableau b
+  pub own : r < 2 * widthOf b
+
+-- two rows of it; a qubit of it; and two qubits
+pub record OwnRows (b : List ℕ) (r p : ℕ) : Type 0 where
+  pub tableau : FormedTableau b
+  pub first : r < 2 * widthOf b
+  pub second : p < 2 * widthOf b
+
+pub record OwnQubit (b : List ℕ) (q : ℕ) : Type 0 where
+  pub tableau : FormedTableau b
+  pub own : q < widthOf b
+
+pub record OwnQubits (b : List ℕ) (q r : ℕ) : Type 0 where
+  pub tableau : FormedTableau b
+  pub first : q < widthOf b
+  pub second : r < widthOf b
+
+-- a work row d with room for the letters of b's rows
+pub record WorkRow (b d : List ℕ) : Type 0 where
+  pub tableau : FormedTableau b
+  pub row : WellFormed (lettersIn d) d
+  pub wide : widthOf b < length d
+  pub narrow : length d ≤ 129
+
+-- the same, with a row of b; and with a qubit of the work row
+pub record WorkOnRow (b d : List ℕ) (r : ℕ) : Type 0 where
+  pub work : WorkRow b d
+  pub own : r < 2 * widthOf b
+
+pub record WorkOnQubit (b d : List ℕ) (q : ℕ) : Type 0 where
+  pub work : WorkRow b d
+  pub place : q + 1 < length d
+
+-- the same, with a qubit of b; and with a letter other than I
+pub record WorkOnOwn (b d : List ℕ) (q : ℕ) : Type 0 where
+  pub work : WorkRow b d
+  pub own : q < widthOf b
+
+pub record WorkOnLetter (b d : List ℕ) (q l : ℕ) : Type 0 where
+  pub work : WorkOnOwn b d q
+  pub letter : l ≡ 0 → ⊥
+
+-- a work row and a qubit of it
+pub record WorkPlace (d : List ℕ) (q : ℕ) : Type 0 where
+  pub row : WellFormed (lettersIn d) d
+  pub place : q + 1 < length d
+  pub narrow : length d ≤ 129
+
+-- a row of any content, to be cleared
+pub record ClearRow (d : List ℕ) (p : ℕ) : Type 0 where
+  pub some : 0 < length d
+  pub phase : p ≤ 3
+
+-- a finished row, and room for it
+pub record Finished (d out : List ℕ) : Type 0 where
+  pub row : WellFormed (lettersIn d) d
+  pub room : rowLength (lettersIn d) ≤ length out
+
+-- a string s to be sent through the record b into a work row d of any content
+pub record Sends (b s d : List ℕ) : Type 0 where
+  pub tableau : FormedTableau b
+  pub string : WellFormed (lettersIn s) s
+  pub wide : widthOf b < length d
+  pub reach : length s ≤ length d
+  pub narrow : length d ≤ 129
+
+-- a letter on qubit q to be sent through it
+pub record SendsLetter (b d : List ℕ) (q : ℕ) : Type 0 where
+  pub tableau : FormedTableau b
+  pub wide : widthOf b < length d
+  pub place : q + 1 < length d
+  pub narrow : length d ≤ 129
+
+-- a string record, and a width of a tableau
+pub record Beside (s : List ℕ) (w : ℕ) : Type 0 where
+  pub string : WellFormed 128 s
+  pub narrow : w ≤ 128

@@ -1,0 +1,273 @@
+// Tableaux: their action on strings, their composition, their images. Ports clifford_rep.rs of PECOS, changed:
+// Copyright 2024 The PECOS Developers, Apache License, Version 2.0.
+ghost use mathlib.Core.Path.{_≡_};
+ghost use Prim.Native.Nat.{max};
+ghost use lib.ListN.{length};
+ghost use Rattle.pauli.specs.declared.refusal.Outcome.the-variants.{Done};
+ghost use Rattle.pauli.specs.Answers.{FlagAnswered, Written, written};
+ghost use Rattle.clifford.specs.Questions.{tableauQuestions, imageQuestions, setQuestions, identityAnswer, applyQuestions, applyAnswer, composeAnswer, extendQuestions, extendAnswer};
+ghost use Rattle.clifford.specs.Tableaux.{recordValid, xImagePart, zImagePart, setXRecord, setZRecord, identityRecord, applyRecord, composeRecord, extendRecord};
+ghost use Rattle.clifford.specs.Writing.{Applies, Identifies, ExtendsTo, ComposesTo};
+use crate::composing::write_composed;
+use crate::composing::write_extended;
+use crate::layout::record_length;
+use crate::layout::row;
+use crate::layout::width;
+use crate::questions::check_slot;
+use crate::questions::check_tableau;
+use crate::questions::check_tableaux;
+use crate::questions::check_width;
+use crate::sending::send;
+use crate::setting::check_inside;
+use crate::setting::set_row;
+use crate::validity::valid_rows;
+use pauli::questions::check_room;
+use pauli::questions::check_string;
+use pauli::refusal::Flag;
+use pauli::refusal::Outcome;
+
+fn larger(a: usize, b: usize) -> usize
+    ensures { λ r. ⌜ r ≡ max a b ⌝ }
+{
+    if a < b { b } else { a }
+}
+
+// ---- images
+
+fn check_image(t: &[u8], slot: usize) -> Outcome
+    ensures { λ r. ⌜ r ≡ imageQuestions (now (t .entry)) slot ⌝ }
+{
+    let first = check_tableau(t);
+    if let Outcome::Done = first {
+        return check_slot(slot, width(t));
+    }
+    first
+}
+
+// Whether X of this qubit has an image to hand out: Done, or the refusal.
+pub fn x_image_answer(t: &[u8], slot: usize) -> Outcome
+    ensures { λ r. ⌜ r ≡ imageQuestions (now (t .entry)) slot ⌝ }
+{
+    check_image(t, slot)
+}
+
+// The image of X on this qubit, the row's own part of the record; no bytes where the answer is a refusal.
+pub fn x_image(t: &[u8], slot: usize) -> &[u8]
+    ensures { λ p. ⌜ now p ≡ xImagePart (now (t .entry)) slot ⌝ }
+{
+    let answer = check_image(t, slot);
+    if let Outcome::Done = answer {
+        return row(t, slot);
+    }
+    &t[0..0]
+}
+
+// Whether Z of this qubit has an image to hand out: Done, or the refusal.
+pub fn z_image_answer(t: &[u8], slot: usize) -> Outcome
+    ensures { λ r. ⌜ r ≡ imageQuestions (now (t .entry)) slot ⌝ }
+{
+    check_image(t, slot)
+}
+
+// The image of Z on this qubit, the row's own part of the record; no bytes where the answer is a refusal.
+pub fn z_image(t: &[u8], slot: usize) -> &[u8]
+    ensures { λ p. ⌜ now p ≡ zImagePart (now (t .entry)) slot ⌝ }
+{
+    let answer = check_image(t, slot);
+    if let Outcome::Done = answer {
+        return row(t, width(t) + slot);
+    }
+    &t[0..0]
+}
+
+fn set_answer(t: &[u8], slot: usize, s: &[u8]) -> Outcome
+    ensures { λ r. ⌜ r ≡ setQuestions (now (t .entry)) slot (now (s .entry)) ⌝ }
+{
+    let first = check_apply(t, s);
+    let Outcome::Done = first else {
+        return first;
+    };
+    let n = width(t);
+    let second = check_inside(s, n);
+    let Outcome::Done = second else {
+        return second;
+    };
+    check_slot(slot, n)
+}
+
+// The image of X on this qubit, replaced by the string s.
+pub fn set_x_image(t: &mut [u8], slot: usize, s: &[u8]) -> Outcome
+    ensures { λ r. ⌜ Written (setQuestions (now (t .entry)) slot (now (s .entry))) (setXRecord (now (t .entry)) slot (now (s .entry))) (now (t .entry)) (now (t .exit)) r ⌝ }
+{
+    let answer = set_answer(t, slot, s);
+    if let Outcome::Done = answer {
+        set_row(t, slot, s);
+    }
+    answer
+}
+
+// The image of Z on this qubit, replaced by the string s.
+pub fn set_z_image(t: &mut [u8], slot: usize, s: &[u8]) -> Outcome
+    ensures { λ r. ⌜ Written (setQuestions (now (t .entry)) slot (now (s .entry))) (setZRecord (now (t .entry)) slot (now (s .entry))) (now (t .entry)) (now (t .exit)) r ⌝ }
+{
+    let answer = set_answer(t, slot, s);
+    if let Outcome::Done = answer {
+        set_row(t, width(t) + slot, s);
+    }
+    answer
+}
+
+// ---- identity
+
+fn identity_answer(n: usize, room: usize) -> Outcome
+    ensures { λ r. ⌜ r ≡ identityAnswer n room ⌝ }
+{
+    let first = check_width(n);
+    if let Outcome::Done = first {
+        return check_room(record_length(n), room);
+    }
+    first
+}
+
+// The tableau of width 0 widened to n.
+fn write_identity(n: usize, dst: &mut [u8])
+    requires { ⌜ Identifies n (now dst) ⌝ }
+    ensures { λ _. ⌜ now (dst .exit) ≡ written Done (identityRecord n) (now (dst .entry)) ⌝ }
+{
+    let none = [0u8; 1];
+    write_extended(&none, n, dst);
+}
+
+// The identity of width n.
+pub fn identity(n: usize, dst: &mut [u8]) -> Outcome
+    ensures { λ r. ⌜ Written (identityAnswer n (length (now (dst .entry)))) (identityRecord n) (now (dst .entry)) (now (dst .exit)) r ⌝ }
+{
+    let answer = identity_answer(n, dst.len());
+    if let Outcome::Done = answer {
+        write_identity(n, dst);
+    }
+    answer
+}
+
+// ---- apply
+
+fn check_apply(t: &[u8], s: &[u8]) -> Outcome
+    ensures { λ r. ⌜ r ≡ applyQuestions (now (t .entry)) (now (s .entry)) ⌝ }
+{
+    let first = check_tableau(t);
+    if let Outcome::Done = first {
+        return check_string(s);
+    }
+    first
+}
+
+fn apply_answer(t: &[u8], s: &[u8], room: usize) -> Outcome
+    ensures { λ r. ⌜ r ≡ applyAnswer (now (t .entry)) (now (s .entry)) room ⌝ }
+{
+    let first = check_apply(t, s);
+    if let Outcome::Done = first {
+        return check_room(129, room);
+    }
+    first
+}
+
+fn write_applied(t: &[u8], s: &[u8], dst: &mut [u8])
+    requires { ⌜ Applies (now t) (now s) (now dst) ⌝ }
+    ensures { λ _. ⌜ now (dst .exit) ≡ written Done (applyRecord (now (t .entry)) (now (s .entry))) (now (dst .entry)) ⌝ }
+{
+    send(t, s, &mut dst[0..129]);
+}
+
+// The image of the string s.
+pub fn apply(t: &[u8], s: &[u8], dst: &mut [u8]) -> Outcome
+    ensures { λ r. ⌜ Written (applyAnswer (now (t .entry)) (now (s .entry)) (length (now (dst .entry)))) (applyRecord (now (t .entry)) (now (s .entry))) (now (dst .entry)) (now (dst .exit)) r ⌝ }
+{
+    let answer = apply_answer(t, s, dst.len());
+    if let Outcome::Done = answer {
+        write_applied(t, s, dst);
+    }
+    answer
+}
+
+// ---- compose
+
+fn compose_answer(a: &[u8], b: &[u8], room: usize) -> Outcome
+    ensures { λ r. ⌜ r ≡ composeAnswer (now (a .entry)) (now (b .entry)) room ⌝ }
+{
+    let first = check_tableaux(a, b);
+    if let Outcome::Done = first {
+        return check_room(record_length(larger(width(a), width(b))), room);
+    }
+    first
+}
+
+fn compose_into(a: &[u8], b: &[u8], dst: &mut [u8])
+    requires { ⌜ ComposesTo (now a) (now b) (now dst) ⌝ }
+    ensures { λ _. ⌜ now (dst .exit) ≡ written Done (composeRecord (now (a .entry)) (now (b .entry))) (now (dst .entry)) ⌝ }
+{
+    write_composed(a, b, larger(width(a), width(b)), dst);
+}
+
+// a composed with b: b acts first.
+pub fn compose(a: &[u8], b: &[u8], dst: &mut [u8]) -> Outcome
+    ensures { λ r. ⌜ Written (composeAnswer (now (a .entry)) (now (b .entry)) (length (now (dst .entry)))) (composeRecord (now (a .entry)) (now (b .entry))) (now (dst .entry)) (now (dst .exit)) r ⌝ }
+{
+    let answer = compose_answer(a, b, dst.len());
+    if let Outcome::Done = answer {
+        compose_into(a, b, dst);
+    }
+    answer
+}
+
+// ---- extended_to
+
+fn check_extend(t: &[u8], n: usize) -> Outcome
+    ensures { λ r. ⌜ r ≡ extendQuestions (now (t .entry)) n ⌝ }
+{
+    let first = check_tableau(t);
+    if let Outcome::Done = first {
+        return check_width(n);
+    }
+    first
+}
+
+fn extend_answer(t: &[u8], n: usize, room: usize) -> Outcome
+    ensures { λ r. ⌜ r ≡ extendAnswer (now (t .entry)) n room ⌝ }
+{
+    let first = check_extend(t, n);
+    if let Outcome::Done = first {
+        return check_room(record_length(larger(width(t), n)), room);
+    }
+    first
+}
+
+fn extend_into(t: &[u8], n: usize, dst: &mut [u8])
+    requires { ⌜ ExtendsTo (now t) n (now dst) ⌝ }
+    ensures { λ _. ⌜ now (dst .exit) ≡ written Done (extendRecord (now (t .entry)) n) (now (dst .entry)) ⌝ }
+{
+    write_extended(t, larger(width(t), n), dst);
+}
+
+// The tableau widened to n; a smaller n gives a copy.
+pub fn extended_to(t: &[u8], n: usize, dst: &mut [u8]) -> Outcome
+    ensures { λ r. ⌜ Written (extendAnswer (now (t .entry)) n (length (now (dst .entry)))) (extendRecord (now (t .entry)) n) (now (dst .entry)) (now (dst .exit)) r ⌝ }
+{
+    let answer = extend_answer(t, n, dst.len());
+    if let Outcome::Done = answer {
+        extend_into(t, n, dst);
+    }
+    answer
+}
+
+// ---- is_valid
+
+// Whether the tableau is valid.
+pub fn is_valid(t: &[u8]) -> Flag
+    ensures { λ r. ⌜ FlagAnswered (tableauQuestions (now (t .entry))) (recordValid (now (t .entry))) r ⌝ }
+{
+    let answer = check_tableau(t);
+    match answer {
+        Outcome::Done => if valid_rows(t) { Flag::Yes } else { Flag::No },
+        Outcome::Refused(why) => Flag::NoFlag(why),
+    }
+}

@@ -1,0 +1,10 @@
+// Clifford tableaux as byte records: the images of X and Z on each qubit, how they act on strings, and their composition.
+// Every public function is total: any bytes of any length get an answer or a numbered refusal.
+pub mod answer;
+pub mod clifford_rep;
+mod composing;
+mod layout;
+pub mod questions;
+mod sending;
+mod setting;
+mod validity;
