@@ -9,3 +9,4 @@ pub mod TableauAnswers
 pub mod TableauImages
 pub mod ImageSetting
 pub mod ValidRows
+pub mod Displays

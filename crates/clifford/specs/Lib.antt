@@ -5,3 +5,4 @@ pub mod Questions
 pub mod Rows
 pub mod Tableaux
 pub mod Writing
+pub mod Display

@@ -4,12 +4,16 @@ ghost use mathlib.Core.Path.{_≡_};
 ghost use Prim.Native.Nat.{max};
 ghost use lib.ListN.{length};
 ghost use Rattle.pauli.specs.declared.refusal.Outcome.the-variants.{Done};
-ghost use Rattle.pauli.specs.Answers.{FlagAnswered, Written, written};
+ghost use Rattle.pauli.specs.Answers.{CountWritten, FlagAnswered, Written, written};
+ghost use Rattle.clifford.specs.Display.{nameText, textOfTableau, displayAnswer, startsWith};
 ghost use Rattle.clifford.specs.Questions.{tableauQuestions, imageQuestions, setQuestions, identityAnswer, applyQuestions, applyAnswer, composeAnswer, extendQuestions, extendAnswer};
 ghost use Rattle.clifford.specs.Tableaux.{recordValid, xImagePart, zImagePart, setXRecord, setZRecord, identityRecord, applyRecord, composeRecord, extendRecord};
 ghost use Rattle.clifford.specs.Writing.{Applies, Identifies, ExtendsTo, ComposesTo};
 use crate::composing::write_composed;
 use crate::composing::write_extended;
+use crate::displaying::display_length;
+use crate::displaying::starts_with;
+use crate::displaying::write_display;
 use crate::layout::record_length;
 use crate::layout::row;
 use crate::layout::width;
@@ -23,6 +27,7 @@ use crate::setting::set_row;
 use crate::validity::valid_rows;
 use pauli::questions::check_room;
 use pauli::questions::check_string;
+use pauli::refusal::CountAnswer;
 use pauli::refusal::Flag;
 use pauli::refusal::Outcome;
 
@@ -270,4 +275,34 @@ pub fn is_valid(t: &[u8]) -> Flag
         Outcome::Done => if valid_rows(t) { Flag::Yes } else { Flag::No },
         Outcome::Refused(why) => Flag::NoFlag(why),
     }
+}
+
+// ---- display
+
+fn display_answer(t: &[u8], room: usize) -> Outcome
+    ensures { λ r. ⌜ r ≡ displayAnswer (now (t .entry)) room ⌝ }
+{
+    let first = check_tableau(t);
+    if let Outcome::Done = first {
+        return check_room(display_length(t), room);
+    }
+    first
+}
+
+// The text that shows a tableau; the answer is its length.
+pub fn display(t: &[u8], dst: &mut [u8]) -> CountAnswer
+    ensures { λ r. ⌜ CountWritten (displayAnswer (now (t .entry)) (length (now (dst .entry)))) (textOfTableau (now (t .entry))) (now (dst .entry)) (now (dst .exit)) r ⌝ }
+{
+    let answer = display_answer(t, dst.len());
+    match answer {
+        Outcome::Done => CountAnswer::Count(write_display(t, dst)),
+        Outcome::Refused(why) => CountAnswer::NoCount(why),
+    }
+}
+
+// Whether a text starts as every display text does.
+pub fn starts_with_name(text: &[u8]) -> bool
+    ensures { λ b. ⌜ b ≡ startsWith nameText (now (text .entry)) ⌝ }
+{
+    starts_with(text, b"CliffordRep(")
 }

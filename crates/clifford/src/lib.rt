@@ -3,6 +3,7 @@
 pub mod answer;
 pub mod clifford_rep;
 mod composing;
+mod displaying;
 mod layout;
 pub mod questions;
 mod sending;
