@@ -1,13 +1,13 @@
 -- The display text: its parts written one after another, its lines in their order, and the whole.
-use mathlib.Core.Path.{_≡_, refl, sym, ap, ap₂, _∙_, subst}
-use mathlib.Core.Bool.{Bool, true, false, cond, _&&_}
+use mathlib.Core.Path.{_≡_, refl, sym, ap, ap₂, _∙_}
+use mathlib.Core.Bool.{true, false, cond, _&&_}
 use mathlib.Core.List.{List, [], _∷_, _++_, append-nil, append-assoc}
 use Prim.Native.Nat.{ℕ, zero, suc, min, _+_, _*_, _-_, _/_, _%_, _≤_, _<_}
 use native.Mathlib.Nat.{not-suc-le-zero, le-of-suc-le-suc}
 use native.Mathlib.Numerals.{add-one}
 use native.Mathlib.Decide.{ℕ-discrete, decLt}
 use native.Mathlib.Omega.{arith}
-use lib.Dec.{eqb, ltb}
+use lib.Dec.{eqb}
 use lib.ListN.{length, getD, take, drop, set, length-append, length-drop, drop-of-length-le}
 use lib.Seq.{set-out, drop-cons}
 use mir.Syntax.{w64}
@@ -15,7 +15,7 @@ use mir.Val.{Fits}
 use borrow.Author.Needs.{needs}
 use borrow.Author.Tests.{eq-eqb, ne-eqb, lt-ltb, le-ltb}
 use borrow.Rule.Slice.PartMut.{putMid}
-use Rattle.pauli_group.specs.Letter.{Letter, I, X, Z}
+use Rattle.pauli_group.specs.Letter.{Letter, X, Z}
 use Rattle.pauli_group.specs.PauliString.{PauliString, qubits, Within}
 use Rattle.clifford_group.specs.Tableau.{Tableau}
 use Rattle.pauli.specs.declared.refusal.Refusal.{Refusal}
@@ -24,7 +24,7 @@ use Rattle.pauli.specs.declared.refusal.Outcome.the-variants.{Done, Refused}
 use Rattle.pauli.specs.declared.refusal.CountAnswer.the-variants.{Count}
 use Rattle.pauli.specs.Answers.{written, CountWritten}
 use Rattle.pauli.specs.Layout.{phaseOf, letterOf}
-use Rattle.pauli.specs.Questions.{_andThen_, roomQuestion}
+use Rattle.pauli.specs.Questions.{roomQuestion}
 use Rattle.pauli.specs.Rows.{copied, letterAt}
 use Rattle.pauli.specs.SparseText.{digitsTo, decimal, prefixText, letterText, entryWord, wordsAt, bodyText, entryWords, sparseTextTo, sparseText, rowString, rowText}
 use Rattle.pauli.specs.SparseText as sparse
@@ -43,7 +43,7 @@ use Rattle.clifford.specs.Rows.{RowIndex, OwnRow, rowLetters, rowQubit, 
 use Rattle.clifford.proofs.Joining.{joined-more}
 use Rattle.clifford.proofs.RecordWriting.{qubit-below}
 use Rattle.clifford.proofs.TableauRows.{row-letter-at, row-within}
-use Rattle.clifford.proofs.TableauRecords.{row-part, part-formed, width-of}
+use Rattle.clifford.proofs.TableauRecords.{row-x, row-z, row-part, part-formed, width-of}
 use Rattle.clifford.proofs.TableauAsking.{tableau-formed, checked}
 
 -- ---- a text from place k on, written through `&mut d[s..]`, where s is k or the end of d
@@ -222,17 +222,12 @@ pub ruleset labels = (label-room, label-generator, label-arrow, label-made, stor
 index-of : {t : List ℕ} {r n : ℕ} → OwnRow t r → n ≡ widthOf t → RowIndex n r
 index-of o e = record { narrow = omega (arith, o .tableau .narrow); own = omega (arith, o .own) }
 
-line-short : {t : List ℕ} {r : ℕ} → OwnRow t r → length (lineText (tableauOf t) r) ≤ 543
+line-short : (t : Tableau) (r : ℕ) → RowIndex (t .width) r → length (lineText t r) ≤ 543
 unfolding lineText
-line-short {t} {r} o =
-    let n = tableauOf t .width in
-    omega (
-      arith,
-      length-append (labelText (rowLetter n r) (rowQubit n r)) (sparseText (rowOf (tableauOf t) r) ++ (10 ∷ [])),
-      length-append (sparseText (rowOf (tableauOf t) r)) (10 ∷ []),
-      label-short (index-of o (width-of t)),
-      text-length (rowOf (tableauOf t) r),
-    )
+line-short t r o =
+    let label = labelText (rowLetter (t .width) r) (rowQubit (t .width) r) in
+    let image = sparseText (rowOf t r) in
+    omega (arith, length-append label (image ++ (10 ∷ [])), length-append image (10 ∷ []), label-short o, text-length (rowOf t r))
 
 module _ {t : List ℕ} {k r n : ℕ} (o : RowPlace 190000 t k r) (en : n ≡ widthOf t) where
   pub line-label : LabelPlace 196000 n k r
@@ -294,6 +289,26 @@ order-z w q =
     never : (2 * q + 1) % 2 ≡ 1 → (2 * q + 1) % 2 ≡ 0 → ⊥
     never a b = omega arith
 
+-- so the lines of qubit q are those of its images
+abbrev pub imageLine : Letter → ℕ → PauliString → List ℕ
+imageLine l q s = labelText l q ++ (sparseText s ++ (10 ∷ []))
+
+pub line-x : (t : Tableau) (q : ℕ) → q < t .width → lineText t (displayRow (t .width) (2 * q)) ≡ imageLine X q (t .xImage q)
+unfolding lineText rowLetter rowQubit
+line-x t q h =
+    let w = t .width in
+    ap (lineText t) (order-x w q)
+    ∙ ap₂ (λ b s. imageLine (cond b X Z) (cond b q (q - w)) s) (lt-ltb q w h) (row-x t q h)
+
+pub line-z : (t : Tableau) (q : ℕ) → lineText t (displayRow (t .width) (2 * q + 1)) ≡ imageLine Z q (t .zImage q)
+unfolding lineText rowLetter rowQubit
+line-z t q =
+    let w = t .width in
+    let same : w + q - w ≡ q = omega arith in
+    ap (lineText t) (order-z w q)
+    ∙ ap₂ (λ b s. imageLine (cond b X Z) (cond b (w + q) (w + q - w)) s) (le-ltb (w + q) w (omega arith)) (row-z t q)
+    ∙ ap (λ (j : ℕ). imageLine Z j (t .zImage q)) same
+
 -- ---- the loop that writes the lines from place a on: i so far, place k reached
 pub record Lines (t d : List ℕ) (n a i k : ℕ) (e : List ℕ) : Type 0 where
   pub tableau : FormedTableau t
@@ -348,7 +363,7 @@ module _ {t d e : List ℕ} {n a i k : ℕ} (m : Lines t d n a i k e) (h : i < 2
       tableau = m .tableau;
       width = m .width;
       within = omega arith;
-      short = omega (arith, m .short, x .place, line-short own);
+      short = omega (arith, m .short, x .place, line-short (tableauOf t) r (index-of own (width-of t)));
       text = stored-as more (stored-join (m .text) x);
     }
       where
@@ -373,6 +388,25 @@ module _ {t d e f g : List ℕ} {n h a i k : ℕ} (x : Stored 0 (headerText n) d
       whole-text (stored-as (ap₂ (λ (j : ℕ) (v : ℕ). headerText j ++ (10 ∷ linesText (tableauOf t) v)) en end) (stored-join x (stored-join y (m .text))))
 
 pub ruleset line-loops = (wide-narrow, lines-room, lines-none, lines-fits, lines-next, lines-index, lines-place, lines-more, lines-same, lines-all, stored-same, needs)
+
+-- a display text has less than 140,000 bytes
+lines-short : (t : Tableau) → t .width ≤ 128 → (k : ℕ) → k ≤ 2 * t .width → length (linesText t k) ≤ k * 543
+unfolding linesText joined
+lines-short t h zero l = omega arith
+lines-short t h (suc k) l =
+    let w = t .width in
+    omega (
+      arith,
+      length-append (joined k (λ i. lineText t (displayRow w i))) (lineText t (displayRow w k)),
+      lines-short t h k (omega arith),
+      line-short t (displayRow w k) (record { narrow = h; own = order-below w k (omega arith) }),
+    )
+
+pub display-short : (t : Tableau) → t .width ≤ 128 → length (displayText t) < 140000
+unfolding displayText
+display-short t h =
+    let w = t .width in
+    omega (arith, length-append (headerText w) (10 ∷ linesText t (2 * w)), header-short w h, lines-short t h (2 * w) (omega arith))
 
 pub text-counted : {w d e : List ℕ} {n : ℕ} → TextWritten w d e n → n ≡ length w
 text-counted a = a .count
@@ -444,12 +478,28 @@ unfolding startsWith
 starts-append [] s = refl
 starts-append (x ∷ p) s = ap₂ (λ a b. a && b) (eq-eqb x x refl) (starts-append p s)
 
-pub display-named : (t : Tableau) → startsWith nameText (displayText t) ≡ true
+named : (t : Tableau) → displayText t ≡ nameText ++ ((decimal (t .width) ++ qubitsText) ++ (10 ∷ linesText t (2 * t .width)))
 unfolding displayText headerText
-display-named t =
-    ap (startsWith nameText) (append-assoc nameText (decimal (t .width) ++ qubitsText) (10 ∷ linesText t (2 * t .width))) ∙ starts-append nameText _
+named t = append-assoc nameText (decimal (t .width) ++ qubitsText) (10 ∷ linesText t (2 * t .width))
 
--- H on 0, then CX 0 to 1
-pub display-reading : textOfTableau (2 ∷ 0 ∷ 2 ∷ 0 ∷ 0 ∷ 0 ∷ 1 ∷ 0 ∷ 1 ∷ 1 ∷ 0 ∷ 2 ∷ 2 ∷ []) ≡ 67 ∷ 108 ∷ 105 ∷ 102 ∷ 102 ∷ 111 ∷ 114 ∷ 100 ∷ 82 ∷ 101 ∷ 112 ∷ 40 ∷ 50 ∷ 32 ∷ 113 ∷ 117 ∷ 98 ∷ 105 ∷ 116 ∷ 115 ∷ 41 ∷ 58 ∷ 10 ∷ 32 ∷ 32 ∷ 88 ∷ 95 ∷ 48 ∷ 32 ∷ 45 ∷ 62 ∷ 32 ∷ 43 ∷ 90 ∷ 48 ∷ 10 ∷ 32 ∷ 32 ∷ 90 ∷ 95 ∷ 48 ∷ 32 ∷ 45 ∷ 62 ∷ 32 ∷ 43 ∷ 88 ∷ 48 ∷ 32 ∷ 88 ∷ 49 ∷ 10 ∷ 32 ∷ 32 ∷ 88 ∷ 95 ∷ 49 ∷ 32 ∷ 45 ∷ 62 ∷ 32 ∷ 43 ∷ 88 ∷ 49 ∷ 10 ∷ 32 ∷ 32 ∷ 90 ∷ 95 ∷ 49 ∷ 32 ∷ 45 ∷ 62 ∷ 32 ∷ 43 ∷ 90 ∷ 48 ∷ 32 ∷ 90 ∷ 49 ∷ 10 ∷ []
+pub display-named : (t : Tableau) → startsWith nameText (displayText t) ≡ true
+display-named t = ap (startsWith nameText) (named t) ∙ starts-append nameText _
+
+-- and so does a destination to which one was written
+pub written-named : (t d : List ℕ) → startsWith nameText (written Done (textOfTableau t) d) ≡ true
+unfolding written textOfTableau
+written-named t d =
+    let rest = (decimal (tableauOf t .width) ++ qubitsText) ++ (10 ∷ linesText (tableauOf t) (2 * tableauOf t .width)) in
+    let after = drop (length (displayText (tableauOf t))) d in
+    ap (λ (l : List ℕ). startsWith nameText (l ++ after)) (named (tableauOf t))
+    ∙ ap (startsWith nameText) (append-assoc nameText rest after) ∙ starts-append nameText _
+
+-- the scope document's example, H on 0 and then CX 0 to 1: the header, and the lines +Z0, +X0 X1, +X1 and +Z0 Z1
+pub display-reading : textOfTableau (2 ∷ 0 ∷ 2 ∷ 0 ∷ 0 ∷ 0 ∷ 1 ∷ 0 ∷ 1 ∷ 1 ∷ 0 ∷ 2 ∷ 2 ∷ [])
+    ≡ 67 ∷ 108 ∷ 105 ∷ 102 ∷ 102 ∷ 111 ∷ 114 ∷ 100 ∷ 82 ∷ 101 ∷ 112 ∷ 40 ∷ 50 ∷ 32 ∷ 113 ∷ 117 ∷ 98 ∷ 105 ∷ 116 ∷ 115 ∷ 41 ∷ 58 ∷ 10
+    ∷ 32 ∷ 32 ∷ 88 ∷ 95 ∷ 48 ∷ 32 ∷ 45 ∷ 62 ∷ 32 ∷ 43 ∷ 90 ∷ 48 ∷ 10
+    ∷ 32 ∷ 32 ∷ 90 ∷ 95 ∷ 48 ∷ 32 ∷ 45 ∷ 62 ∷ 32 ∷ 43 ∷ 88 ∷ 48 ∷ 32 ∷ 88 ∷ 49 ∷ 10
+    ∷ 32 ∷ 32 ∷ 88 ∷ 95 ∷ 49 ∷ 32 ∷ 45 ∷ 62 ∷ 32 ∷ 43 ∷ 88 ∷ 49 ∷ 10
+    ∷ 32 ∷ 32 ∷ 90 ∷ 95 ∷ 49 ∷ 32 ∷ 45 ∷ 62 ∷ 32 ∷ 43 ∷ 90 ∷ 48 ∷ 32 ∷ 90 ∷ 49 ∷ 10 ∷ []
 unfolding textOfTableau displayText headerText linesText lineText labelText generatorText displayRow joined rowOf rowLetter rowQubit tableauOf rowPart rowOffset rowLength decodeRow letterText sparseText sparseTextTo qubits prefixText entryWords wordsAt entryWord decimal digitsTo bodyText sparse.joined phaseOf letterOf
 display-reading = refl
