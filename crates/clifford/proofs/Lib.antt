@@ -16,3 +16,4 @@ pub mod Supports
 pub mod RecordLaws
 pub mod WayBacks
 pub mod WayBackSteps
+pub mod Displays

@@ -19,12 +19,11 @@ use Rattle.clifford_group.specs.Tableau.{Tableau, allTo}
 use Rattle.pauli.specs.declared.refusal.Refusal.{Refusal}
 use Rattle.pauli.specs.declared.refusal.Outcome.{Outcome}
 use Rattle.pauli.specs.declared.refusal.Outcome.the-variants.{Done, Refused}
-use Rattle.pauli.specs.Answers.{replyTo, written}
+use Rattle.pauli.specs.Answers.{written, CountWritten}
 use Rattle.pauli.specs.Questions.{_andThen_, roomQuestion}
 use Rattle.pauli.proofs.Asking.{refused, passed, done-first, done-second, room-is}
-use Rattle.clifford.specs.declared.answer.Count.{Count}
-use Rattle.clifford.specs.declared.answer.Count.the-variants.{Counted, NoCount}
-use Rattle.clifford.specs.Answers.{countReply, countAnswer, CountWritten}
+use Rattle.pauli.specs.declared.refusal.CountAnswer.the-variants.{Count}
+use Rattle.pauli.proofs.Answers.{count-done, count-not}
 use Rattle.clifford.specs.Questions.{tableauQuestions, supportAnswer}
 use Rattle.clifford.specs.Tableaux.{supportBytes}
 use Rattle.clifford.proofs.TableauAsking.{tableau-formed, checked}
@@ -475,23 +474,9 @@ pub support-formed : {t : List ℕ} (room : ℕ) {r : Outcome} → r ≡ support
 unfolding supportAnswer
 support-formed {t} room p h = tableau-formed t (done-first _ _ (sym p ∙ h))
 
-count-told : (q : Outcome) (n : ℕ) → countReply (countAnswer q n) ≡ replyTo q n
-unfolding countReply countAnswer replyTo
-count-told Done n = refl
-count-told (Refused r) n = refl
+pub support-done : (t d : List ℕ) {e : List ℕ} {q r : Outcome} {c : ℕ} → r ≡ q → r ≡ Done → e ≡ written Done (supportQubits (tableauOf t)) d → SupportCount t c
+    → CountWritten q (supportBytes t) d e (Count c)
+unfolding supportBytes
+support-done t d p h w k = count-done p h (k .is) w
 
-pub count-done : (t d : List ℕ) {e : List ℕ} {q r : Outcome} {c : ℕ} → r ≡ q → r ≡ Done → e ≡ written Done (supportQubits (tableauOf t)) d → SupportCount t c
-    → CountWritten q (length (supportBytes t)) (supportBytes t) d e (Counted c)
-unfolding supportBytes countAnswer
-count-done t d {e} {q} {r} {c} p h w k =
-    let n = length (supportQubits (tableauOf t)) in
-    let a : Counted c ≡ countAnswer q n = ap Counted (k .is) ∙ ap (λ x. countAnswer x n) (sym h ∙ p) in
-    record { answer = a; told = ap countReply a ∙ count-told q n; bytes = w ∙ ap (λ x. written x (supportQubits (tableauOf t)) d) (sym h ∙ p) }
-
-pub count-not : (n : ℕ) (out d : List ℕ) {q r : Outcome} {x : Refusal} → r ≡ q → r ≡ Refused x → CountWritten q n out d d (NoCount x)
-unfolding countAnswer written
-count-not n out d {q} {r} {x} p h =
-    let a : NoCount x ≡ countAnswer q n = ap (λ y. countAnswer y n) (sym h ∙ p) in
-    record { answer = a; told = ap countReply a ∙ count-told q n; bytes = ap (λ y. written y out d) (sym h ∙ p) }
-
-pub ruleset support-answers = (checked, support-room, support-refused, support-fits, support-formed, count-done, count-not, needs)
+pub ruleset support-answers = (checked, support-room, support-refused, support-fits, support-formed, support-done, count-not, needs)

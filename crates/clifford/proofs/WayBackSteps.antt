@@ -19,7 +19,7 @@ use Rattle.pauli.specs.Layout.{phaseByte, phaseOf, letterByte, letterOf}
 use Rattle.pauli.specs.Questions.{ask, _andThen_, firstBad, bytesQuestion, roomQuestion}
 use Rattle.clifford.specs.Layout.{rowLength, rowOffset, recordLength, rowOf, joined, encodeRow, decodeRow, tableauRecord, rowPart, tableauOf, widthOf}
 use Rattle.clifford.specs.Questions.{widthQuestion, lengthQuestion, tableauQuestions, composeQuestions, composeAnswer}
-use Rattle.clifford.specs.Tableaux.{identityRecord, composeRecord}
+use Rattle.clifford.specs.Tableaux.{recordValid, identityRecord, composeRecord}
 use Rattle.clifford.specs.WayBack.{Call, isDone, callAnswer, accepts, destinationAfter, nextRecord, recordAfter, stepsOf, Step, Steps, none, step, WayBack}
 use Rattle.clifford.proofs.WayBacks.{steps-append, steps-more, steps-kept, steps-nil, after-next, way-back}
 
@@ -111,8 +111,8 @@ pub witness-short : callAnswer hadamard short-call ≡ Refused Room
 unfolding callAnswer composeAnswer composeQuestions tableauQuestions widthQuestion lengthQuestion bytesQuestion firstBad ask _andThen_ roomQuestion recordLength rowLength firstPlace qubits
 witness-short = refl
 
-hadamard-valid : isValid (tableauOf hadamard) ≡ true
-unfolding isValid allTo validQubit validPair tableauOf rowPart rowOffset rowLength decodeRow phaseOf letterOf isReal commute anticommutingPlaces countTo anticommute qubits
+hadamard-valid : recordValid hadamard ≡ true
+unfolding recordValid isValid allTo validQubit validPair tableauOf rowPart rowOffset rowLength decodeRow phaseOf letterOf isReal commute anticommutingPlaces countTo anticommute qubits
 hadamard-valid = refl
 
 refused-call : (r : List ℕ) (c : Call) {x : Refusal} → callAnswer r c ≡ Refused x → accepts r c ≡ false

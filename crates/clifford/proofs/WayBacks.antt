@@ -17,7 +17,7 @@ use Rattle.pauli.specs.Questions.{_andThen_, stringQuestions, roomQuestion}
 use Rattle.pauli.proofs.Asking.{passed, done-first, done-second, has-room}
 use Rattle.clifford.specs.Layout.{recordLength, widthOf, tableauOf, FormedTableau}
 use Rattle.clifford.specs.Questions.{tableauQuestions, applyQuestions, applyAnswer, composeQuestions, composeAnswer, inverseAnswer}
-use Rattle.clifford.specs.Tableaux.{identityRecord, applyRecord, composeRecord, inverseRecord}
+use Rattle.clifford.specs.Tableaux.{recordValid, identityRecord, applyRecord, composeRecord, inverseRecord}
 use Rattle.clifford.specs.WayBack.{Call, isDone, callAnswer, accepts, destinationAfter, nextRecord, recordAfter, stepsOf, Step, Steps, none, step, productFrom, productOf, sentBy, recordThen, recordNow, stepsThen, product, back, WayBack}
 use Rattle.clifford.proofs.RecordLaws.{Good, compose-formed, compose-width, compose-length, compose-good, records-assoc, identity-width, identity-good, identity-left, inverse-width, inverse-good, inverse-left, inverse-right, send-compose, send-identity}
 use Rattle.clifford.proofs.TableauAsking.{tableau-formed, formed-good}
@@ -129,6 +129,14 @@ data GoodSteps (n : ℕ) : List (List ℕ) → Type 0 where
 step-head : {n : ℕ} {a : List ℕ} {rest : List (List ℕ)} → Steps n (a ∷ rest) → Step n a
 step-head (step s ss) = s
 
+step-valid : {n : ℕ} {a : List ℕ} → Step n a → isValid (tableauOf a) ≡ true
+unfolding recordValid
+step-valid s = s .valid
+
+good-valid : {b : List ℕ} → Good b → recordValid b ≡ true
+unfolding recordValid
+good-valid g = g .valid
+
 step-tail : {n : ℕ} {a : List ℕ} {rest : List (List ℕ)} → Steps n (a ∷ rest) → Steps n rest
 step-tail (step s ss) = ss
 
@@ -141,7 +149,7 @@ good-steps n r (c ∷ cs) ss = go (accepts r c) refl (good-steps n (nextRecord r
     go true h later =
         let these : Steps n (c .a ∷ stepsOf (nextRecord r c) cs) = subst (Steps n) (steps-more r c cs h) ss in
         subst (GoodSteps n) (sym (steps-more r c cs h))
-        (more (record { formed = step-formed r c h; valid = step-head these .valid }) (step-head these .narrow) (later (step-tail these)))
+        (more (record { formed = step-formed r c h; valid = step-valid (step-head these) }) (step-head these .narrow) (later (step-tail these)))
     go false h later = subst (GoodSteps n) (sym (steps-kept r c cs h)) (later (subst (Steps n) (steps-kept r c cs h) ss))
 
 good-first : (n : ℕ) (xs ys : List (List ℕ)) → GoodSteps n (xs ++ ys) → GoodSteps n xs
@@ -291,7 +299,7 @@ module _ (n : ℕ) (n≤ : n ≤ 128) (first rest : List Call) (premise : Steps 
     bytes = bytes-back;
     strings = strings-back;
     formed = formed-good (back n w first rest) (back-good .formed);
-    valid = back-good .valid;
+    valid = good-valid back-good;
     width = inverse-width (product n w first rest);
     left = inverse-left product-is-good;
     right = inverse-right product-is-good;

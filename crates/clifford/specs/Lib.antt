@@ -8,3 +8,4 @@ pub mod InverseRows
 pub mod Tableaux
 pub mod Writing
 pub mod WayBack
+pub mod Display

@@ -4,15 +4,14 @@ use mathlib.Core.Path.{_≡_}
 use mathlib.Core.Bool.{Bool, true, false, cond}
 use mathlib.Core.List.{List, [], _∷_, _++_}
 use lib.ListN.{length, take}
-use Rattle.clifford_group.specs.Tableau.{isValid}
 use Rattle.pauli.specs.declared.refusal.Outcome.{Outcome}
 use Rattle.pauli.specs.declared.refusal.Outcome.the-variants.{Done, Refused}
 use Rattle.pauli.specs.Answers.{written}
 use Rattle.pauli.specs.Layout.{stringLength}
 use Rattle.pauli.specs.Questions.{stringQuestions}
-use Rattle.clifford.specs.Layout.{recordLength, widthOf, tableauOf}
+use Rattle.clifford.specs.Layout.{recordLength, widthOf}
 use Rattle.clifford.specs.Questions.{tableauQuestions, applyAnswer, composeAnswer, inverseAnswer}
-use Rattle.clifford.specs.Tableaux.{identityRecord, applyRecord, composeRecord, inverseRecord}
+use Rattle.clifford.specs.Tableaux.{recordValid, identityRecord, applyRecord, composeRecord, inverseRecord}
 
 -- "a and the destination are whatever the caller brings"
 pub record Call : Type 0 where
@@ -50,7 +49,7 @@ stepsOf r (c ∷ cs) = cond (accepts r c) (c .a ∷ stepsOf (nextRecord r c) cs)
 
 -- "That its a is valid by the rule of `is_valid`, and no wider than n, is a premise on the list"
 pub record Step (n : ℕ) (a : List ℕ) : Type 0 where
-  pub valid : isValid (tableauOf a) ≡ true
+  pub valid : recordValid a ≡ true
   pub narrow : widthOf a ≤ n
 
 pub data Steps (n : ℕ) : List (List ℕ) → Type 0 where
@@ -100,7 +99,7 @@ module _ (n w : ℕ) (first rest : List Call) where
     pub strings : (s : List ℕ) → stringQuestions s ≡ Done → applyRecord (composeRecord back recordNow) s ≡ sentBy stepsThen s
     -- the inverse is a record, valid, of the product's width, and two-sided
     pub formed : tableauQuestions back ≡ Done
-    pub valid : isValid (tableauOf back) ≡ true
+    pub valid : recordValid back ≡ true
     pub width : widthOf back ≡ widthOf product
     pub left : composeRecord back product ≡ identityRecord (widthOf product)
     pub right : composeRecord product back ≡ identityRecord (widthOf product)

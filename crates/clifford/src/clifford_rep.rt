@@ -4,15 +4,17 @@ ghost use mathlib.Core.Path.{_≡_};
 ghost use Prim.Native.Nat.{max};
 ghost use lib.ListN.{length};
 ghost use Rattle.pauli.specs.declared.refusal.Outcome.the-variants.{Done};
-ghost use Rattle.pauli.specs.Answers.{FlagAnswered, Written, written};
-ghost use Rattle.clifford.specs.Answers.{CountWritten};
+ghost use Rattle.pauli.specs.Answers.{CountWritten, FlagAnswered, Written, written};
+ghost use Rattle.clifford.specs.Display.{nameText, textOfTableau, displayAnswer, startsWith};
 ghost use Rattle.clifford.specs.Questions.{tableauQuestions, imageQuestions, setQuestions, identityAnswer, applyQuestions, applyAnswer, composeAnswer, extendQuestions, extendAnswer, inverseAnswer, pauliAnswer, supportAnswer};
 ghost use Rattle.clifford.specs.Tableaux.{recordValid, xImagePart, zImagePart, setXRecord, setZRecord, identityRecord, applyRecord, composeRecord, extendRecord, inverseRecord, pauliRecord, supportBytes};
 ghost use Rattle.clifford.specs.Writing.{Applies, Identifies, ExtendsTo, ComposesTo, SignsTo};
 ghost use Rattle.clifford.specs.InverseRows.{InvertsTo};
-use crate::answer::Count;
 use crate::composing::write_composed;
 use crate::composing::write_extended;
+use crate::displaying::display_length;
+use crate::displaying::starts_with;
+use crate::displaying::write_display;
 use crate::inverting::write_inverse;
 use crate::layout::record_length;
 use crate::layout::row;
@@ -31,6 +33,7 @@ use crate::support::write_support;
 use crate::validity::valid_rows;
 use pauli::questions::check_room;
 use pauli::questions::check_string;
+use pauli::refusal::CountAnswer;
 use pauli::refusal::Flag;
 use pauli::refusal::Outcome;
 
@@ -353,15 +356,45 @@ fn support_answer(t: &[u8], room: usize) -> Outcome
 }
 
 // The qubits of the support, rising, and their number.
-pub fn support_qubits(t: &[u8], dst: &mut [u8]) -> Count
-    ensures { λ r. ⌜ CountWritten (supportAnswer (now (t .entry)) (length (now (dst .entry)))) (length (supportBytes (now (t .entry)))) (supportBytes (now (t .entry))) (now (dst .entry)) (now (dst .exit)) r ⌝ }
+pub fn support_qubits(t: &[u8], dst: &mut [u8]) -> CountAnswer
+    ensures { λ r. ⌜ CountWritten (supportAnswer (now (t .entry)) (length (now (dst .entry)))) (supportBytes (now (t .entry))) (now (dst .entry)) (now (dst .exit)) r ⌝ }
 {
     let answer = support_answer(t, dst.len());
     match answer {
         Outcome::Done => {
             write_support(t, dst);
-            Count::Counted(support_count(t))
+            CountAnswer::Count(support_count(t))
         }
-        Outcome::Refused(why) => Count::NoCount(why),
+        Outcome::Refused(why) => CountAnswer::NoCount(why),
     }
+}
+
+// ---- display
+
+fn display_answer(t: &[u8], room: usize) -> Outcome
+    ensures { λ r. ⌜ r ≡ displayAnswer (now (t .entry)) room ⌝ }
+{
+    let first = check_tableau(t);
+    if let Outcome::Done = first {
+        return check_room(display_length(t), room);
+    }
+    first
+}
+
+// The text that shows a tableau; the answer is its length.
+pub fn display(t: &[u8], dst: &mut [u8]) -> CountAnswer
+    ensures { λ r. ⌜ CountWritten (displayAnswer (now (t .entry)) (length (now (dst .entry)))) (textOfTableau (now (t .entry))) (now (dst .entry)) (now (dst .exit)) r ⌝ }
+{
+    let answer = display_answer(t, dst.len());
+    match answer {
+        Outcome::Done => CountAnswer::Count(write_display(t, dst)),
+        Outcome::Refused(why) => CountAnswer::NoCount(why),
+    }
+}
+
+// Whether a text starts as every display text does.
+pub fn starts_with_name(text: &[u8]) -> bool
+    ensures { λ b. ⌜ b ≡ startsWith nameText (now (text .entry)) ⌝ }
+{
+    starts_with(text, b"CliffordRep(")
 }
