@@ -19,7 +19,8 @@ use pauli::rows::smaller;
 use pauli::sparse_text::write_number;
 use pauli::sparse_text::write_sparse;
 
-// A text from a place on. The answer is the next place.
+// A text from a place on, through the part of the destination that starts there: an empty part where it does not reach. The answer
+// is the next place.
 fn put_text(dst: &mut [u8], at: usize, text: &[u8]) -> usize
     requires { ⌜ TextPlace at (now text) ⌝ }
     ensures { λ r. ⌜ Stored at (now (text .entry)) (now (dst .entry)) (now (dst .exit)) r ⌝ }
@@ -29,6 +30,7 @@ fn put_text(dst: &mut [u8], at: usize, text: &[u8]) -> usize
     at + text.len()
 }
 
+// The decimal numeral of a number.
 fn put_number(dst: &mut [u8], at: usize, n: usize) -> usize
     requires { ⌜ NumberPlace at n ⌝ }
     ensures { λ r. ⌜ Stored at (decimal n) (now (dst .entry)) (now (dst .exit)) r ⌝ }
