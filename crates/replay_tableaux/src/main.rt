@@ -70,6 +70,17 @@ fn call_image(line: &[u8], case: Case, t: &[u8]) -> Reply {
     Reply::Unknown
 }
 
+// A text that is written starts as every such text does.
+fn display(t: &[u8], d: &mut [u8]) -> Reply {
+    let answer = clifford_rep::display(t, d);
+    if let refusal::CountAnswer::Count(_) = answer {
+        if !clifford_rep::starts_with_name(d) {
+            return Reply::Unknown;
+        }
+    }
+    told(refusal::count_reply(answer))
+}
+
 // The functions of one tableau.
 fn call_one(line: &[u8], case: Case, t: &[u8], d: &mut [u8]) -> Reply {
     if vectors::is_named(line, b"is_valid") {
@@ -77,6 +88,15 @@ fn call_one(line: &[u8], case: Case, t: &[u8], d: &mut [u8]) -> Reply {
     }
     if vectors::is_named(line, b"extended_to") {
         return done(clifford_rep::extended_to(t, case.n1 as usize, d));
+    }
+    if vectors::is_named(line, b"inverse") {
+        return done(clifford_rep::inverse(t, d));
+    }
+    if vectors::is_named(line, b"support_qubits") {
+        return told(refusal::count_reply(clifford_rep::support_qubits(t, d)));
+    }
+    if vectors::is_named(line, b"display") {
+        return display(t, d);
     }
     call_image(line, case, t)
 }

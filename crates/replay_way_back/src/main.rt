@@ -21,9 +21,7 @@ fn is_done(r: refusal::Outcome) -> bool {
     false
 }
 
-// Whether a composed with b is this record.
-fn is_composed(a: &[u8], b: &[u8], record: &[u8]) -> bool {
-    let mut out = vectors::field_room();
+fn is_composed_in(a: &[u8], b: &[u8], record: &[u8], out: &mut [u8]) -> bool {
     if out.len() < record.len() {
         return false;
     }
@@ -33,19 +31,30 @@ fn is_composed(a: &[u8], b: &[u8], record: &[u8]) -> bool {
     vectors::same(&out[0..record.len()], record)
 }
 
-// Whether the inverse undoes the product on both sides.
-fn is_two_sided(n: usize, back: &[u8], product: &[u8]) -> bool {
-    let mut one = vectors::field_room();
+// Whether a composed with b is this record.
+fn is_composed(a: &[u8], b: &[u8], record: &[u8]) -> bool {
+    let mut out = vectors::field_room();
+    is_composed_in(a, b, record, &mut out)
+}
+
+fn is_two_sided_in(n: usize, back: &[u8], product: &[u8], one: &mut [u8]) -> bool {
     if one.len() < product.len() {
         return false;
     }
     if !is_done(clifford_rep::identity(n, &mut one[0..product.len()])) {
         return false;
     }
-    if !is_composed(back, product, &one[0..product.len()]) {
+    let due = &one[0..product.len()];
+    if !is_composed(back, product, due) {
         return false;
     }
-    is_composed(product, back, &one[0..product.len()])
+    is_composed(product, back, due)
+}
+
+// Whether the inverse undoes the product on both sides.
+fn is_two_sided(n: usize, back: &[u8], product: &[u8]) -> bool {
+    let mut one = vectors::field_room();
+    is_two_sided_in(n, back, product, &mut one)
 }
 
 fn is_valid(t: &[u8]) -> bool {
@@ -103,17 +112,30 @@ fn mark(n: usize, then: &mut [u8], now: &[u8], product: &mut [u8]) -> Reply {
     told(clifford_rep::identity(n, product))
 }
 
-// One more step on the left of the product.
-fn extend(a: &[u8], product: &mut [u8]) -> bool {
-    let mut out = vectors::field_room();
+fn extend_in(a: &[u8], product: &mut [u8], out: &mut [u8]) -> bool {
     if out.len() < product.len() {
         return false;
     }
     if !is_done(clifford_rep::compose(a, product, &mut out[0..product.len()])) {
         return false;
     }
-    rows::copy(&out[0..product.len()], product);
+    rows::copy(out, product);
     true
+}
+
+// One more step on the left of the product.
+fn extend(a: &[u8], product: &mut [u8]) -> bool {
+    let mut out = vectors::field_room();
+    extend_in(a, product, &mut out)
+}
+
+// What the call wrote is the record now.
+fn step(a: &[u8], wrote: &[u8], now: &mut [u8], product: &mut [u8]) -> Reply {
+    rows::copy(wrote, now);
+    if extend(a, product) {
+        return Reply::Of(0, 0);
+    }
+    Reply::Unknown
 }
 
 // A call on the record: a step where it is accepted.
@@ -123,15 +145,21 @@ fn compose(a: &[u8], b: &[u8], d: &mut [u8], now: &mut [u8], product: &mut [u8])
     }
     let answer = clifford_rep::compose(a, now, d);
     if let refusal::Outcome::Done = answer {
-        rows::copy(d, now);
-        if !extend(a, product) {
-            return Reply::Unknown;
-        }
+        return step(a, d, now, product);
     }
     told(answer)
 }
 
-fn call(line: &[u8], n: usize, a: &[u8], b: &[u8], d: &mut [u8], then: &mut [u8], now: &mut [u8], product: &mut [u8]) -> Reply {
+fn call(
+    line: &[u8],
+    n: usize,
+    a: &[u8],
+    b: &[u8],
+    d: &mut [u8],
+    then: &mut [u8],
+    now: &mut [u8],
+    product: &mut [u8],
+) -> Reply {
     if vectors::is_named(line, b"compose") {
         return compose(a, b, d, now, product);
     }
@@ -155,10 +183,33 @@ fn held(reply: Reply, n: usize, then: &[u8], now: &[u8], product: &[u8]) -> Repl
     Reply::Unknown
 }
 
-// Plays one line on the records, which have the length that it says.
-fn play(line: &[u8], case: Case, a: &[u8], b: &[u8], d: &mut [u8], then: &mut [u8], now: &mut [u8], product: &mut [u8]) -> Reply {
+// Plays one line on the records of its list.
+fn play(
+    line: &[u8],
+    n: usize,
+    a: &[u8],
+    b: &[u8],
+    d: &mut [u8],
+    then: &mut [u8],
+    now: &mut [u8],
+    product: &mut [u8],
+) -> Reply {
+    let reply = call(line, n, a, b, d, then, now, product);
+    held(reply, n, then, now, product)
+}
+
+// The records have the length that the line says.
+fn cut(
+    line: &[u8],
+    case: Case,
+    a: &[u8],
+    b: &[u8],
+    d: &mut [u8],
+    then: &mut [u8],
+    now: &mut [u8],
+    product: &mut [u8],
+) -> Reply {
     let len = case.n2 as usize;
-    let n = case.n1 as usize;
     if then.len() < len {
         return Reply::Unknown;
     }
@@ -168,8 +219,44 @@ fn play(line: &[u8], case: Case, a: &[u8], b: &[u8], d: &mut [u8], then: &mut [u
     if product.len() < len {
         return Reply::Unknown;
     }
-    let reply = call(line, n, a, b, d, &mut then[0..len], &mut now[0..len], &mut product[0..len]);
-    held(reply, n, &then[0..len], &now[0..len], &product[0..len])
+    play(
+        line,
+        case.n1 as usize,
+        a,
+        b,
+        d,
+        &mut then[0..len],
+        &mut now[0..len],
+        &mut product[0..len],
+    )
+}
+
+fn run_in(
+    line: &[u8],
+    a: &mut [u8],
+    b: &mut [u8],
+    d: &mut [u8],
+    e: &mut [u8],
+    then: &mut [u8],
+    now: &mut [u8],
+    product: &mut [u8],
+) -> Outcome {
+    let case = vectors::read_case(line, a, b, d, e);
+    let a_len = case.a_len;
+    let b_len = case.b_len;
+    let d_len = case.d_len;
+    let e_len = case.e_len;
+    let reply = cut(
+        line,
+        case,
+        &a[0..a_len],
+        &b[0..b_len],
+        &mut d[0..d_len],
+        then,
+        now,
+        product,
+    );
+    vectors::compared(case, reply, &d[0..d_len], &e[0..e_len])
 }
 
 fn run(line: &[u8], then: &mut [u8], now: &mut [u8], product: &mut [u8]) -> Outcome {
@@ -177,13 +264,7 @@ fn run(line: &[u8], then: &mut [u8], now: &mut [u8], product: &mut [u8]) -> Outc
     let mut b = vectors::field_room();
     let mut d = vectors::field_room();
     let mut e = vectors::field_room();
-    let case = vectors::read_case(line, &mut a, &mut b, &mut d, &mut e);
-    let a_len = case.a_len;
-    let b_len = case.b_len;
-    let d_len = case.d_len;
-    let e_len = case.e_len;
-    let reply = play(line, case, &a[0..a_len], &b[0..b_len], &mut d[0..d_len], then, now, product);
-    vectors::compared(case, reply, &d[0..d_len], &e[0..e_len])
+    run_in(line, &mut a, &mut b, &mut d, &mut e, then, now, product)
 }
 
 fn replay(text: &[u8]) -> Tally {
@@ -193,7 +274,12 @@ fn replay(text: &[u8]) -> Tally {
     let mut tally = Tally::new();
     let mut at = 0;
     while at < text.len() {
-        tally = tally.with(run(vectors::line_at(text, at), &mut then, &mut now, &mut product));
+        tally = tally.with(run(
+            vectors::line_at(text, at),
+            &mut then,
+            &mut now,
+            &mut product,
+        ));
         at = vectors::next_line(text, at);
     }
     tally

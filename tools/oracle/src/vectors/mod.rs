@@ -5,6 +5,7 @@ mod inputs;
 mod pauli;
 mod tableaux;
 mod text;
+mod way_back;
 
 use crate::driver::answer::{Answer, answer, write_answer};
 use crate::driver::line::Call;
@@ -53,6 +54,16 @@ impl Book {
         }
     }
 
+    /// A call that the scope document refuses with this number and detail; the Rust has no such answer.
+    pub fn add_refused(&mut self, call: &Call, number: u64, detail: u64) {
+        self.write(call, &Answer::Refused(number, detail));
+    }
+
+    /// A line that calls nothing.
+    pub fn add_marked(&mut self, call: &Call) {
+        self.write(call, &Answer::Value(0));
+    }
+
     fn write(&mut self, call: &Call, answer: &Answer) {
         self.text += &format!("{} = {}\n", call.write(), write_answer(call, answer));
     }
@@ -67,6 +78,7 @@ pub fn vectors(name: &str) -> Option<String> {
         "tableaux" => tableaux::fill(&mut book),
         "gates" => gates::fill(&mut book),
         "lists" => gates::fill_lists(&mut book),
+        "way_back" => way_back::fill(&mut book),
         _ => return None,
     }
     Some(book.text)
