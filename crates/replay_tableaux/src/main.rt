@@ -19,20 +19,19 @@ fn done(r: refusal::Outcome) -> Reply {
 
 // Whether the part is the row of the record that starts at this offset.
 fn is_row(t: &[u8], at: usize, part: &[u8]) -> bool {
-    if t.len() == 0 {
+    if t.len() <= at {
         return false;
     }
-    if part.len() != 1 + t[0] as usize {
+    if 255 < part.len() {
         return false;
     }
-    if t.len() < at {
+    if part.len() as u8 != std::num::wrapping_add_u8(t[0], 1) {
         return false;
     }
-    let rest = &t[at..];
-    if rest.len() < part.len() {
+    if t.len() - at < part.len() {
         return false;
     }
-    vectors::same(&rest[0..part.len()], part)
+    vectors::same(&t[at..at + part.len()], part)
 }
 
 // The value is the offset of the part handed out, so the part is compared with what stands there.
@@ -40,7 +39,8 @@ fn image(case: Case, t: &[u8], answer: refusal::Outcome, part: &[u8]) -> Reply {
     let refusal::Outcome::Done = answer else {
         return done(answer);
     };
-    let Expected::Exactly(_, at) = case.expected else {
+    let expected = case.expected;
+    let Expected::Exactly(_, at) = expected else {
         return Reply::Unknown;
     };
     if is_row(t, at as usize, part) {
@@ -118,10 +118,42 @@ fn call_other(line: &[u8], case: Case, a: &[u8], d: &mut [u8]) -> Reply {
     call_one(line, case, a, d)
 }
 
+// The record of width 1 of a number: its four bytes after the width, two bits each.
+fn one_qubit(number: u8) -> [u8; 5] {
+    [1, number / 64, number / 16 % 4, number / 4 % 4, number % 4]
+}
+
+// The number of a record of width 1.
+fn number_of(record: &[u8]) -> u8 {
+    if record.len() < 5 {
+        return 0;
+    }
+    record[1] % 4 * 64 + record[2] % 4 * 16 + record[3] % 4 * 4 + record[4] % 4
+}
+
+fn compose_one(a: &[u8], number: u8) -> u8 {
+    let mut out = [0u8; 5];
+    clifford_rep::compose(a, &one_qubit(number), &mut out);
+    number_of(&out)
+}
+
+// a composed with each record of width 1 in turn.
+fn compose_each(a: &[u8], d: &mut [u8]) -> Reply {
+    let mut i = 0;
+    while i < d.len() {
+        d[i] = compose_one(a, (i % 256) as u8);
+        i += 1;
+    }
+    Reply::Of(0, 0)
+}
+
 // Calls the function that the line names.
 fn call(line: &[u8], case: Case, a: &[u8], b: &[u8], d: &mut [u8]) -> Reply {
     if vectors::is_named(line, b"compose") {
         return done(clifford_rep::compose(a, b, d));
+    }
+    if vectors::is_named(line, b"compose_each") {
+        return compose_each(a, d);
     }
     if vectors::is_named(line, b"apply") {
         return done(clifford_rep::apply(a, b, d));

@@ -65,6 +65,18 @@ fn compose(call: &Call) -> Option<Answer> {
     of_tableau(&read_tableau(&call.b1)?.compose(&read_tableau(&call.b2)?))
 }
 
+/// `compose` with each record of width 1 in turn; two bits for each byte after the width.
+fn compose_each(call: &Call) -> Option<Answer> {
+    let left = read_tableau(&call.b1)?;
+    let numbers = (0..=255u8).map(|number| {
+        let right = [6, 4, 2, 0].map(|bits| number >> bits & 3);
+        let right = read_tableau(&[&[1], &right[..]].concat())?;
+        let product = write_tableau(&left.compose(&right))?;
+        (product.len() == 5).then(|| product[1..].iter().fold(0, |sum, byte| sum << 2 | byte))
+    });
+    Some(written(numbers.collect::<Option<Vec<u8>>>()?))
+}
+
 fn extended_to(call: &Call) -> Option<Answer> {
     of_tableau(&read_tableau(&call.b1)?.extended_to(below(call.n[0], QUBITS + 1)?))
 }
@@ -93,6 +105,7 @@ pub fn answer(call: &Call) -> Option<Option<Answer>> {
         "set_z_image" => set_image(call, Half::Z),
         "apply" => apply(call),
         "compose" => compose(call),
+        "compose_each" => compose_each(call),
         "extended_to" => extended_to(call),
         "inverse" => read_tableau(&call.b1).and_then(|tableau| of_tableau(&tableau.inverse())),
         "is_valid" => {

@@ -102,6 +102,10 @@ fn one_qubit(book: &mut Book) {
         book.add_sized(&Call::new("inverse").b1(&record), 1);
         book.add_sized(&Call::new("support_qubits").b1(&record), 1);
     }
+    book.comment("All pairs of records of width 1 composed: each line has one on the left, and all 256 on the right.");
+    for record in one_qubit_tableaux() {
+        book.add_sized(&Call::new("compose_each").b1(&record), 0);
+    }
     book.comment("Y through every record of width 1.");
     for record in one_qubit_tableaux() {
         let y = string(0, &[(0, 3)]);
