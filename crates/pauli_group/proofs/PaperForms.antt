@@ -29,7 +29,7 @@ equal-integer (pos m) (negsuc n) t = absurd t
 equal-integer (negsuc m) (pos n) t = absurd t
 equal-integer (negsuc m) (negsuc n) t = ap negsuc (eqb→eq m n t)
 
-both : (a b : Bool) → T (a && b) → T a × T b
+pub both : (a b : Bool) → T (a && b) → T a × T b
 both true b t = (tt, t)
 both false b t = absurd t
 
@@ -46,10 +46,10 @@ equal-gaussian z w t =
 abbrev same-row : Gaussian → Gaussian → Gaussian → Gaussian → Bool
 same-row a b a′ b′ = same-gaussian a a′ && same-gaussian b b′
 
-abbrev same-matrix : Matrix → Matrix → Bool
+abbrev pub same-matrix : Matrix → Matrix → Bool
 same-matrix m n = same-row (m .a) (m .b) (n .a) (n .b) && same-row (m .c) (m .d) (n .c) (n .d)
 
-equal-matrix : (m n : Matrix) → T (same-matrix m n) → m ≡ n
+pub equal-matrix : (m n : Matrix) → T (same-matrix m n) → m ≡ n
 equal-matrix m n t =
     let rows = both (same-row (m .a) (m .b) (n .a) (n .b)) (same-row (m .c) (m .d) (n .c) (n .d)) t in
     let upper = both (same-gaussian (m .a) (n .a)) (same-gaussian (m .b) (n .b)) (rows .0) in

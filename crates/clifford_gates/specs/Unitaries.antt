@@ -1,0 +1,136 @@
+-- The gates' unitary matrices over the Gaussian integers, each scaled so that no root of two appears.
+use mathlib.Core.Path.{_≡_}
+use mathlib.Core.List.{List, [], _∷_}
+use lib.IntN.{pos, negsuc}
+use Rattle.pauli_group.specs.Phase.{Phase, PlusOne, MinusOne, PlusI, MinusI}
+use Rattle.pauli_group.specs.Letter.{Letter, I, X, Z, Y}
+use Rattle.pauli_group.specs.Papers.{Gaussian, gaussian, addG, Matrix, matrixProduct, scaleMatrix, phaseNumber, pauliMatrix}
+use Rattle.clifford_gates.specs.Gates.{Image, OneQubit, PairImage, TwoQubit}
+
+abbrev zero1 : Gaussian
+zero1 = gaussian (pos 0) (pos 0)
+
+abbrev one1 : Gaussian
+one1 = gaussian (pos 1) (pos 0)
+
+-- Hadamard's matrix, times the root of two, and the phase gate's
+unfoldable pub hadamard : Matrix
+hadamard = record { a = one1; b = one1; c = one1; d = gaussian (negsuc 0) (pos 0) }
+
+unfoldable pub phaseGate : Matrix
+phaseGate = record { a = one1; b = zero1; c = zero1; d = gaussian (pos 0) (pos 1) }
+
+-- a product of the two, the rightmost acts first
+pub data Generator : Type 0 where
+  H S : Generator
+
+unfoldable pub word : List Generator → Matrix
+word [] = pauliMatrix I
+word (H ∷ w) = matrixProduct hadamard (word w)
+word (S ∷ w) = matrixProduct phaseGate (word w)
+
+-- gates 0 to 23, each as one of the 24 products of `single_qubit_cliffords`
+unfoldable pub oneQubitUnitaries : List Matrix
+oneQubitUnitaries =
+    word ([]) ∷  -- I
+    word (H ∷ S ∷ S ∷ H ∷ []) ∷  -- X
+    word (S ∷ S ∷ H ∷ S ∷ S ∷ H ∷ []) ∷  -- Y
+    word (S ∷ S ∷ []) ∷  -- Z
+    word (H ∷ []) ∷  -- H
+    word (S ∷ S ∷ H ∷ S ∷ S ∷ []) ∷  -- H2
+    word (H ∷ S ∷ S ∷ H ∷ S ∷ S ∷ S ∷ []) ∷  -- H3
+    word (H ∷ S ∷ S ∷ H ∷ S ∷ []) ∷  -- H4
+    word (S ∷ S ∷ H ∷ S ∷ H ∷ []) ∷  -- H5
+    word (S ∷ S ∷ S ∷ H ∷ S ∷ []) ∷  -- H6
+    word (H ∷ S ∷ H ∷ []) ∷  -- SX
+    word (S ∷ H ∷ S ∷ []) ∷  -- SXdg
+    word (H ∷ S ∷ S ∷ []) ∷  -- SY
+    word (S ∷ S ∷ H ∷ []) ∷  -- SYdg
+    word (S ∷ []) ∷  -- SZ
+    word (S ∷ S ∷ S ∷ []) ∷  -- SZdg
+    word (S ∷ H ∷ S ∷ H ∷ []) ∷  -- F
+    word (S ∷ H ∷ []) ∷  -- Fdg
+    word (S ∷ H ∷ S ∷ S ∷ []) ∷  -- F2
+    word (S ∷ S ∷ S ∷ H ∷ S ∷ H ∷ []) ∷  -- F2dg
+    word (S ∷ S ∷ H ∷ S ∷ []) ∷  -- F3
+    word (S ∷ S ∷ S ∷ H ∷ S ∷ S ∷ []) ∷  -- F3dg
+    word (S ∷ S ∷ S ∷ H ∷ []) ∷  -- F4
+    word (H ∷ S ∷ []) ∷  -- F4dg
+    []
+
+-- the matrix of a letter with its sign
+unfoldable pub imageMatrix : Image → Matrix
+imageMatrix i = scaleMatrix (phaseNumber (i .phase)) (pauliMatrix (i .letter))
+
+-- the gate's images are those of conjugation by u: u·P = P'·u, so P' = u·P·u†
+pub record Conjugates (u : Matrix) (g : OneQubit) : Type 0 where
+  pub x : matrixProduct u (pauliMatrix X) ≡ matrixProduct (imageMatrix (g .x)) u
+  pub z : matrixProduct u (pauliMatrix Z) ≡ matrixProduct (imageMatrix (g .z)) u
+
+-- ---- two qubits: 4 by 4 matrices as 2 by 2 blocks, the first qubit outside
+
+pub record Blocks : Type 0 where
+  pub a : Matrix
+  pub b : Matrix
+  pub c : Matrix
+  pub d : Matrix
+
+unfoldable pub addMatrix : Matrix → Matrix → Matrix
+addMatrix m n = record { a = addG (m .a) (n .a); b = addG (m .b) (n .b); c = addG (m .c) (n .c); d = addG (m .d) (n .d) }
+
+unfoldable pub blockProduct : Blocks → Blocks → Blocks
+blockProduct m n = record {
+  a = addMatrix (matrixProduct (m .a) (n .a)) (matrixProduct (m .b) (n .c));
+  b = addMatrix (matrixProduct (m .a) (n .b)) (matrixProduct (m .b) (n .d));
+  c = addMatrix (matrixProduct (m .c) (n .a)) (matrixProduct (m .d) (n .c));
+  d = addMatrix (matrixProduct (m .c) (n .b)) (matrixProduct (m .d) (n .d));
+}
+
+unfoldable pub addBlocks : Blocks → Blocks → Blocks
+addBlocks m n = record { a = addMatrix (m .a) (n .a); b = addMatrix (m .b) (n .b); c = addMatrix (m .c) (n .c); d = addMatrix (m .d) (n .d) }
+
+-- the Kronecker product
+unfoldable pub kronecker : Matrix → Matrix → Blocks
+kronecker m n = record { a = scaleMatrix (m .a) n; b = scaleMatrix (m .b) n; c = scaleMatrix (m .c) n; d = scaleMatrix (m .d) n }
+
+-- a phase times two letters
+unfoldable pub pairMatrix : Phase → Letter → Letter → Blocks
+pairMatrix p a b = kronecker (scaleMatrix (phaseNumber p) (pauliMatrix a)) (pauliMatrix b)
+
+-- a letter on the second qubit where the first is 1
+unfoldable pub controlled : Letter → Blocks
+controlled l = record { a = pauliMatrix I; b = scaleMatrix zero1 (pauliMatrix I); c = scaleMatrix zero1 (pauliMatrix I); d = pauliMatrix l }
+
+-- the square root of two equal letters, 1 - i·PP, and its inverse, 1 + i·PP, times the root of two
+unfoldable pub rootOf : Phase → Letter → Blocks
+rootOf p l = addBlocks (pairMatrix PlusOne I I) (pairMatrix p l l)
+
+-- twice the exchange of the qubits, 1 + ZZ + p·(XX + YY): p is 1 for SWAP, i for iSWAP, -i for its inverse
+unfoldable pub exchange : Phase → Blocks
+exchange p =
+    addBlocks (addBlocks (pairMatrix PlusOne I I) (pairMatrix PlusOne Z Z)) (addBlocks (pairMatrix p X X) (pairMatrix p Y Y))
+
+-- G: CZ, Hadamard on both qubits, CZ; times 2
+unfoldable pub gGate : Blocks
+gGate = blockProduct (controlled Z) (blockProduct (kronecker hadamard hadamard) (controlled Z))
+
+-- gates 24 to 37; Gdg differs from G by a phase of the whole, which no conjugation shows
+unfoldable pub twoQubitUnitaries : List Blocks
+twoQubitUnitaries =
+    controlled X ∷ controlled Y ∷ controlled Z ∷ exchange PlusOne ∷
+    rootOf MinusI X ∷ rootOf PlusI X ∷ rootOf MinusI Y ∷ rootOf PlusI Y ∷ rootOf MinusI Z ∷ rootOf PlusI Z ∷
+    exchange PlusI ∷ exchange MinusI ∷ gGate ∷ gGate ∷ []
+
+unfoldable pub pairImageMatrix : PairImage → Blocks
+pairImageMatrix i = pairMatrix (i .phase) (i .first) (i .second)
+
+pub record ConjugatesPair (u : Blocks) (g : TwoQubit) : Type 0 where
+  pub x0 : blockProduct u (pairMatrix PlusOne X I) ≡ blockProduct (pairImageMatrix (g .x0)) u
+  pub x1 : blockProduct u (pairMatrix PlusOne I X) ≡ blockProduct (pairImageMatrix (g .x1)) u
+  pub z0 : blockProduct u (pairMatrix PlusOne Z I) ≡ blockProduct (pairImageMatrix (g .z0)) u
+  pub z1 : blockProduct u (pairMatrix PlusOne I Z) ≡ blockProduct (pairImageMatrix (g .z1)) u
+
+-- the two lists are as long, and R holds of the entries of each number
+pub data Each {A B : Type 0} (R : A → B → Type 0) : List A → List B → Type 0 where
+  none : Each R [] []
+  more : {a : A} {b : B} {xs : List A} {ys : List B} → R a b → Each R xs ys → Each R (a ∷ xs) (b ∷ ys)
