@@ -1,1 +1,2 @@
+pub mod GateTables
 pub mod GateUnitaries

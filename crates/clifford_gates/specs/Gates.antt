@@ -1,8 +1,10 @@
 -- The images of the 38 gates, by number (scope document, "Gate number"): `IMAGES_1Q` of clifford.rs and the constructors of
 -- clifford_rep.rs.
+use mathlib.Core.Path.{_≡_}
+use mathlib.Core.Bool.{true}
 use mathlib.Core.List.{List, [], _∷_}
-use Rattle.pauli_group.specs.Phase.{Phase, PlusOne, MinusOne}
-use Rattle.pauli_group.specs.Letter.{Letter, I, X, Z, Y}
+use Rattle.pauli_group.specs.Phase.{Phase, PlusOne, MinusOne, isReal}
+use Rattle.pauli_group.specs.Letter.{Letter, I, X, Z, Y, anticommute}
 
 -- a letter with its sign
 pub record Image : Type 0 where
@@ -51,6 +53,22 @@ oneQubitGates =
     oneQubit (plus Z) (minus Y) ∷  -- 22: F4
     oneQubit (minus Y) (plus X) ∷  -- 23: F4dg
     []
+
+-- a valid entry: its phases are real and its letters anticommute
+pub record ValidImages (g : OneQubit) : Type 0 where
+  pub xReal : isReal (g .x .phase) ≡ true
+  pub zReal : isReal (g .z .phase) ≡ true
+  pub anticommuting : anticommute (g .x .letter) (g .z .letter) ≡ true
+
+-- P holds of every entry
+pub data All {A : Type 0} (P : A → Type 0) : List A → Type 0 where
+  none : All P []
+  more : {a : A} {rest : List A} → P a → All P rest → All P (a ∷ rest)
+
+-- no entry comes twice: each differs from all that follow it
+pub data Different {A : Type 0} : List A → Type 0 where
+  none : Different []
+  more : {a : A} {rest : List A} → All (λ b. a ≡ b → ⊥) rest → Different rest → Different (a ∷ rest)
 
 -- a letter on each of two qubits, with their sign
 pub record PairImage : Type 0 where
