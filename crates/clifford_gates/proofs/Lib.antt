@@ -1,2 +1,3 @@
 pub mod GateTables
+pub mod GateTableaux
 pub mod GateUnitaries
