@@ -2,7 +2,6 @@
 use mathlib.Core.Path.{_≡_, refl, sym, ap, subst, _∙_}
 use mathlib.Core.Bool.{Bool, true, false, not, cond}
 use mathlib.Core.Logic.{_≢_}
-use mathlib.Core.List.{List, [], _∷_}
 use Prim.Native.Nat.{ℕ, suc, _<_, _≤_}
 use native.Mathlib.Omega.{arith}
 use lib.Dec.{eqb}
@@ -18,10 +17,10 @@ use Rattle.clifford_group.proofs.Rows.{Generator, ofX, ofZ, row, rows-proper}
 use Rattle.clifford_group.proofs.Valid.{Valid, valid-test}
 use Rattle.clifford_gates.specs.Gates.{Image, plus, OneQubit, oneQubit, oneQubitGates, ValidImages, All}
 use Rattle.clifford_gates.specs.GateTableaux.{imageString, gateOnEach, unchanged, onQubit}
-use Rattle.clifford_gates.proofs.GateTables.{one-qubit-valid}
+use Rattle.clifford_gates.proofs.GateTables.{all-map, one-qubit-valid}
 
 -- ---- images that commute
-commute-by : (s t : PauliString) (b : Bool) → commutationSign s t ≡ sign (not b) → commute s t ≡ b
+pub commute-by : (s t : PauliString) (b : Bool) → commutationSign s t ≡ sign (not b) → commute s t ≡ b
 commute-by s t b e = mul-commute s t b (mul-swap s t ∙ ap (λ p. scale p (mul t s)) e)
 
 module _ (i j : Image) (q r : ℕ) (h : r < qubits) where
@@ -99,8 +98,4 @@ clifford-on-qubit g v q h = clifford-each (suc q) (λ k. cond (eqb k q) g unchan
 
 -- each of the 24 gates has a valid tableau on every qubit
 pub one-qubit-clifford : (q : ℕ) → q < qubits → All (λ g. Clifford (onQubit g q)) oneQubitGates
-one-qubit-clifford q h = on-all oneQubitGates one-qubit-valid
-  where
-    on-all : (l : List OneQubit) → All ValidImages l → All (λ g. Clifford (onQubit g q)) l
-    on-all [] All.none = All.none
-    on-all (g ∷ rest) (All.more v vs) = All.more (clifford-on-qubit g v q h) (on-all rest vs)
+one-qubit-clifford q h = all-map (λ g v. clifford-on-qubit g v q h) oneQubitGates one-qubit-valid

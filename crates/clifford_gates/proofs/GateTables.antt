@@ -1,4 +1,5 @@
--- The rules of the table of one-qubit gates, each by one test that is computed over the table: every entry is valid, and all differ.
+-- The rules of the tables of gates, each by one test that is computed over the table: every entry is valid, and all one-qubit gates
+-- differ.
 use mathlib.Core.Path.{_≡_, refl, subst}
 use mathlib.Core.Bool.{Bool, true, false, not, _&&_}
 use mathlib.Core.List.{List, [], _∷_}
@@ -7,7 +8,7 @@ use Rattle.pauli_group.specs.Phase.{Phase, isReal}
 use Rattle.pauli_group.specs.Letter.{Letter, anticommute}
 use Rattle.pauli_group.proofs.Finite.{letters, phases}
 use Rattle.pauli_group.proofs.PaperForms.{both}
-use Rattle.clifford_gates.specs.Gates.{Image, OneQubit, oneQubitGates, ValidImages, All, Different}
+use Rattle.clifford_gates.specs.Gates.{Image, OneQubit, oneQubitGates, ValidImages, All, Different, PairImage, TwoQubit, twoQubitGates, pairsCommute, ValidPairImages}
 
 is-true : (b : Bool) → T b → b ≡ true
 is-true true t = refl
@@ -23,6 +24,10 @@ all-of test sound [] t = All.none
 all-of test sound (a ∷ rest) t =
     let parts = both (test a) (all-test test rest) t in
     All.more (sound a (parts .0)) (all-of test sound rest (parts .1))
+
+pub all-map : {A : Type 0} {P Q : A → Type 0} → ((a : A) → P a → Q a) → (l : List A) → All P l → All Q l
+all-map f [] All.none = All.none
+all-map f (a ∷ rest) (All.more p ps) = All.more (f a p) (all-map f rest ps)
 
 -- ---- valid
 abbrev valid-test : OneQubit → Bool
@@ -77,3 +82,49 @@ different-of (g ∷ rest) t =
 pub one-qubit-different : Different oneQubitGates
 unfolding oneQubitGates
 one-qubit-different = different-of oneQubitGates tt
+
+-- ---- two qubits: valid
+abbrev real-test : TwoQubit → Bool
+real-test g = (isReal (g .x0 .phase) && isReal (g .x1 .phase)) && (isReal (g .z0 .phase) && isReal (g .z1 .phase))
+
+abbrev own-test : TwoQubit → Bool
+own-test g = not (pairsCommute (g .x0) (g .z0)) && not (pairsCommute (g .x1) (g .z1))
+
+abbrev other-test : TwoQubit → Bool
+other-test g =
+    (pairsCommute (g .x0) (g .x1) && pairsCommute (g .x0) (g .z1)) && (pairsCommute (g .z0) (g .x1) && pairsCommute (g .z0) (g .z1))
+
+abbrev pair-test : TwoQubit → Bool
+pair-test g = real-test g && (own-test g && other-test g)
+
+is-false : (b : Bool) → T (not b) → b ≡ false
+is-false true t = absurd t
+is-false false t = refl
+
+pair-is : (g : TwoQubit) → T (pair-test g) → ValidPairImages g
+pair-is g t =
+    let parts = both (real-test g) (own-test g && other-test g) t in
+    let reals = both (isReal (g .x0 .phase) && isReal (g .x1 .phase)) (isReal (g .z0 .phase) && isReal (g .z1 .phase)) (parts .0) in
+    let x = both (isReal (g .x0 .phase)) (isReal (g .x1 .phase)) (reals .0) in
+    let z = both (isReal (g .z0 .phase)) (isReal (g .z1 .phase)) (reals .1) in
+    let rows = both (own-test g) (other-test g) (parts .1) in
+    let own = both (not (pairsCommute (g .x0) (g .z0))) (not (pairsCommute (g .x1) (g .z1))) (rows .0) in
+    let others = both (pairsCommute (g .x0) (g .x1) && pairsCommute (g .x0) (g .z1)) (pairsCommute (g .z0) (g .x1) && pairsCommute (g .z0) (g .z1)) (rows .1) in
+    let ofX0 = both (pairsCommute (g .x0) (g .x1)) (pairsCommute (g .x0) (g .z1)) (others .0) in
+    let ofZ0 = both (pairsCommute (g .z0) (g .x1)) (pairsCommute (g .z0) (g .z1)) (others .1) in
+    record {
+      x0Real = is-true _ (x .0);
+      x1Real = is-true _ (x .1);
+      z0Real = is-true _ (z .0);
+      z1Real = is-true _ (z .1);
+      first = is-false _ (own .0);
+      second = is-false _ (own .1);
+      xx = is-true _ (ofX0 .0);
+      xz = is-true _ (ofX0 .1);
+      zx = is-true _ (ofZ0 .0);
+      zz = is-true _ (ofZ0 .1);
+    }
+
+pub two-qubit-valid : All ValidPairImages twoQubitGates
+unfolding twoQubitGates isReal pairsCommute anticommute
+two-qubit-valid = all-of pair-test pair-is twoQubitGates tt

@@ -1,3 +1,4 @@
 pub mod GateTables
 pub mod GateTableaux
+pub mod PairTableaux
 pub mod GateUnitaries

@@ -1,7 +1,7 @@
 -- The images of the 38 gates, by number (scope document, "Gate number"): `IMAGES_1Q` of clifford.rs and the constructors of
 -- clifford_rep.rs.
 use mathlib.Core.Path.{_≡_}
-use mathlib.Core.Bool.{true}
+use mathlib.Core.Bool.{Bool, true, false, cond, not}
 use mathlib.Core.List.{List, [], _∷_}
 use Rattle.pauli_group.specs.Phase.{Phase, PlusOne, MinusOne, isReal}
 use Rattle.pauli_group.specs.Letter.{Letter, I, X, Z, Y, anticommute}
@@ -110,3 +110,21 @@ twoQubitGates =
     twoQubit (pairPlus I X) (pairPlus X I) (pairPlus X Z) (pairPlus Z X) ∷  -- 36: G
     twoQubit (pairPlus I X) (pairPlus X I) (pairPlus X Z) (pairPlus Z X) ∷  -- 37: Gdg
     []
+
+-- two such images commute where both letters anticommute, or neither
+unfoldable pub pairsCommute : PairImage → PairImage → Bool
+pairsCommute i j =
+    cond (anticommute (i .first) (j .first)) (anticommute (i .second) (j .second)) (not (anticommute (i .second) (j .second)))
+
+-- a valid entry: its phases are real, X and Z images of one qubit anticommute, every other pair commutes
+pub record ValidPairImages (g : TwoQubit) : Type 0 where
+  pub x0Real : isReal (g .x0 .phase) ≡ true
+  pub x1Real : isReal (g .x1 .phase) ≡ true
+  pub z0Real : isReal (g .z0 .phase) ≡ true
+  pub z1Real : isReal (g .z1 .phase) ≡ true
+  pub first : pairsCommute (g .x0) (g .z0) ≡ false
+  pub second : pairsCommute (g .x1) (g .z1) ≡ false
+  pub xx : pairsCommute (g .x0) (g .x1) ≡ true
+  pub xz : pairsCommute (g .x0) (g .z1) ≡ true
+  pub zx : pairsCommute (g .z0) (g .x1) ≡ true
+  pub zz : pairsCommute (g .z0) (g .z1) ≡ true
