@@ -17,3 +17,4 @@ pub mod RecordLaws
 pub mod WayBacks
 pub mod WayBackSteps
 pub mod Displays
+pub mod GateImages

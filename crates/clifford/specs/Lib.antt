@@ -9,3 +9,6 @@ pub mod Tableaux
 pub mod Writing
 pub mod WayBack
 pub mod Display
+pub mod GateQuestions
+pub mod GateRows
+pub mod GateAnswers

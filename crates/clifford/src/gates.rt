@@ -1,0 +1,134 @@
+// The images of the gates, and the rows of their tableaux. Ports clifford.rs and the constructors of clifford_rep.rs of PECOS,
+// changed: Copyright 2024 The PECOS Developers, Apache License, Version 2.0.
+ghost use mathlib.Core.Path.{_≡_};
+ghost use Prim.Native.Nat.{_<_};
+ghost use Rattle.clifford_gates.specs.GateNumbers.{oneQubitGate, twoQubitGate};
+ghost use Rattle.clifford_gates.specs.Updates.{letterImage};
+ghost use Rattle.pauli.specs.Layout.{letterOf};
+ghost use Rattle.clifford.specs.GateRows.{imageBytes, pairBytes, yBytes, ImageOf, TakesTwo, generatorImage, PairOf};
+use pauli::algebra::PhasedLetter;
+use pauli::algebra::multiply_paulis;
+use pauli::rows::phase_times;
+
+// Gates 0 to 23: the sign and the letter of the image of X, and of Z.
+const IMAGES_1Q: [[u8; 4]; 24] = [
+    [0, 1, 0, 2], // 0: I
+    [0, 1, 1, 2], // 1: X
+    [1, 1, 1, 2], // 2: Y
+    [1, 1, 0, 2], // 3: Z
+    [0, 2, 0, 1], // 4: H
+    [1, 2, 1, 1], // 5: H2
+    [0, 3, 1, 2], // 6: H3
+    [1, 3, 1, 2], // 7: H4
+    [1, 1, 0, 3], // 8: H5
+    [1, 1, 1, 3], // 9: H6
+    [0, 1, 1, 3], // 10: SX
+    [0, 1, 0, 3], // 11: SXdg
+    [1, 2, 0, 1], // 12: SY
+    [0, 2, 1, 1], // 13: SYdg
+    [0, 3, 0, 2], // 14: SZ
+    [1, 3, 0, 2], // 15: SZdg
+    [0, 3, 0, 1], // 16: F
+    [0, 2, 0, 3], // 17: Fdg
+    [1, 2, 0, 3], // 18: F2
+    [1, 3, 1, 1], // 19: F2dg
+    [0, 3, 1, 1], // 20: F3
+    [1, 2, 1, 3], // 21: F3dg
+    [0, 2, 1, 3], // 22: F4
+    [1, 3, 0, 1], // 23: F4dg
+];
+
+// Gates 24 to 37: the sign and the two letters of the images of X on the first and on the second qubit, then of Z.
+const IMAGES_2Q: [[u8; 12]; 14] = [
+    [0, 1, 1, 0, 0, 1, 0, 2, 0, 0, 2, 2], // 24: CX
+    [0, 1, 3, 0, 2, 1, 0, 2, 0, 0, 2, 2], // 25: CY
+    [0, 1, 2, 0, 2, 1, 0, 2, 0, 0, 0, 2], // 26: CZ
+    [0, 0, 1, 0, 1, 0, 0, 0, 2, 0, 2, 0], // 27: SWAP
+    [0, 1, 0, 0, 0, 1, 1, 3, 1, 1, 1, 3], // 28: SXX
+    [0, 1, 0, 0, 0, 1, 0, 3, 1, 0, 1, 3], // 29: SXXdg
+    [1, 2, 3, 1, 3, 2, 0, 1, 3, 0, 3, 1], // 30: SYY
+    [0, 2, 3, 0, 3, 2, 1, 1, 3, 1, 3, 1], // 31: SYYdg
+    [0, 3, 2, 0, 2, 3, 0, 2, 0, 0, 0, 2], // 32: SZZ
+    [1, 3, 2, 1, 2, 3, 0, 2, 0, 0, 0, 2], // 33: SZZdg
+    [0, 2, 3, 0, 3, 2, 0, 0, 2, 0, 2, 0], // 34: ISWAP
+    [1, 2, 3, 1, 3, 2, 0, 0, 2, 0, 2, 0], // 35: ISWAPdg
+    [0, 0, 1, 0, 1, 0, 0, 1, 2, 0, 2, 1], // 36: G
+    [0, 0, 1, 0, 1, 0, 0, 1, 2, 0, 2, 1], // 37: Gdg
+];
+
+// A sign, and a letter on each of two qubits.
+pub(crate) struct PairBytes(u8, u8, u8);
+
+// A sign, a letter on a qubit, and one more letter on a qubit.
+pub(crate) struct RowImage {
+    sign: u8,
+    first: u8,
+    first_on: usize,
+    second: u8,
+    second_on: usize,
+}
+
+// ---- the tables
+
+pub(crate) fn images_1q(gate: usize) -> [u8; 4]
+    requires { ⌜ gate < 24 ⌝ }
+    ensures { λ r. ⌜ r ≡ imageBytes (oneQubitGate gate) ⌝ }
+{
+    IMAGES_1Q[gate]
+}
+
+fn images_2q(gate: usize) -> [u8; 12]
+    requires { ⌜ TakesTwo gate ⌝ }
+    ensures { λ r. ⌜ r ≡ pairBytes (twoQubitGate gate) ⌝ }
+{
+    IMAGES_2Q[gate - 24]
+}
+
+// ---- images
+
+// The image of Y = iXZ.
+fn y_image(images: [u8; 4]) -> PhasedLetter
+    ensures { λ r. ⌜ r ≡ yBytes images ⌝ }
+{
+    let p = multiply_paulis(images[1], images[3]);
+    let signs = phase_times(images[0], images[2]);
+    PhasedLetter(phase_times(2, phase_times(signs, p.0)), p.1)
+}
+
+// What a one-qubit gate makes of a letter.
+pub(crate) fn letter_image(gate: usize, letter: u8) -> PhasedLetter
+    requires { ⌜ gate < 24 ⌝ }
+    ensures { λ r. ⌜ ImageOf (letterImage (oneQubitGate gate) (letterOf letter)) r ⌝ }
+{
+    let e = images_1q(gate);
+    match letter {
+        0 => PhasedLetter(0, 0),
+        1 => PhasedLetter(e[0], e[1]),
+        2 => PhasedLetter(e[2], e[3]),
+        _ => y_image(e),
+    }
+}
+
+// What a two-qubit gate makes of X or of Z on its first qubit.
+fn first_image(gate: usize, letter: u8) -> PairBytes
+    requires { ⌜ TakesTwo gate ⌝ }
+    ensures { λ r. ⌜ PairOf (generatorImage (twoQubitGate gate .x0) (twoQubitGate gate .z0) letter) r ⌝ }
+{
+    let e = images_2q(gate);
+    if letter == 1 {
+        return PairBytes(e[0], e[1], e[2]);
+    }
+    PairBytes(e[6], e[7], e[8])
+}
+
+// The same, on its second qubit.
+fn second_image(gate: usize, letter: u8) -> PairBytes
+    requires { ⌜ TakesTwo gate ⌝ }
+    ensures { λ r. ⌜ PairOf (generatorImage (twoQubitGate gate .x1) (twoQubitGate gate .z1) letter) r ⌝ }
+{
+    let e = images_2q(gate);
+    if letter == 1 {
+        return PairBytes(e[3], e[4], e[5]);
+    }
+    PairBytes(e[9], e[10], e[11])
+}
