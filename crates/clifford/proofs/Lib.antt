@@ -18,3 +18,4 @@ pub mod WayBacks
 pub mod WayBackSteps
 pub mod Displays
 pub mod GateImages
+pub mod GateWriting

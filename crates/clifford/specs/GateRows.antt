@@ -1,13 +1,19 @@
 -- The images of gates as bytes, and what the functions that write them promise one another.
-use Prim.Native.Nat.{ℕ, zero, suc, _≤_, _<_}
+use Prim.Native.Nat.{ℕ, zero, suc, _+_, _*_, _≤_, _<_}
 use mathlib.Core.Path.{_≡_}
 use mathlib.Core.List.{List, [], _∷_, _++_}
-use lib.ListN.{getD}
+use mathlib.Core.Logic.{_≢_}
+use lib.ListN.{length, getD}
+use Rattle.pauli_group.specs.PauliString.{PauliString, mul, scale, single}
 use Rattle.clifford_gates.specs.Gates.{Image, OneQubit, PairImage, TwoQubit}
-use Rattle.pauli.specs.Layout.{phaseByte, letterByte}
+use Rattle.pauli.specs.Layout.{phaseByte, phaseOf, letterByte, letterOf}
 use Rattle.pauli.specs.Rows.{phaseBytesProduct, productPhaseByte, productLetterByte}
 use Rattle.pauli.specs.declared.algebra.PhasedLetter.{PhasedLetter}
 use Rattle.clifford.specs.declared.gates.PairBytes.{PairBytes}
+use Rattle.clifford.specs.declared.gates.RowImage.{RowImage}
+use Rattle.clifford.specs.Layout.{rowLength, recordLength}
+use Rattle.clifford.specs.Writing.{IsGenerator}
+use Rattle.clifford.specs.GateQuestions.{gateWidth}
 
 -- an entry of `IMAGES_1Q`: the sign and the letter of the image of X, and of Z
 unfoldable pub imageBytes : OneQubit → List ℕ
@@ -48,3 +54,66 @@ generatorImage x z (suc (suc l)) = z
 pub record TakesTwo (g : ℕ) : Type 0 where
   pub from : 24 ≤ g
   pub below : g < 38
+
+-- ---- rows of a gate's tableau
+
+-- a sign, a letter on a qubit and one more letter on a qubit, as a string
+unfoldable pub rowImageString : RowImage → PauliString
+rowImageString i = scale (phaseOf (i .sign)) (mul (single (letterOf (i .first)) (i .place)) (single (letterOf (i .second)) (i .other)))
+
+-- i is the string s, which has letters on qubit k alone
+pub record OneRow (s : PauliString) (k : ℕ) (i : RowImage) : Type 0 where
+  pub string : rowImageString i ≡ s
+  pub sign : i .sign ≤ 3
+  pub first : i .place ≡ k
+  pub second : i .other ≡ k
+
+unfoldable pub pairOn : PairBytes → ℕ → ℕ → RowImage
+pairOn p q r = record { sign = p .0; first = p .1; place = q; second = p .2; other = r }
+
+-- i is the string s, of w letters
+pub record RowImageOf (w : ℕ) (s : PauliString) (i : RowImage) : Type 0 where
+  pub string : rowImageString i ≡ s
+  pub sign : i .sign ≤ 3
+  pub first : i .place < w
+  pub second : i .other < w
+
+-- ---- what the functions that write them may count on
+
+-- a gate and its qubits, as its questions let them by
+pub record GateOn (g q r : ℕ) : Type 0 where
+  pub gate : g < 38
+  pub first : q < 128
+  pub second : 24 ≤ g → r < 128
+  pub different : 24 ≤ g → q ≢ r
+
+-- the same, with X or Z on a qubit below the gate's width
+pub record ImageAsked (g q r k l : ℕ) : Type 0 where
+  pub on : GateOn g q r
+  pub place : k < gateWidth g q r
+  pub letter : IsGenerator l
+
+-- an image, and a work row of any content that it fits
+pub record PutsImage (i : RowImage) (d : List ℕ) : Type 0 where
+  pub sign : i .sign ≤ 3
+  pub first : i .place + 1 < length d
+  pub second : i .other + 1 < length d
+  pub narrow : length d ≤ 129
+
+-- the tableau of a gate at its width w, into d; row i of it, into out; and by way of the work row k
+pub record WritesGate (g q r w : ℕ) (d : List ℕ) : Type 0 where
+  pub on : GateOn g q r
+  pub wide : w ≡ gateWidth g q r
+  pub narrow : w ≤ 128
+  pub room : recordLength w ≤ length d
+
+pub record WritesGateRow (g q r w i : ℕ) (out : List ℕ) : Type 0 where
+  pub on : GateOn g q r
+  pub wide : w ≡ gateWidth g q r
+  pub narrow : w ≤ 128
+  pub own : i < 2 * w
+  pub room : rowLength w ≤ length out
+
+pub record WritesGateBy (g q r w i : ℕ) (k out : List ℕ) : Type 0 where
+  pub row : WritesGateRow g q r w i out
+  pub work : length k ≡ w + 1

@@ -1,11 +1,26 @@
 // The images of the gates, and the rows of their tableaux. Ports clifford.rs and the constructors of clifford_rep.rs of PECOS,
 // changed: Copyright 2024 The PECOS Developers, Apache License, Version 2.0.
 ghost use mathlib.Core.Path.{_≡_};
+ghost use mathlib.Core.Bool.{cond};
 ghost use Prim.Native.Nat.{_<_};
-ghost use Rattle.clifford_gates.specs.GateNumbers.{oneQubitGate, twoQubitGate};
+ghost use lib.Dec.{eqb};
+ghost use Rattle.clifford_group.specs.Tableau.{rowImage};
+ghost use Rattle.clifford_gates.specs.GateTableaux.{imageString};
+ghost use Rattle.clifford_gates.specs.GateNumbers.{oneQubitGate, twoQubitGate, gateTableau};
 ghost use Rattle.clifford_gates.specs.Updates.{letterImage};
-ghost use Rattle.pauli.specs.Layout.{letterOf};
-ghost use Rattle.clifford.specs.GateRows.{imageBytes, pairBytes, yBytes, ImageOf, TakesTwo, generatorImage, PairOf};
+ghost use Rattle.pauli.specs.declared.refusal.Outcome.the-variants.{Done};
+ghost use Rattle.pauli.specs.Answers.{written};
+ghost use Rattle.pauli.specs.Layout.{letterOf, encodeString};
+ghost use Rattle.clifford.specs.Layout.{rowOf, tableauRecord};
+ghost use Rattle.clifford.specs.Rows.{rowWritten, lettersIn};
+ghost use Rattle.clifford.specs.GateQuestions.{gateWidth};
+ghost use Rattle.clifford.specs.GateRows.{imageBytes, pairBytes, yBytes, ImageOf, TakesTwo, generatorImage, PairOf, OneRow, pairOn, ImageAsked, RowImageOf, rowImageString, PutsImage, WritesGate, WritesGateRow, WritesGateBy};
+use crate::layout::row_letter;
+use crate::layout::row_offset;
+use crate::layout::row_qubit;
+use crate::layout::write_row;
+use crate::sending::clear_row;
+use crate::sending::multiply_letter;
 use pauli::algebra::PhasedLetter;
 use pauli::algebra::multiply_paulis;
 use pauli::rows::phase_times;
@@ -63,9 +78,9 @@ pub(crate) struct PairBytes(u8, u8, u8);
 pub(crate) struct RowImage {
     sign: u8,
     first: u8,
-    first_on: usize,
+    place: usize,
     second: u8,
-    second_on: usize,
+    other: usize,
 }
 
 // ---- the tables
@@ -131,4 +146,110 @@ fn second_image(gate: usize, letter: u8) -> PairBytes
         return PairBytes(e[3], e[4], e[5]);
     }
     PairBytes(e[9], e[10], e[11])
+}
+
+// ---- rows
+
+// A one-qubit gate's image of X or of Z on qubit k.
+fn on_one(gate: usize, k: usize, letter: u8) -> RowImage
+    requires { ⌜ gate < 24 ⌝ }
+    ensures { λ r. ⌜ OneRow (imageString (letterImage (oneQubitGate gate) (letterOf letter)) k) k r ⌝ }
+{
+    let i = letter_image(gate, letter);
+    RowImage {
+        sign: i.0,
+        first: i.1,
+        place: k,
+        second: 0,
+        other: k,
+    }
+}
+
+// An image on the two qubits of a gate.
+fn on_pair(image: PairBytes, q: usize, r: usize) -> RowImage
+    ensures { λ i. ⌜ i ≡ pairOn image q r ⌝ }
+{
+    RowImage {
+        sign: image.0,
+        first: image.1,
+        place: q,
+        second: image.2,
+        other: r,
+    }
+}
+
+// The gate on qubit k of one on qubit q: gate 0, the identity, on the others.
+fn gate_at(gate: usize, q: usize, k: usize) -> usize
+    ensures { λ r. ⌜ r ≡ cond (eqb k q) gate 0 ⌝ }
+{
+    if k == q { gate } else { 0 }
+}
+
+// A gate's image of X or of Z on qubit k.
+fn gate_image(gate: usize, q: usize, r: usize, k: usize, letter: u8) -> RowImage
+    requires { ⌜ ImageAsked gate q r k letter ⌝ }
+    ensures { λ i. ⌜ RowImageOf (gateWidth gate q r) (rowImage (gateTableau gate q r) k (letterOf letter)) i ⌝ }
+{
+    if gate < 24 {
+        return on_one(gate_at(gate, q, k), k, letter);
+    }
+    if k == q {
+        return on_pair(first_image(gate, letter), q, r);
+    }
+    if k == r {
+        return on_pair(second_image(gate, letter), q, r);
+    }
+    on_one(0, k, letter)
+}
+
+// An image as a work row.
+fn put_image(image: RowImage, work: &mut [u8])
+    requires { ⌜ PutsImage image (now work) ⌝ }
+    ensures { λ _. ⌜ now (work .exit) ≡ encodeString (lettersIn (now (work .entry))) (rowImageString image) ⌝ }
+{
+    clear_row(work, image.sign);
+    multiply_letter(work, image.place, image.first);
+    multiply_letter(work, image.other, image.second);
+}
+
+// Row i of a gate's tableau, by way of a work row.
+fn gate_row_by(
+    gate: usize,
+    q: usize,
+    r: usize,
+    width: usize,
+    i: usize,
+    work: &mut [u8],
+    dst: &mut [u8],
+)
+    requires { ⌜ WritesGateBy gate q r width i (now work) (now dst) ⌝ }
+    ensures { λ _. ⌜ now (dst .exit) ≡ rowWritten width (rowOf (gateTableau gate q r) i) (now (dst .entry)) ⌝ }
+{
+    let k = row_qubit(width, i);
+    let letter = row_letter(width, i);
+    put_image(gate_image(gate, q, r, k, letter), work);
+    write_row(work, dst);
+}
+
+// Row i of a gate's tableau, over the front of dst.
+fn gate_row(gate: usize, q: usize, r: usize, width: usize, i: usize, dst: &mut [u8])
+    requires { ⌜ WritesGateRow gate q r width i (now dst) ⌝ }
+    ensures { λ _. ⌜ now (dst .exit) ≡ rowWritten width (rowOf (gateTableau gate q r) i) (now (dst .entry)) ⌝ }
+{
+    let mut work = [0u8; 129];
+    gate_row_by(gate, q, r, width, i, &mut work[0..width + 1], dst);
+}
+
+// A gate's tableau, each row at its own offset.
+pub(crate) fn write_gate(gate: usize, q: usize, r: usize, width: usize, dst: &mut [u8])
+    requires { ⌜ WritesGate gate q r width (now dst) ⌝ }
+    ensures { λ _. ⌜ now (dst .exit) ≡ written Done (tableauRecord (gateTableau gate q r)) (now (dst .entry)) ⌝ }
+{
+    dst[0] = width as u8;
+    let mut i = 0;
+    while i < 2 * width {
+        let at = row_offset(width, i);
+        gate_row(gate, q, r, width, i, &mut dst[at..]);
+        i += 1;
+    }
 }
