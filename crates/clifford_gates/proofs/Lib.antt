@@ -2,3 +2,4 @@ pub mod GateTables
 pub mod GateTableaux
 pub mod PairTableaux
 pub mod GateUnitaries
+pub mod OneQubitUpdates
