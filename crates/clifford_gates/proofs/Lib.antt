@@ -3,3 +3,4 @@ pub mod GateTableaux
 pub mod PairTableaux
 pub mod GateUnitaries
 pub mod OneQubitUpdates
+pub mod TwoQubitUpdates

@@ -47,19 +47,19 @@ signs false false = refl
 
 module _ (q r : ℕ) (hq : q < qubits) (hr : r < qubits) (d : q ≢ r) where
   -- ---- the letters of a pair, and what commutes with it
-  letter-first : (i : PairImage) → pairString i q r .letters q ≡ i .first
+  pub letter-first : (i : PairImage) → pairString i q r .letters q ≡ i .first
   unfolding pairString scale mul
   letter-first i = ap₂ letterMul (single-at (i .first) q) (single-off (i .second) r q d) ∙ letterMul-I (i .first)
 
-  letter-second : (i : PairImage) → pairString i q r .letters r ≡ i .second
+  pub letter-second : (i : PairImage) → pairString i q r .letters r ≡ i .second
   unfolding pairString scale mul
   letter-second i = ap₂ letterMul (single-off (i .first) q r (λ e. d (sym e))) (single-at (i .second) r) ∙ I-letterMul (i .second)
 
-  letter-other : (i : PairImage) (k : ℕ) → k ≢ q → k ≢ r → pairString i q r .letters k ≡ I
+  pub letter-other : (i : PairImage) (k : ℕ) → k ≢ q → k ≢ r → pairString i q r .letters k ≡ I
   unfolding pairString scale mul
   letter-other i k a b = ap₂ letterMul (single-off (i .first) q k a) (single-off (i .second) r k b) ∙ letterMul-I I
 
-  pair-phase : (i : PairImage) → pairString i q r .phase ≡ i .phase
+  pub pair-phase : (i : PairImage) → pairString i q r .phase ≡ i .phase
   unfolding pairString scale mul phaseOfLetters single
   pair-phase i =
       ap (λ p. i .phase · (PlusOne · PlusOne · p)) (productTo-one qubits _ (λ c l. apart c (ℕ-discrete c q)))
@@ -103,11 +103,11 @@ module _ (q r : ℕ) (hq : q < qubits) (hr : r < qubits) (d : q ≢ r) where
 
   -- ---- the rows
   module _ (g : TwoQubit) (v : ValidPairImages g) where
-    abbrev first : Generator → PairImage
+    abbrev pub first : Generator → PairImage
     first ofX = g .x0
     first ofZ = g .z0
 
-    abbrev second : Generator → PairImage
+    abbrev pub second : Generator → PairImage
     second ofX = g .x1
     second ofZ = g .z1
 
@@ -116,20 +116,20 @@ module _ (q r : ℕ) (hq : q < qubits) (hr : r < qubits) (d : q ≢ r) where
     row-is ofX k = refl
     row-is ofZ k = refl
 
-    row-first : (a : Generator) → row (onQubits g q r) a q ≡ pairString (first a) q r
+    pub row-first : (a : Generator) → row (onQubits g q r) a q ≡ pairString (first a) q r
     unfolding pairRow
     row-first a =
         row-is a q
         ∙ ap (λ b. cond b (pairString (first a) q r) (cond (eqb q r) (pairString (second a) q r) (single (generator a) q))) (eq-eqb q q refl)
 
-    row-second : (a : Generator) → row (onQubits g q r) a r ≡ pairString (second a) q r
+    pub row-second : (a : Generator) → row (onQubits g q r) a r ≡ pairString (second a) q r
     unfolding pairRow
     row-second a =
         row-is a r
         ∙ ap (λ b. cond b (pairString (first a) q r) (cond (eqb r r) (pairString (second a) q r) (single (generator a) r))) (ne-eqb r q (λ e. d (sym e)))
         ∙ ap (λ b. cond b (pairString (second a) q r) (single (generator a) r)) (eq-eqb r r refl)
 
-    row-other : (a : Generator) (k : ℕ) → k ≢ q → k ≢ r → row (onQubits g q r) a k ≡ single (generator a) k
+    pub row-other : (a : Generator) (k : ℕ) → k ≢ q → k ≢ r → row (onQubits g q r) a k ≡ single (generator a) k
     unfolding pairRow
     row-other a k m n =
         row-is a k
