@@ -4,3 +4,5 @@ pub mod PairTableaux
 pub mod GateUnitaries
 pub mod OneQubitUpdates
 pub mod TwoQubitUpdates
+pub mod GateNames
+pub mod PaperUpdates
