@@ -10,7 +10,7 @@ use Rattle.pauli_group.proofs.Finite.{letters, phases}
 use Rattle.pauli_group.proofs.PaperForms.{both}
 use Rattle.clifford_gates.specs.Gates.{Image, OneQubit, oneQubitGates, ValidImages, All, Different, PairImage, TwoQubit, twoQubitGates, pairsCommute, ValidPairImages}
 
-is-true : (b : Bool) → T b → b ≡ true
+pub is-true : (b : Bool) → T b → b ≡ true
 is-true true t = refl
 is-true false t = absurd t
 
@@ -30,10 +30,10 @@ all-map f [] All.none = All.none
 all-map f (a ∷ rest) (All.more p ps) = All.more (f a p) (all-map f rest ps)
 
 -- ---- valid
-abbrev valid-test : OneQubit → Bool
+abbrev pub valid-test : OneQubit → Bool
 valid-test g = (isReal (g .x .phase) && isReal (g .z .phase)) && anticommute (g .x .letter) (g .z .letter)
 
-valid-is : (g : OneQubit) → T (valid-test g) → ValidImages g
+pub valid-is : (g : OneQubit) → T (valid-test g) → ValidImages g
 valid-is g t =
     let parts = both (isReal (g .x .phase) && isReal (g .z .phase)) (anticommute (g .x .letter) (g .z .letter)) t in
     let real = both (isReal (g .x .phase)) (isReal (g .z .phase)) (parts .0) in
@@ -44,10 +44,10 @@ unfolding oneQubitGates isReal anticommute
 one-qubit-valid = all-of valid-test valid-is oneQubitGates tt
 
 -- ---- different
-abbrev same-image : Image → Image → Bool
+abbrev pub same-image : Image → Image → Bool
 same-image a b = phases .same (a .phase) (b .phase) && letters .same (a .letter) (b .letter)
 
-abbrev same-entry : OneQubit → OneQubit → Bool
+abbrev pub same-entry : OneQubit → OneQubit → Bool
 same-entry g h = same-image (g .x) (h .x) && same-image (g .z) (h .z)
 
 pair : (a b : Bool) → T a → T b → T (a && b)

@@ -111,7 +111,7 @@ unfolding imageString
 unchanged-image ofX k = scale-one (single X k)
 unchanged-image ofZ k = scale-one (single Z k)
 
-width-on-qubit : (g : OneQubit) (q : ℕ) → onQubit g q .width ≡ suc q
+pub width-on-qubit : (g : OneQubit) (q : ℕ) → onQubit g q .width ≡ suc q
 unfolding onQubit gateOnEach
 width-on-qubit g q = refl
 
@@ -121,15 +121,15 @@ module _ (g : OneQubit) (q : ℕ) where
   row-is ofX k = refl
   row-is ofZ k = refl
 
-  row-at : (a : Generator) → row (onQubit g q) a q ≡ imageString (image a g) q
+  pub row-at : (a : Generator) → row (onQubit g q) a q ≡ imageString (image a g) q
   row-at a = row-is a q ∙ ap (λ b. imageString (image a (cond b g unchanged)) q) (eq-eqb q q refl)
 
-  row-off : (a : Generator) (k : ℕ) → k ≢ q → row (onQubit g q) a k ≡ single (generator a) k
+  pub row-off : (a : Generator) (k : ℕ) → k ≢ q → row (onQubit g q) a k ≡ single (generator a) k
   row-off a k d = row-is a k ∙ ap (λ b. imageString (image a (cond b g unchanged)) k) (ne-eqb k q d) ∙ unchanged-image a k
 
   -- a letter on another qubit stays
-  other : (k : ℕ) → k < qubits → k ≢ q → (l : Letter) → imageOf (onQubit g q) k l ≡ single l k
-  other k h d l = image-generators (onQubit g q) (identityTableau zero) k h each l ∙ image-identity zero k l h
+  pub other-on-qubit : (k : ℕ) → k < qubits → k ≢ q → (l : Letter) → imageOf (onQubit g q) k l ≡ single l k
+  other-on-qubit k h d l = image-generators (onQubit g q) (identityTableau zero) k h each l ∙ image-identity zero k l h
     where
       each : (a : Generator) → imageOf (onQubit g q) k (generator a) ≡ imageOf (identityTableau zero) k (generator a)
       each a = elim (decLt k (suc q)) [
@@ -171,7 +171,7 @@ apply-on-qubit g v q h s w =
     each : (k : ℕ) → k < qubits → imageOf t k (cleared q s .letters k) ≡ single (cleared q s .letters k) k
     each k l = elim (ℕ-discrete k q) [
       | yes e ↦ ap (imageOf t k) (at k e) ∙ image-I t k ∙ sym (ap (λ a. single a k) (at k e) ∙ single-I k)
-      | no d ↦ other g q k l d (cleared q s .letters k)
+      | no d ↦ other-on-qubit g q k l d (cleared q s .letters k)
     ]
 
     kept : apply t (cleared q s) ≡ cleared q s
