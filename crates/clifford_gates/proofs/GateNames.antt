@@ -11,7 +11,7 @@ use lib.Dec.{T, eqb, ltb}
 use lib.ListN.{length, getD}
 use borrow.Author.Tests.{lt-ltb, le-ltb, ltb-true, eqb-true}
 use Rattle.pauli_group.specs.Phase.{Phase, PlusOne, MinusOne, PlusI, MinusI, _·_, negate, turn, isReal, sign}
-use Rattle.pauli_group.specs.Letter.{Letter, I, X, Z, letterProduct, letterPhase, letterMul, anticommute}
+use Rattle.pauli_group.specs.Letter.{Letter, letterProduct, letterPhase, letterMul, anticommute}
 use Rattle.pauli_group.specs.PauliString.{PauliString, qubits, scale, single}
 use Rattle.pauli_group.proofs.Finite.{letters, phases, law1}
 use Rattle.pauli_group.proofs.Laws.{·-one}
@@ -29,7 +29,7 @@ use Rattle.clifford_gates.specs.GateNumbers.{pairUnchanged, oneQubitGate
 use Rattle.clifford_gates.specs.GateNumbers.{sameBit, sameLetter, isMinus, matchesImage, matches, firstWith, nameOf, sameImage, sameImages, composeGate}
 use Rattle.clifford_gates.specs.Updates.{timesI, letterImage, scaled, sentImage, composeImages}
 use Rattle.clifford_gates.proofs.GateTables.{is-true, one-qubit-valid, two-qubit-valid, valid-test, valid-is}
-use Rattle.clifford_gates.proofs.GateTableaux.{image, image-phase, clifford-on-qubit}
+use Rattle.clifford_gates.proofs.GateTableaux.{image, clifford-on-qubit}
 use Rattle.clifford_gates.proofs.PairTableaux.{clifford-on-qubits}
 use Rattle.clifford_gates.proofs.OneQubitUpdates.{width-on-qubit, row-at, row-off, other-on-qubit, image-on-qubit}
 
@@ -173,16 +173,18 @@ same-images-is k g v w t =
     λ n. oneQubit (x n) (z n)
 
 -- ---- every valid gate is in the table
--- a test of all gates, by their phases and letters
-every-gate : (f : OneQubit → Bool)
-    → T (phases .all (λ p. letters .all (λ a. phases .all (λ r. letters .all (λ b. f (oneQubit (record { phase = p; letter = a }) (record { phase = r; letter = b })))))))
-    → (k : OneQubit) → T (f k)
+-- a test of all images, and of all gates
+abbrev all-images : (Image → Bool) → Bool
+all-images f = phases .all (λ p. letters .all (λ a. f (record { phase = p; letter = a })))
+
+every-image : (f : Image → Bool) → T (all-images f) → (i : Image) → T (f i)
+every-image f t i =
+    letters .each (λ a. f (record { phase = i .phase; letter = a }))
+    (phases .each (λ p. letters .all (λ a. f (record { phase = p; letter = a }))) t (i .phase)) (i .letter)
+
+every-gate : (f : OneQubit → Bool) → T (all-images (λ x. all-images (λ z. f (oneQubit x z)))) → (k : OneQubit) → T (f k)
 every-gate f t k =
-    letters .each (λ b. f (oneQubit (k .x) (record { phase = k .z .phase; letter = b })))
-    (phases .each (λ r. letters .all (λ b. f (oneQubit (k .x) (record { phase = r; letter = b }))))
-    (letters .each (λ a. phases .all (λ r. letters .all (λ b. f (oneQubit (record { phase = k .x .phase; letter = a }) (record { phase = r; letter = b })))))
-    (phases .each (λ p. letters .all (λ a. phases .all (λ r. letters .all (λ b. f (oneQubit (record { phase = p; letter = a }) (record { phase = r; letter = b }))))))
-    t (k .x .phase)) (k .x .letter)) (k .z .phase)) (k .z .letter)
+    every-image (λ z. f (oneQubit (k .x) z)) (every-image (λ x. all-images (λ z. f (oneQubit x z))) t (k .x)) (k .z)
 
 abbrev numbered : OneQubit → Bool
 numbered k = cond (valid-test k) (ltb (firstWith (sameImages k) oneQubitGates) 24) true
@@ -228,7 +230,7 @@ compose-valid g h l m =
     valid-is _ (subst T (sym (all-each 24 (λ h. valid-test (composeImages (oneQubitGate g) (oneQubitGate h)))
     (all-each 24 (λ g. allTo 24 (λ h. valid-test (composeImages (oneQubitGate g) (oneQubitGate h)))) refl g l) h m)) tt)
 
-some-qubit : 0 < qubits
+pub some-qubit : 0 < qubits
 unfolding qubits
 some-qubit = omega arith
 

@@ -6,3 +6,4 @@ pub mod OneQubitUpdates
 pub mod TwoQubitUpdates
 pub mod GateNames
 pub mod PaperUpdates
+pub mod GateInverses

@@ -8,7 +8,7 @@ use native.Mathlib.Omega.{arith}
 use native.Mathlib.Decide.{ℕ-discrete, decLt}
 use lib.Dec.{eqb}
 use borrow.Author.Tests.{eq-eqb, ne-eqb}
-use Rattle.pauli_group.specs.Phase.{Phase, PlusOne, PlusI, _·_}
+use Rattle.pauli_group.specs.Phase.{PlusOne, PlusI, _·_}
 use Rattle.pauli_group.specs.Letter.{Letter, I, X, Z, Y, letterPhase, letterMul}
 use Rattle.pauli_group.specs.PauliString.{PauliString, qubits, mul, scale, single, phaseOfLetters, Within}
 use Rattle.pauli_group.proofs.Laws.{·-one, letterMul-I, I-letterMul, letterPhase-I, I-letterPhase}

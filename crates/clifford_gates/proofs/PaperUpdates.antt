@@ -2,9 +2,9 @@
 use mathlib.Core.Path.{_≡_, ap, ap₂, _∙_}
 use mathlib.Core.Bool.{_&&_}
 use mathlib.Core.Logic.{_≢_}
-use Prim.Native.Nat.{ℕ, _-_, _<_}
+use Prim.Native.Nat.{ℕ, _<_}
 use native.Mathlib.Omega.{arith}
-use Rattle.pauli_group.specs.Phase.{Phase, _·_, negate, turn, sign}
+use Rattle.pauli_group.specs.Phase.{_·_, negate, turn, sign}
 use Rattle.pauli_group.specs.Letter.{Letter, letterProduct, letterPhase, letterMul}
 use Rattle.pauli_group.specs.PauliString.{PauliString, qubits, Within}
 use Rattle.pauli_group.proofs.Finite.{letters, phases, law1, law2}

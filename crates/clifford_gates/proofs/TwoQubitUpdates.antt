@@ -5,7 +5,7 @@ use mathlib.Core.Logic.{_≢_}
 use Prim.Native.Nat.{ℕ, zero, suc, max, _<_}
 use native.Mathlib.Omega.{arith}
 use native.Mathlib.Decide.{ℕ-discrete, decLt}
-use Rattle.pauli_group.specs.Phase.{Phase, PlusOne, PlusI, _·_}
+use Rattle.pauli_group.specs.Phase.{PlusOne, PlusI, _·_}
 use Rattle.pauli_group.specs.Letter.{Letter, I, X, Z, Y, letterPhase, letterMul}
 use Rattle.pauli_group.specs.PauliString.{PauliString, qubits, mul, identityString, scale, single, Within}
 use Rattle.pauli_group.proofs.Laws.{·-one, letterMul-I, I-letterMul, letterPhase-I, I-letterPhase}
@@ -15,7 +15,7 @@ use Rattle.clifford_group.proofs.Singles.{single-I, mul-singles}
 use Rattle.clifford_group.proofs.Commuting.{commuting-singles, exchange, scale-both}
 use Rattle.clifford_group.proofs.Rows.{Generator, ofX, ofZ, generator}
 use Rattle.clifford_group.proofs.Images.{image-own, image-above, image-row, image-I, image-generators, image-identity}
-use Rattle.clifford_group.proofs.Apply.{apply-scale, apply-single}
+use Rattle.clifford_group.proofs.Apply.{apply-single}
 use Rattle.clifford_group.proofs.Conjugation.{apply-mul}
 use Rattle.clifford_gates.specs.Gates.{PairImage, pairPlus, TwoQubit, ValidPairImages}
 use Rattle.clifford_gates.specs.GateTableaux.{pairString, onQubits}
@@ -79,8 +79,7 @@ module _ (q r : ℕ) (hq : q < qubits) (hr : r < qubits) (d : q ≢ r) where
 
     cleared-times : (i : PairImage) → mul (cleared q r s) (pairString i q r) ≡ pairAt q r i s
     cleared-times i =
-        string-ext (mul c p) (pairAt q r i s) (mul-phases c p (λ k. places q r Apart k (λ e. free k (clear-first k e)) (λ m e. free k (clear-second k m e)) (kept k)) ∙ phases)
-        (λ k. places q r Equal k (first k) (second k) (other k))
+        string-ext (mul c p) (pairAt q r i s) (mul-phases c p apart ∙ phases) (λ k. places q r Equal k (first k) (second k) (other k))
       where
         c : PauliString
         c = cleared q r s
@@ -96,6 +95,9 @@ module _ (q r : ℕ) (hq : q < qubits) (hr : r < qubits) (d : q ≢ r) where
 
         kept : (k : ℕ) → k ≢ q → k ≢ r → Apart k
         kept k m n = ap (letterPhase (c .letters k)) (letter-other q r hq hr d i k m n) ∙ letterPhase-I _
+
+        apart : (k : ℕ) → Apart k
+        apart k = places q r Apart k (λ e. free k (clear-first k e)) (λ m e. free k (clear-second k m e)) (kept k)
 
         phases : c .phase · p .phase ≡ pairAt q r i s .phase
         phases = ap (λ x. c .phase · x) (pair-phase q r hq hr d i) ∙ (unfold cleared pairAt in refl)
@@ -124,19 +126,22 @@ module _ (q r : ℕ) (hq : q < qubits) (hr : r < qubits) (d : q ≢ r) where
 
     -- a string is itself with I on q and r, times its letters there
     parted : mul (cleared q r s) (pairString (pairPlus (s .letters q) (s .letters r)) q r) ≡ s
-    parted = cleared-times (pairPlus (s .letters q) (s .letters r)) ∙ string-ext (pairAt q r (pairPlus (s .letters q) (s .letters r)) s) s (unfold pairAt in ·-one (s .phase)) letters
+    parted = cleared-times two ∙ string-ext (pairAt q r two s) s (unfold pairAt in ·-one (s .phase)) letters
       where
+        two : PairImage
+        two = pairPlus (s .letters q) (s .letters r)
+
         own : ℕ → Letter
         own = with-two q r (s .letters q) (s .letters r) (s .letters)
 
-        letters : (k : ℕ) → pairAt q r (pairPlus (s .letters q) (s .letters r)) s .letters k ≡ s .letters k
+        letters : (k : ℕ) → pairAt q r two s .letters k ≡ s .letters k
         letters k = unfold pairAt in places q r (λ k. own k ≡ s .letters k) k
             (λ e. two-first q r _ _ (s .letters) k e ∙ ap (s .letters) (sym e))
             (λ m e. two-second q r _ _ (s .letters) k m e ∙ ap (s .letters) (sym e))
             (λ m n. two-other q r _ _ (s .letters) k m n)
 
   -- ---- the rows of a gate
-  module _ (g : TwoQubit) (v : ValidPairImages g) where
+  module _ (g : TwoQubit) where
     abbrev t : Tableau
     t = onQubits g q r
 
@@ -155,53 +160,58 @@ module _ (q r : ℕ) (hq : q < qubits) (hr : r < qubits) (d : q ≢ r) where
     image-first : (l : Letter) → imageOf t q l ≡ pairString (ownImage (g .x0) (g .z0) l) q r
     image-first l =
         image-own t q l (omega (arith, width-on-qubits g q r))
-        ∙ own-rows (g .x0) (g .z0) q (row-first q r hq hr d g v ofX) (row-first q r hq hr d g v ofZ) l
+        ∙ own-rows (g .x0) (g .z0) q (row-first q r hq hr d g ofX) (row-first q r hq hr d g ofZ) l
 
     image-second : (l : Letter) → imageOf t r l ≡ pairString (ownImage (g .x1) (g .z1) l) q r
     image-second l =
         image-own t r l (omega (arith, width-on-qubits g q r))
-        ∙ own-rows (g .x1) (g .z1) r (row-second q r hq hr d g v ofX) (row-second q r hq hr d g v ofZ) l
+        ∙ own-rows (g .x1) (g .z1) r (row-second q r hq hr d g ofX) (row-second q r hq hr d g ofZ) l
 
     -- a letter on another qubit stays
-    other-image : (k : ℕ) → k < qubits → k ≢ q → k ≢ r → (l : Letter) → imageOf t k l ≡ single l k
+    pub other-image : (k : ℕ) → k < qubits → k ≢ q → k ≢ r → (l : Letter) → imageOf t k l ≡ single l k
     other-image k h m n l = image-generators t (identityTableau zero) k h each l ∙ image-identity zero k l h
       where
         each : (a : Generator) → imageOf t k (generator a) ≡ imageOf (identityTableau zero) k (generator a)
         each a = elim (decLt k (t .width)) [
-          | yes l ↦ image-row t a k l ∙ row-other q r hq hr d g v a k m n
+          | yes l ↦ image-row t a k l ∙ row-other q r hq hr d g a k m n
           | no l ↦ image-above t k (generator a) (omega arith)
         ] ∙ sym (image-identity zero k (generator a) h)
 
-    -- what two letters on q and r become
-    apply-pair : (a b : Letter) → apply t (pairString (pairPlus a b) q r) ≡ pairString (pairImage g a b) q r
-    unfolding pairImage
-    apply-pair a b =
-        ap (apply t) plain ∙ apply-mul t (clifford-on-qubits q r hq hr d g v) (single a q) (single b r)
-        ∙ ap₂ mul (apply-single t a q hq ∙ image-first a) (apply-single t b r hr ∙ image-second b)
-        ∙ pair-times (ownImage (g .x0) (g .z0) a) (ownImage (g .x1) (g .z1) b)
-      where
-        plain : pairString (pairPlus a b) q r ≡ mul (single a q) (single b r)
-        plain = unfold pairString in scale-one _
+    module _ (v : ValidPairImages g) where
+      -- what two letters on q and r become
+      pub apply-pair : (a b : Letter) → apply t (pairString (pairPlus a b) q r) ≡ pairString (pairImage g a b) q r
+      unfolding pairImage
+      apply-pair a b =
+          ap (apply t) plain ∙ apply-mul t (clifford-on-qubits q r hq hr d g v) (single a q) (single b r)
+          ∙ ap₂ mul (apply-single t a q hq ∙ image-first a) (apply-single t b r hr ∙ image-second b)
+          ∙ pair-times (ownImage (g .x0) (g .z0) a) (ownImage (g .x1) (g .z1) b)
+        where
+          plain : pairString (pairPlus a b) q r ≡ mul (single a q) (single b r)
+          plain = unfold pairString in scale-one _
 
-    -- ---- strings
-    apply-pairs : (s : PauliString) → Within qubits s → apply t s ≡ pairAt q r (pairImage g (s .letters q) (s .letters r)) s
-    apply-pairs s w =
-        ap (apply t) (sym (parted s)) ∙ apply-mul t (clifford-on-qubits q r hq hr d g v) c (pairString (pairPlus (s .letters q) (s .letters r)) q r)
-        ∙ ap₂ mul (apply-keeps t c within (λ k l. places q r Kept k (λ e. free k (clear-first s k e)) (λ m e. free k (clear-second s k m e)) (λ m n. other-image k l m n (c .letters k))))
-        (apply-pair (s .letters q) (s .letters r))
-        ∙ cleared-times s (pairImage g (s .letters q) (s .letters r))
-      where
-        c : PauliString
-        c = cleared q r s
+      -- ---- strings
+      apply-pairs : (s : PauliString) → Within qubits s → apply t s ≡ pairAt q r (pairImage g (s .letters q) (s .letters r)) s
+      apply-pairs s w =
+          ap (apply t) (sym (parted s)) ∙ apply-mul t (clifford-on-qubits q r hq hr d g v) c (pairString (pairPlus (s .letters q) (s .letters r)) q r)
+          ∙ ap₂ mul (apply-keeps t c within each) (apply-pair (s .letters q) (s .letters r))
+          ∙ cleared-times s (pairImage g (s .letters q) (s .letters r))
+        where
+          c : PauliString
+          c = cleared q r s
 
-        within : Within qubits c
-        within k l = clear-other s k (omega arith) (omega arith) ∙ w k l
+          within : Within qubits c
+          within k l = clear-other s k (omega arith) (omega arith) ∙ w k l
 
-        Kept : ℕ → Type 0
-        Kept k = imageOf t k (c .letters k) ≡ single (c .letters k) k
+          Kept : ℕ → Type 0
+          Kept k = imageOf t k (c .letters k) ≡ single (c .letters k) k
 
-        free : (k : ℕ) → c .letters k ≡ I → Kept k
-        free k e = ap (imageOf t k) e ∙ image-I t k ∙ sym (ap (λ a. single a k) e ∙ single-I k)
+          free : (k : ℕ) → c .letters k ≡ I → Kept k
+          free k e = ap (imageOf t k) e ∙ image-I t k ∙ sym (ap (λ a. single a k) e ∙ single-I k)
+
+          each : (k : ℕ) → k < qubits → Kept k
+          each k l =
+              places q r Kept k (λ e. free k (clear-first s k e)) (λ m e. free k (clear-second s k m e))
+              (λ m n. other-image k l m n (c .letters k))
 
 pub apply-on-qubits : (g : TwoQubit) → ValidPairImages g → (q r : ℕ) → q < qubits → r < qubits → q ≢ r → (s : PauliString) → Within qubits s
     → apply (onQubits g q r) s ≡ pairAt q r (pairImage g (s .letters q) (s .letters r)) s
