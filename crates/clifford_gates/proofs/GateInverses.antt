@@ -25,12 +25,12 @@ use Rattle.clifford_group.proofs.Compose.{width-compose, row-compose, compose-g
 use Rattle.clifford_group.proofs.Inverse.{width-inverse, proper-inverse, compose-inverse}
 use Rattle.clifford_group.proofs.Same.{same-trans}
 use Rattle.clifford_group.proofs.Valid.{all-each}
-use Rattle.clifford_gates.specs.Gates.{Image, OneQubit, oneQubit, oneQubitGates, PairImage, pairPlus, TwoQubit, twoQubit, twoQubitGates, ValidPairImages}
+use Rattle.clifford_gates.specs.Gates.{oneQubitGates, PairImage, pairPlus, TwoQubit, twoQubit, twoQubitGates, ValidPairImages}
 use Rattle.clifford_gates.specs.GateTableaux.{unchanged, onQubit, pairString, onQubits}
 use Rattle.clifford_gates.specs.GateNumbers.{pairUnchanged, oneQubitGate, twoQubitGate, gateTableau, nameOf, inversePair, inverseGate, inverseNumbers}
 use Rattle.clifford_gates.specs.Updates.{timesI, letterImage, scaled, sentImage, composeImages}
 use Rattle.clifford_gates.specs.Updates.{pairTimes, pairTimesI, ownImage, pairImage, pairScaled, sentPair, composePairImages}
-use Rattle.clifford_gates.proofs.GateTables.{same-image, same-entry}
+use Rattle.clifford_gates.proofs.GateTables.{same-entry, entry-equal}
 use Rattle.clifford_gates.proofs.GateTableaux.{clifford-on-qubit}
 use Rattle.clifford_gates.proofs.PairTableaux.{first, second, row-first, row-second, row-other, clifford-on-qubits}
 use Rattle.clifford_gates.proofs.OneQubitUpdates.{width-on-qubit, on-qubit-I}
@@ -139,20 +139,6 @@ module _ (q r : ℕ) (hq : q < qubits) (hr : r < qubits) (d : q ≢ r) where
       t = onQubits pairUnchanged q r
 
 -- ---- equal entries
-image-equal : (i j : Image) → T (same-image i j) → i ≡ j
-image-equal i j t =
-    let parts = both (phases .same (i .phase) (j .phase)) (letters .same (i .letter) (j .letter)) t in
-    let phase : i .phase ≡ j .phase = phases .equal _ _ (parts .0) in
-    let letter : i .letter ≡ j .letter = letters .equal _ _ (parts .1) in
-    λ n. record { phase = phase n; letter = letter n }
-
-entry-equal : (g h : OneQubit) → T (same-entry g h) → g ≡ h
-entry-equal g h t =
-    let parts = both (same-image (g .x) (h .x)) (same-image (g .z) (h .z)) t in
-    let x : g .x ≡ h .x = image-equal (g .x) (h .x) (parts .0) in
-    let z : g .z ≡ h .z = image-equal (g .z) (h .z) (parts .1) in
-    λ n. oneQubit (x n) (z n)
-
 abbrev same-letters : PairImage → PairImage → Bool
 same-letters i j = letters .same (i .first) (j .first) && letters .same (i .second) (j .second)
 

@@ -8,7 +8,7 @@ use Rattle.pauli_group.specs.Phase.{Phase, isReal}
 use Rattle.pauli_group.specs.Letter.{Letter, anticommute}
 use Rattle.pauli_group.proofs.Finite.{letters, phases}
 use Rattle.pauli_group.proofs.PaperForms.{both}
-use Rattle.clifford_gates.specs.Gates.{Image, OneQubit, oneQubitGates, ValidImages, All, Different, PairImage, TwoQubit, twoQubitGates, pairsCommute, ValidPairImages}
+use Rattle.clifford_gates.specs.Gates.{Image, OneQubit, oneQubit, oneQubitGates, ValidImages, All, Different, PairImage, TwoQubit, twoQubitGates, pairsCommute, ValidPairImages}
 
 pub is-true : (b : Bool) → T b → b ≡ true
 is-true true t = refl
@@ -68,6 +68,21 @@ entry-self g = pair (same-image (g .x) (g .x)) (same-image (g .z) (g .z)) (image
 
 differ : (g h : OneQubit) → T (not (same-entry g h)) → g ≡ h → ⊥
 differ g h t e = contrary (same-entry g h) (subst (λ k. T (same-entry g k)) e (entry-self g)) t
+
+-- and equal where the test says so
+image-equal : (i j : Image) → T (same-image i j) → i ≡ j
+image-equal i j t =
+    let parts = both (phases .same (i .phase) (j .phase)) (letters .same (i .letter) (j .letter)) t in
+    let phase : i .phase ≡ j .phase = phases .equal _ _ (parts .0) in
+    let letter : i .letter ≡ j .letter = letters .equal _ _ (parts .1) in
+    λ n. record { phase = phase n; letter = letter n }
+
+pub entry-equal : (g h : OneQubit) → T (same-entry g h) → g ≡ h
+entry-equal g h t =
+    let parts = both (same-image (g .x) (h .x)) (same-image (g .z) (h .z)) t in
+    let x : g .x ≡ h .x = image-equal (g .x) (h .x) (parts .0) in
+    let z : g .z ≡ h .z = image-equal (g .z) (h .z) (parts .1) in
+    λ n. oneQubit (x n) (z n)
 
 abbrev different-test : List OneQubit → Bool
 different-test [] = true

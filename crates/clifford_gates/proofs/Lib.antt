@@ -7,3 +7,4 @@ pub mod TwoQubitUpdates
 pub mod GateNames
 pub mod PaperUpdates
 pub mod GateInverses
+pub mod Products24

@@ -54,7 +54,7 @@ unfoldable cleared : ℕ → PauliString → PauliString
 cleared q s = record { phase = s .phase; letters = withLetter q I (s .letters) }
 
 module _ (q : ℕ) where
-  image-at : (i : Image) (k : ℕ) → k ≡ q → imageString i q .letters k ≡ i .letter
+  pub image-at : (i : Image) (k : ℕ) → k ≡ q → imageString i q .letters k ≡ i .letter
   unfolding imageString scale
   image-at i k e = ap (single (i .letter) q .letters) e ∙ single-at (i .letter) q
 
