@@ -43,7 +43,7 @@ images-together i j q h e =
     commute-by (imageString i q) (imageString j q) false
     (sign-images i j q q h ∙ ap (λ l. sign (anticommute l (j .letter))) (single-at (i .letter) q) ∙ ap sign e)
 
-image-phase : (i : Image) (q : ℕ) → imageString i q .phase ≡ i .phase
+pub image-phase : (i : Image) (q : ℕ) → imageString i q .phase ≡ i .phase
 unfolding imageString scale single
 image-phase i q = ·-one (i .phase)
 
@@ -52,7 +52,7 @@ unfolding imageString
 image-within w i q l = within-scale w (i .phase) (single (i .letter) q) (within-single w (i .letter) q l)
 
 -- ---- one gate on each qubit
-abbrev image : Generator → OneQubit → Image
+abbrev pub image : Generator → OneQubit → Image
 image ofX g = g .x
 image ofZ g = g .z
 

@@ -8,9 +8,9 @@ use Rattle.pauli_group.specs.Phase.{Phase, isReal}
 use Rattle.pauli_group.specs.Letter.{Letter, anticommute}
 use Rattle.pauli_group.proofs.Finite.{letters, phases}
 use Rattle.pauli_group.proofs.PaperForms.{both}
-use Rattle.clifford_gates.specs.Gates.{Image, OneQubit, oneQubitGates, ValidImages, All, Different, PairImage, TwoQubit, twoQubitGates, pairsCommute, ValidPairImages}
+use Rattle.clifford_gates.specs.Gates.{Image, OneQubit, oneQubit, oneQubitGates, ValidImages, All, Different, PairImage, TwoQubit, twoQubitGates, pairsCommute, ValidPairImages}
 
-is-true : (b : Bool) → T b → b ≡ true
+pub is-true : (b : Bool) → T b → b ≡ true
 is-true true t = refl
 is-true false t = absurd t
 
@@ -30,10 +30,10 @@ all-map f [] All.none = All.none
 all-map f (a ∷ rest) (All.more p ps) = All.more (f a p) (all-map f rest ps)
 
 -- ---- valid
-abbrev valid-test : OneQubit → Bool
+abbrev pub valid-test : OneQubit → Bool
 valid-test g = (isReal (g .x .phase) && isReal (g .z .phase)) && anticommute (g .x .letter) (g .z .letter)
 
-valid-is : (g : OneQubit) → T (valid-test g) → ValidImages g
+pub valid-is : (g : OneQubit) → T (valid-test g) → ValidImages g
 valid-is g t =
     let parts = both (isReal (g .x .phase) && isReal (g .z .phase)) (anticommute (g .x .letter) (g .z .letter)) t in
     let real = both (isReal (g .x .phase)) (isReal (g .z .phase)) (parts .0) in
@@ -44,10 +44,10 @@ unfolding oneQubitGates isReal anticommute
 one-qubit-valid = all-of valid-test valid-is oneQubitGates tt
 
 -- ---- different
-abbrev same-image : Image → Image → Bool
+abbrev pub same-image : Image → Image → Bool
 same-image a b = phases .same (a .phase) (b .phase) && letters .same (a .letter) (b .letter)
 
-abbrev same-entry : OneQubit → OneQubit → Bool
+abbrev pub same-entry : OneQubit → OneQubit → Bool
 same-entry g h = same-image (g .x) (h .x) && same-image (g .z) (h .z)
 
 pair : (a b : Bool) → T a → T b → T (a && b)
@@ -68,6 +68,21 @@ entry-self g = pair (same-image (g .x) (g .x)) (same-image (g .z) (g .z)) (image
 
 differ : (g h : OneQubit) → T (not (same-entry g h)) → g ≡ h → ⊥
 differ g h t e = contrary (same-entry g h) (subst (λ k. T (same-entry g k)) e (entry-self g)) t
+
+-- and equal where the test says so
+image-equal : (i j : Image) → T (same-image i j) → i ≡ j
+image-equal i j t =
+    let parts = both (phases .same (i .phase) (j .phase)) (letters .same (i .letter) (j .letter)) t in
+    let phase : i .phase ≡ j .phase = phases .equal _ _ (parts .0) in
+    let letter : i .letter ≡ j .letter = letters .equal _ _ (parts .1) in
+    λ n. record { phase = phase n; letter = letter n }
+
+pub entry-equal : (g h : OneQubit) → T (same-entry g h) → g ≡ h
+entry-equal g h t =
+    let parts = both (same-image (g .x) (h .x)) (same-image (g .z) (h .z)) t in
+    let x : g .x ≡ h .x = image-equal (g .x) (h .x) (parts .0) in
+    let z : g .z ≡ h .z = image-equal (g .z) (h .z) (parts .1) in
+    λ n. oneQubit (x n) (z n)
 
 abbrev different-test : List OneQubit → Bool
 different-test [] = true

@@ -59,6 +59,13 @@ firstWith f (a ∷ rest) = cond (f a) 0 (suc (firstWith f rest))
 unfoldable pub nameOf : Tableau → ℕ
 nameOf t = cond (eqb (t .width) 1) (firstWith (matches t) oneQubitGates) 24
 
+-- the same test between a gate's images and those of an entry
+unfoldable pub sameImage : Image → Image → Bool
+sameImage i j = sameBit (isMinus (i .phase)) (isMinus (j .phase)) && sameLetter (i .letter) (j .letter)
+
+unfoldable pub sameImages : OneQubit → OneQubit → Bool
+sameImages k g = sameImage (g .x) (k .x) && sameImage (g .z) (k .z)
+
 -- ---- "`compose` and `inverse` agree with the tableaux"
 
 -- the name of the composed tableau
@@ -72,6 +79,12 @@ inversePair g = cond (ltb g 28) g (cond (eqb (g % 2) 0) (suc g) (g - 1))
 -- the name of the inverse; "`inverse` turns 36 into 37 and 37 into 36"
 unfoldable pub inverseGate : ℕ → ℕ
 inverseGate g = cond (ltb g 24) (nameOf (inverse (onQubit (oneQubitGate g) 0))) (inversePair g)
+
+-- the inverses by number
+unfoldable pub inverseNumbers : List ℕ
+inverseNumbers =
+    0 ∷ 1 ∷ 2 ∷ 3 ∷ 4 ∷ 5 ∷ 6 ∷ 7 ∷ 8 ∷ 9 ∷ 11 ∷ 10 ∷ 13 ∷ 12 ∷ 15 ∷ 14 ∷ 17 ∷ 16 ∷ 19 ∷ 18 ∷ 21 ∷ 20 ∷ 23 ∷ 22 ∷
+    24 ∷ 25 ∷ 26 ∷ 27 ∷ 29 ∷ 28 ∷ 31 ∷ 30 ∷ 33 ∷ 32 ∷ 35 ∷ 34 ∷ 37 ∷ 36 ∷ []
 
 -- ---- "the 24 products of `single_qubit_cliffords`"
 

@@ -7,7 +7,7 @@ use Rattle.pauli_group.specs.Phase.{Phase, PlusI, sign, _·_}
 use Rattle.pauli_group.specs.Letter.{Letter, I, X, Z, Y, letterMul, letterPhase}
 use Rattle.pauli_group.specs.PauliString.{PauliString}
 use Rattle.clifford_group.specs.Tableau.{hasX, hasZ, letterOf}
-use Rattle.clifford_gates.specs.Gates.{Image, plus, OneQubit, PairImage, pairPlus, TwoQubit}
+use Rattle.clifford_gates.specs.Gates.{Image, plus, OneQubit, oneQubit, PairImage, pairPlus, TwoQubit, twoQubit}
 
 -- ---- letters
 
@@ -24,6 +24,18 @@ letterImage g I = plus I
 letterImage g X = g .x
 letterImage g Z = g .z
 letterImage g Y = timesI (g .x) (g .z)
+
+-- an image times a phase
+unfoldable pub scaled : Phase → Image → Image
+scaled p i = record { phase = p · i .phase; letter = i .letter }
+
+-- what a gate makes of an image
+unfoldable pub sentImage : OneQubit → Image → Image
+sentImage g i = scaled (i .phase) (letterImage g (i .letter))
+
+-- h first, then g, on one qubit
+unfoldable pub composeImages : OneQubit → OneQubit → OneQubit
+composeImages g h = oneQubit (sentImage g (h .x)) (sentImage g (h .z))
 
 -- the product of two images on the same two qubits
 unfoldable pub pairTimes : PairImage → PairImage → PairImage
@@ -46,6 +58,16 @@ ownImage x z Y = pairTimesI x z
 -- what a two-qubit gate makes of a letter on each of its qubits
 unfoldable pub pairImage : TwoQubit → Letter → Letter → PairImage
 pairImage g a b = pairTimes (ownImage (g .x0) (g .z0) a) (ownImage (g .x1) (g .z1) b)
+
+unfoldable pub pairScaled : Phase → PairImage → PairImage
+pairScaled p i = record { phase = p · i .phase; first = i .first; second = i .second }
+
+unfoldable pub sentPair : TwoQubit → PairImage → PairImage
+sentPair g i = pairScaled (i .phase) (pairImage g (i .first) (i .second))
+
+-- h first, then g, on the same two qubits
+unfoldable pub composePairImages : TwoQubit → TwoQubit → TwoQubit
+composePairImages g h = twoQubit (sentPair g (h .x0)) (sentPair g (h .x1)) (sentPair g (h .z0)) (sentPair g (h .z1))
 
 -- ---- strings
 
