@@ -2,7 +2,7 @@
 use Prim.Native.Nat.{_-_}
 use mathlib.Core.Logic.{⊎-elim}
 use lib.Dec.{eqb}
-use lib.ListN.{length, getD}
+use lib.ListN.{getD}
 use borrow.Author.Tests.{eq-eqb, ne-eqb}
 use Rattle.pauli.specs.Marks.{firstTwice}
 use Rattle.pauli.proofs.Places.{FirstSeen, first-found, first-held, first-past, firsts}
