@@ -1,5 +1,5 @@
 -- Laws of lists by place, of the first place that has a property, and of a destination that is filled from its front.
-use mathlib.Core.Path.{_≡_, refl, sym, ap, ap₂, _∙_}
+use mathlib.Core.Path.{_≡_, refl, sym, ap, ap₂, _∙_, subst}
 use mathlib.Core.Bool.{Bool, true, false, cond, true≢false}
 use mathlib.Core.List.{List, [], _∷_, _++_}
 use Prim.Native.Nat.{ℕ, zero, suc, _+_, _-_, _≤_, _<_}
@@ -99,6 +99,59 @@ none-left {n} {f} {i} m h = first-is n f i (m .within) (m .none) (λ l. absurd (
     lt-le l h = omega arith
 
 pub ruleset scans = (none-start, none-more, none-found, none-left, lt-ltb, le-ltb, le-leb, lt-leb, needs)
+
+-- what a scan that keeps the first place p knows before place i; p is n where none is seen yet
+pub record FirstSeen (n : ℕ) (f : ℕ → Bool) (i p : ℕ) : Type 0 where
+  pub within : i ≤ n
+  pub most : p ≤ n
+  pub before : p < n → p < i
+  pub none : (k : ℕ) → k < i → k < p → f k ≡ false
+  pub has : p < n → f p ≡ true
+
+pub first-start : (n : ℕ) (f : ℕ → Bool) → FirstSeen n f 0 n
+first-start n f = record {
+  within = omega arith;
+  most = le-refl n;
+  before = λ l. absurd (never l);
+  none = λ k l b. absurd (not-suc-le-zero l);
+  has = λ l. absurd (never l);
+}
+  where
+    never : n < n → ⊥
+    never l = omega arith
+
+module _ {n : ℕ} {f : ℕ → Bool} {i p q : ℕ} (m : FirstSeen n f i p) (h : i < n) where
+  pub first-found : f i ≡ true → n ≤ p → q ≡ i → FirstSeen n f (i + 1) q
+  first-found e u is = subst (FirstSeen n f (i + 1)) (sym is) (record {
+    within = omega arith;
+    most = m .within;
+    before = λ l. omega arith;
+    none = λ k l b. m .none k b (omega arith);
+    has = λ l. e;
+  })
+
+  pub first-held : p < n → q ≡ p → FirstSeen n f (i + 1) q
+  first-held u is = subst (FirstSeen n f (i + 1)) (sym is) (record {
+    within = omega arith;
+    most = m .most;
+    before = λ l. omega (arith, m .before u);
+    none = λ k l b. m .none k (omega (arith, m .before u)) b;
+    has = m .has;
+  })
+
+  pub first-past : f i ≡ false → q ≡ p → FirstSeen n f (i + 1) q
+  first-past e is = subst (FirstSeen n f (i + 1)) (sym is) (record {
+    within = omega arith;
+    most = m .most;
+    before = λ l. omega (arith, m .before l);
+    none = λ k l b. elim (ℕ-discrete k i) [ yes d ↦ ap f d ∙ e | no d ↦ m .none k (omega arith) b ];
+    has = m .has;
+  })
+
+pub first-end : {n : ℕ} {f : ℕ → Bool} {i p : ℕ} → FirstSeen n f i p → n ≤ i → p ≡ firstPlace n f
+first-end {n} {f} {i} {p} m h = first-is n f p (m .most) (λ k l. m .none k (omega (arith, m .most)) l) (m .has)
+
+pub ruleset firsts = (first-start, first-found, first-held, first-past, first-end, needs)
 
 -- ---- a destination that is overwritten from its front, one element a turn
 -- the first i elements of s, and then d from i on

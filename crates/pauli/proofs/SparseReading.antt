@@ -14,18 +14,17 @@ use borrow.Author.Tests.{lt-ltb, le-ltb, ltb-true}
 use Rattle.pauli_group.specs.PauliString.{qubits}
 use Rattle.pauli.specs.declared.refusal.Refusal.{Refusal}
 use Rattle.pauli.specs.declared.refusal.Refusal.the-variants.{NotLetter, NoIndex, NotNumeral, TextQubit}
-use Rattle.pauli.specs.declared.refusal.Outcome.{Outcome}
-use Rattle.pauli.specs.declared.refusal.Outcome.the-variants.{Done, Refused}
+use Rattle.pauli.specs.declared.refusal.Outcome.the-variants.{Refused}
 use Rattle.pauli.specs.declared.text.Numeral.{Numeral}
 use Rattle.pauli.specs.declared.text.Numeral.the-variants.{Value, NotNumber}
 use Rattle.pauli.specs.declared.sparse_reader.IndexAnswer.{IndexAnswer}
-use Rattle.pauli.specs.declared.sparse_reader.IndexAnswer.the-variants.{At, NotAt}
+use Rattle.pauli.specs.declared.sparse_reader.IndexAnswer.the-variants.{At, TooHigh, NotAt}
 use Rattle.pauli.specs.declared.sparse_reader.EntryAnswer.{EntryAnswer}
-use Rattle.pauli.specs.declared.sparse_reader.EntryAnswer.the-variants.{Entry, NoEntry}
+use Rattle.pauli.specs.declared.sparse_reader.EntryAnswer.the-variants.{Entry, High, NoEntry}
 use Rattle.pauli.specs.Questions.{ask, _andThen_}
-use Rattle.pauli.specs.Reading.{Skipped, numeralIf, indexNumeral, indexIf, indexAnswer, entryAfter, WordAt, LetterAt, OneEntry, EntryRead}
+use Rattle.pauli.specs.Reading.{Skipped, numeralIf, indexNumeral, indexAnswer, entryAfter, WordAt, LetterAt, OneEntry, HighEntry, EntryRead}
 use Rattle.pauli.specs.Text.{isSpace, letterNamed, leadingSpaces, leadingWord, Token, token, tokens, isIndex, indexValue, indexQuestions, hasIndex, attachedQuestions, attachedEntry, apartEntry, tokenQuestions, tokenEntries}
-use Rattle.pauli.proofs.Asking.{asked-yes, asked-no, ask-done, refused, passed, done-first, done-second}
+use Rattle.pauli.proofs.Asking.{asked-yes, asked-no, refused, passed}
 use Rattle.pauli.proofs.Cases.{at-case}
 use Rattle.pauli.specs.Places.{firstPlace}
 use Rattle.pauli.proofs.Places.{first-has}
@@ -44,25 +43,28 @@ numeral-none true x e = cc
 numeral-none false x e = refl
 
 pub index-not : (bs : List ℕ) (k : ℕ) {n : Numeral} → n ≡ indexNumeral bs → n ≡ NotNumber → NotAt (NotNumeral k) ≡ indexAnswer k bs
-unfolding indexNumeral indexAnswer indexQuestions
+unfolding indexNumeral indexAnswer
 index-not bs k e h =
-    ap (λ q. indexIf q (indexValue bs)) (refused (ask (ltb (indexValue bs) qubits) (TextQubit k)) (asked-no (NotNumeral k) (numeral-none (isIndex bs) (indexValue bs) (sym h ∙ e))) refl)
+    sym (ap (λ b. cond b (cond (ltb (indexValue bs) qubits) (At (indexValue bs)) (TooHigh k)) (NotAt (NotNumeral k))) (numeral-none (isIndex bs) (indexValue bs) (sym h ∙ e)))
 
 module _ (bs : List ℕ) (k : ℕ) {n : Numeral} {v : ℕ} (e : n ≡ indexNumeral bs) (h : n ≡ Value v) where
   value-is : (isIndex bs ≡ true) × (v ≡ indexValue bs)
   unfolding indexNumeral
   value-is = numeral-value (isIndex bs) (sym h ∙ e)
 
-  pub index-at : v < 128 → At v ≡ indexAnswer k bs
-  unfolding indexAnswer indexQuestions qubits
-  index-at l =
-      ap At (value-is .1)
-      ∙ ap (λ q. indexIf q (indexValue bs)) (passed (asked-yes (NotNumeral k) (value-is .0)) refl (asked-yes (TextQubit k) (lt-ltb (indexValue bs) 128 (omega (arith, value-is .1)))))
+  -- the answer to an index, by whether its value is below 128
+  value-answer : {b : Bool} → ltb (indexValue bs) qubits ≡ b → cond b (At (indexValue bs)) (TooHigh k) ≡ indexAnswer k bs
+  unfolding indexAnswer
+  value-answer l =
+      sym (ap₂ (λ a b. cond a (cond b (At (indexValue bs)) (TooHigh k)) (NotAt (NotNumeral k))) (value-is .0) l)
 
-  pub index-over : 128 ≤ v → NotAt (TextQubit k) ≡ indexAnswer k bs
-  unfolding indexAnswer indexQuestions qubits
-  index-over l =
-      ap (λ q. indexIf q (indexValue bs)) (passed (asked-yes (NotNumeral k) (value-is .0)) refl (asked-no (TextQubit k) (le-ltb (indexValue bs) 128 (omega (arith, value-is .1)))))
+  pub index-at : v < 128 → At v ≡ indexAnswer k bs
+  unfolding qubits
+  index-at l = ap At (value-is .1) ∙ value-answer (lt-ltb (indexValue bs) 128 (omega (arith, value-is .1)))
+
+  pub index-over : 128 ≤ v → TooHigh k ≡ indexAnswer k bs
+  unfolding qubits
+  index-over l = value-answer (le-ltb (indexValue bs) 128 (omega (arith, value-is .1)))
 
 pub ruleset index-answers = (index-not, index-at, index-over, needs)
 
@@ -74,54 +76,96 @@ pub after-not : (l n : ℕ) {i : IndexAnswer} {x : Refusal} → i ≡ NotAt x �
 unfolding entryAfter
 after-not l n e = sym (ap (λ i. entryAfter l i n) e)
 
-pub ruleset entry-answers = (after-at, after-not, needs)
+pub after-high : (l n : ℕ) {i : IndexAnswer} {o : ℕ} → i ≡ TooHigh o → High o n ≡ entryAfter l i n
+unfolding entryAfter
+after-high l n e = sym (ap (λ i. entryAfter l i n) e)
+
+pub ruleset entry-answers = (after-at, after-high, after-not, needs)
 
 -- ---- one entry
 never-entry : {l q n : ℕ} {x : Refusal} → NoEntry x ≡ Entry l q n → ⊥
 never-entry e = let z : _≡_ {A = ℕ} 0 1 = cc in omega arith
 
-never-refused : {l q n : ℕ} {x : Refusal} → Entry l q n ≡ NoEntry x → ⊥
-never-refused e = let z : _≡_ {A = ℕ} 0 1 = cc in omega arith
+never-high : {o n : ℕ} {x : Refusal} → NoEntry x ≡ High o n → ⊥
+never-high e = let z : _≡_ {A = ℕ} 0 1 = cc in omega arith
 
 pub entry-refused : {ws : List Token} {t : List ℕ} {k : ℕ} {x : Refusal} → tokenQuestions ws ≡ Refused x → EntryRead ws t k (NoEntry x)
-entry-refused {x = x} h = record { one = λ l q n e. absurd (never-entry e); refused = λ y e. h ∙ same y e }
+entry-refused {x = x} h = record { one = λ l q n e. absurd (never-entry e); high = λ o n e. absurd (never-high e); refused = λ y e. h ∙ same y e }
   where
     same : (y : Refusal) → NoEntry x ≡ NoEntry y → Refused x ≡ Refused y
     same y e = cc
 
+pub entry-high : {ws : List Token} {t : List ℕ} {k o n : ℕ} → HighEntry ws t k o n → EntryRead ws t k (High o n)
+entry-high {ws} {t} {k} {o} {n} h = record { one = λ l q m e. absurd (not-one e); high = moved; refused = λ x e. absurd (not-refused e) }
+  where
+    not-one : {l q m : ℕ} → High o n ≡ Entry l q m → ⊥
+    not-one e = let z : _≡_ {A = ℕ} 0 1 = cc in omega arith
+
+    not-refused : {x : Refusal} → High o n ≡ NoEntry x → ⊥
+    not-refused e = let z : _≡_ {A = ℕ} 0 1 = cc in omega arith
+
+    moved : (o′ n′ : ℕ) → High o n ≡ High o′ n′ → HighEntry ws t k o′ n′
+    moved o′ n′ e =
+        let eo : o ≡ o′ = cc in
+        let en : n ≡ n′ = cc in
+        subst (λ x. HighEntry ws t k x n′) eo (subst (λ x. HighEntry ws t k o x) en h)
+
+pub entry-one : {ws : List Token} {t : List ℕ} {k l q n : ℕ} → OneEntry ws t k l q n → EntryRead ws t k (Entry l q n)
+entry-one {ws} {t} {k} {l} {q} {n} h = record { one = moved; high = λ o m e. absurd (not-high e); refused = λ x e. absurd (not-refused e) }
+  where
+    not-high : {o m : ℕ} → Entry l q n ≡ High o m → ⊥
+    not-high e = let z : _≡_ {A = ℕ} 0 1 = cc in omega arith
+
+    not-refused : {x : Refusal} → Entry l q n ≡ NoEntry x → ⊥
+    not-refused e = let z : _≡_ {A = ℕ} 0 1 = cc in omega arith
+
+    moved : (l′ q′ n′ : ℕ) → Entry l q n ≡ Entry l′ q′ n′ → OneEntry ws t k l′ q′ n′
+    moved l′ q′ n′ e =
+        let el : l ≡ l′ = cc in
+        let eq : q ≡ q′ = cc in
+        let en : n ≡ n′ = cc in
+        subst (λ x. OneEntry ws t k x q′ n′) el (subst (λ x. OneEntry ws t k l x n′) eq (subst (λ x. OneEntry ws t k l q x) en h))
+
 -- an index bs at offset o after the letter l, and the rest from n on
-module _ (ws : List Token) (t : List ℕ) (k l n o : ℕ) (bs : List ℕ) (small : l ≤ 3) (onward : k < n) (within : n ≤ length t)
+module _ (ws : List Token) (t : List ℕ) (k l n o : ℕ) (bs : List ℕ) (small : l ≤ 3) (after : k < o) (place : o < length t) (onward : o ≤ n) (within : n ≤ length t)
     (questions : tokenQuestions ws ≡ indexQuestions o bs andThen tokenQuestions (tokens n (drop n t)))
     (entries : tokenEntries ws ≡ l ∷ indexValue bs ∷ tokenEntries (tokens n (drop n t))) where
-  below : indexQuestions o bs ≡ Done → indexValue bs < 128
+  one-entry : isIndex bs ≡ true → ltb (indexValue bs) qubits ≡ true → OneEntry ws t k l (indexValue bs) n
   unfolding indexQuestions qubits
-  below h = ltb-true _ _ (ask-done _ _ (done-second (ask (isIndex bs) (NotNumeral o)) _ h))
-
-  one-entry : indexQuestions o bs ≡ Done → OneEntry ws t k l (indexValue bs) n
-  one-entry h = record {
-    questions = questions ∙ done-then (indexQuestions o bs) _ h;
+  one-entry a b = record {
+    questions = questions ∙ done-then (indexQuestions o bs) _ (sym (passed (asked-yes (NotNumeral o) a) refl (asked-yes (TextQubit o) b)));
     entries = entries;
     letter = small;
-    place = below h;
+    place = ltb-true _ _ b;
+    onward = omega arith;
+    within = within;
+  }
+
+  high-entry : isIndex bs ≡ true → ltb (indexValue bs) qubits ≡ false → HighEntry ws t k o n
+  unfolding indexQuestions
+  high-entry a b = record {
+    questions = questions ∙ refused-first (indexQuestions o bs) _ (sym (passed (asked-yes (NotNumeral o) a) refl (asked-no (TextQubit o) b)));
+    after = after;
+    place = place;
     onward = onward;
     within = within;
   }
 
-  moved : OneEntry ws t k l (indexValue bs) n → (l′ q′ n′ : ℕ) → Entry l (indexValue bs) n ≡ Entry l′ q′ n′ → OneEntry ws t k l′ q′ n′
-  moved h l′ q′ n′ e =
-      let el : l ≡ l′ = cc in
-      let eq : indexValue bs ≡ q′ = cc in
-      let en : n ≡ n′ = cc in
-      subst (λ x. OneEntry ws t k x q′ n′) el (subst (λ x. OneEntry ws t k l x n′) eq (subst (λ x. OneEntry ws t k l (indexValue bs) x) en h))
+  no-numeral : isIndex bs ≡ false → tokenQuestions ws ≡ Refused (NotNumeral o)
+  unfolding indexQuestions
+  no-numeral a =
+      questions ∙ refused-first (indexQuestions o bs) _ (sym (refused (ask (ltb (indexValue bs) qubits) (TextQubit o)) (asked-no (NotNumeral o) a) refl))
 
-  cases : (q : Outcome) → indexQuestions o bs ≡ q → EntryRead ws t k (entryAfter l (indexIf q (indexValue bs)) n)
+  cases : (a b : Bool) → isIndex bs ≡ a → ltb (indexValue bs) qubits ≡ b
+      → EntryRead ws t k (entryAfter l (cond a (cond b (At (indexValue bs)) (TooHigh o)) (NotAt (NotNumeral o))) n)
   unfolding entryAfter
-  cases Done h = record { one = moved (one-entry h); refused = λ x e. absurd (never-refused e) }
-  cases (Refused x) h = entry-refused (questions ∙ refused-first (indexQuestions o bs) _ h)
+  cases true true ea eb = entry-one (one-entry ea eb)
+  cases true false ea eb = entry-high (high-entry ea eb)
+  cases false b ea eb = entry-refused (no-numeral ea)
 
   pub entry-read : {i : IndexAnswer} {r : EntryAnswer} → i ≡ indexAnswer o bs → r ≡ entryAfter l i n → EntryRead ws t k r
   unfolding indexAnswer
-  entry-read ei er = subst (EntryRead ws t k) (sym (er ∙ ap (λ x. entryAfter l x n) ei)) (cases (indexQuestions o bs) refl)
+  entry-read ei er = subst (EntryRead ws t k) (sym (er ∙ ap (λ x. entryAfter l x n) ei)) (cases (isIndex bs) (ltb (indexValue bs) qubits) refl refl)
 
 -- ---- small facts
 pub letter-small : (c : ℕ) → letterNamed c ≤ 3
@@ -224,7 +268,7 @@ module _ (t : List ℕ) (k : ℕ) (at : WordAt t k) where
 
     pub attached-entry : {i : IndexAnswer} {r : EntryAnswer} → i ≡ indexAnswer (k + 1) (take (e - (k + 1)) (drop (k + 1) t)) → r ≡ entryAfter l i e
         → EntryRead (tokens k (drop k t)) t k r
-    attached-entry = entry-read (tokens k (drop k t)) t k l e (k + 1) _ (omega (arith, letter-small (getD t k 0))) (omega arith) (end .within) questions-are entries-are
+    attached-entry = entry-read (tokens k (drop k t)) t k l e (k + 1) _ (omega (arith, letter-small (getD t k 0))) (omega arith) (omega (arith, end .within)) (omega arith) (end .within) questions-are entries-are
 
   pub alone : {l e : ℕ} → l ≡ letterNamed (getD t k 0) → (l ≡ 0 → ⊥) → Skipped leadingWord t k e → e ≤ k + 1 → LetterAt t k l
   alone el n end h = record { begins = at; letter = el; known = omega arith; alone = omega (arith, some, end .is) }
@@ -280,6 +324,6 @@ module _ (t : List ℕ) (k l f : ℕ) (at : LetterAt t k l) (skip : Skipped lead
     pub apart-some : {i : IndexAnswer} {r : EntryAnswer} → i ≡ indexAnswer f second → r ≡ entryAfter l i e → EntryRead (tokens k (drop k t)) t k r
     apart-some =
         entry-read (tokens k (drop k t)) t k l e f second (omega (arith, at .letter, letter-small (getD t k 0)))
-        (omega (arith, skip .onward, end .onward)) (end .within) apart-asked apart-named
+        (omega (arith, skip .onward)) h (end .onward) (end .within) apart-asked apart-named
 
 pub ruleset sparse-entries = (unknown-letter, attached-entry, alone, apart-none, apart-some, needs)

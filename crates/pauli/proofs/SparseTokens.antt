@@ -2,23 +2,24 @@
 use mathlib.Core.Path.{_≡_, refl, sym, ap, ap₂, _∙_, subst}
 use mathlib.Core.Bool.{Bool, true, false, cond}
 use mathlib.Core.List.{List, [], _∷_, _++_, append-assoc, append-nil}
-use Prim.Native.Nat.{ℕ, zero, suc, _+_, _*_, _-_, _/_, _<_, _≤_}
-use native.Mathlib.Nat.{not-suc-le-zero}
-use native.Mathlib.Decide.{ℕ-discrete}
+use Prim.Native.Nat.{ℕ, zero, suc, _+_, _*_, _-_, _/_, _<_, _≤_, min}
+use native.Mathlib.Nat.{le-refl, not-suc-le-zero}
+use native.Mathlib.Decide.{ℕ-discrete, decLt}
 use native.Mathlib.Omega.{arith}
 use lib.Dec.{eqb}
 use lib.ListN.{length, getD, drop, set, length-append, length-drop, drop-of-length-le, List·getD-append}
 use lib.Seq.{getD-append-add, drop-drop}
 use borrow.Author.Needs.{needs}
 use Rattle.pauli.specs.declared.refusal.Refusal.{Refusal}
+use Rattle.pauli.specs.declared.refusal.Refusal.the-variants.{TextQubit}
 use Rattle.pauli.specs.declared.refusal.Outcome.{Outcome}
 use Rattle.pauli.specs.declared.refusal.Outcome.the-variants.{Done, Refused}
 use Rattle.pauli.specs.declared.sparse_reader.EntryAnswer.{EntryAnswer}
-use Rattle.pauli.specs.declared.sparse_reader.EntryAnswer.the-variants.{Entry, NoEntry}
+use Rattle.pauli.specs.declared.sparse_reader.EntryAnswer.the-variants.{Entry, High, NoEntry}
 use Rattle.pauli_group.specs.PauliString.{qubits}
 use Rattle.pauli.specs.Entries.{entryCount, entryLetter, entryQubit}
 use Rattle.pauli.specs.Marks.{markMore, markTo, marksTo, MarkFits, Blank}
-use Rattle.pauli.specs.Reading.{Skipped, WordAt, OneEntry, EntryRead, BodyAt, GoodEntries, TokensRead}
+use Rattle.pauli.specs.Reading.{Skipped, WordAt, OneEntry, HighEntry, EntryRead, BodyAt, GoodEntries, TokensRead}
 use Rattle.pauli.specs.Text.{isSpace, leadingSpaces, Token, tokens, tokenQuestions, tokenEntries}
 use Rattle.pauli.proofs.EntryMarks.{length-marks, mark-step}
 use Rattle.pauli.proofs.Places.{listed-ext}
@@ -101,39 +102,63 @@ good-none : GoodEntries []
 unfolding entryCount
 good-none = record { even = refl; letters = λ j h. absurd (not-suc-le-zero h); places = λ j h. absurd (not-suc-le-zero h) }
 
--- ---- the tokens ws of t, read up to place k
-pub record Reading (ws : List Token) (t : List ℕ) (k : ℕ) (m : List ℕ) : Type 0 where
+-- ---- the tokens ws of t, read up to place k; h is the offset of the first index too high, or the end of t where none is read
+pub record Reading (ws : List Token) (t : List ℕ) (k h : ℕ) (m : List ℕ) : Type 0 where
   pub seen : List ℕ
   pub within : k ≤ length t
   pub begins : k < length t → isSpace (getD t k 0) ≡ false
-  pub questions : tokenQuestions ws ≡ tokenQuestions (tokens k (drop k t))
-  pub entries : tokenEntries ws ≡ seen ++ tokenEntries (tokens k (drop k t))
   pub marks : m ≡ marksTo seen (entryCount seen)
   pub good : GoodEntries seen
+  pub most : h ≤ length t
+  pub questions : length t ≤ h → tokenQuestions ws ≡ tokenQuestions (tokens k (drop k t))
+  pub entries : length t ≤ h → tokenEntries ws ≡ seen ++ tokenEntries (tokens k (drop k t))
+  pub passed : h < length t → h ≤ k
+  pub high : h < length t → tokenQuestions ws ≡ Refused (TextQubit h)
 
 skip-tokens : (t : List ℕ) (n k : ℕ) → Skipped leadingSpaces t n k → tokens n (drop n t) ≡ tokens k (drop k t)
 skip-tokens t n k s =
     tokens-skip n (drop n t) ∙ ap (tokens (n + leadingSpaces (drop n t))) (drop-drop (leadingSpaces (drop n t)) n t) ∙ ap (λ (j : ℕ). tokens j (drop j t)) (sym (s .is))
 
-pub reading-none : {t m : List ℕ} {s k : ℕ} → BodyAt t s m → Skipped leadingSpaces t s k → Reading (tokens s (drop s t)) t k m
+pub reading-none : {t m : List ℕ} {s k : ℕ} → BodyAt t s m → Skipped leadingSpaces t s k → Reading (tokens s (drop s t)) t k (length t) m
 unfolding entryCount
 reading-none {t} {m} {s} {k} b h = record {
   seen = [];
   within = h .within;
   begins = space-ends t s k h;
-  questions = ap tokenQuestions (skip-tokens t s k h);
-  entries = ap tokenEntries (skip-tokens t s k h);
   marks = b .blank .none [];
   good = good-none;
+  most = le-refl (length t);
+  questions = λ l. ap tokenQuestions (skip-tokens t s k h);
+  entries = λ l. ap tokenEntries (skip-tokens t s k h);
+  passed = λ l. absurd (never l);
+  high = λ l. absurd (never l);
 }
+  where
+    never : length t < length t → ⊥
+    never l = omega arith
 
 pub reading-start : {t m : List ℕ} {s : ℕ} → BodyAt t s m → s ≤ length t
 reading-start b = b .within
 
-pub reading-word : {ws : List Token} {t m : List ℕ} {k : ℕ} → Reading ws t k m → k < length t → WordAt t k
-reading-word r h = record { within = h; byte = r .begins h }
+module _ {ws : List Token} {t m : List ℕ} {k h : ℕ} (r : Reading ws t k h m) where
+  pub reading-within : k < h → k < length t
+  reading-within l = omega (arith, r .most)
 
-module _ {ws : List Token} {t m : List ℕ} {k : ℕ} {a : EntryAnswer} {l q n : ℕ} (r : Reading ws t k m) (read : EntryRead (tokens k (drop k t)) t k a) (told : a ≡ Entry l q n) where
+  pub reading-ended : h ≤ k → length t ≤ h → length t ≤ k
+  reading-ended b l = omega arith
+
+  pub reading-word : k < length t → WordAt t k
+  reading-word l = record { within = l; byte = r .begins l }
+
+  -- an index too high is behind the place
+  pub reading-open : k < h → length t ≤ h
+  reading-open l = elim (decLt h (length t)) [ yes b ↦ absurd (never (r .passed b)) | no b ↦ omega arith ]
+    where
+      never : h ≤ k → ⊥
+      never b = omega arith
+
+-- one entry more
+module _ {ws : List Token} {t m : List ℕ} {k h : ℕ} {a : EntryAnswer} {l q n : ℕ} (r : Reading ws t k h m) (read : EntryRead (tokens k (drop k t)) t k a) (told : a ≡ Entry l q n) where
   one : OneEntry (tokens k (drop k t)) t k l q n
   one = read .one l q n told
 
@@ -146,52 +171,103 @@ module _ {ws : List Token} {t m : List ℕ} {k : ℕ} {a : EntryAnswer} {l q n :
   pub reading-less : {j : ℕ} → Skipped leadingSpaces t n j → length t - j < length t - k
   reading-less s = omega (arith, one .onward, one .within, s .onward, s .within)
 
-  pub reading-step : {d : List ℕ} {j : ℕ} → d ≡ set m q (markMore (getD m q 0) l) → Skipped leadingSpaces t n j → Reading ws t j d
+  pub reading-step : {d : List ℕ} {j : ℕ} → d ≡ set m q (markMore (getD m q 0) l) → Skipped leadingSpaces t n j → Reading ws t j h d
   reading-step {d} {j} ed s = record {
     seen = r .seen ++ (l ∷ q ∷ []);
     within = s .within;
     begins = space-ends t n j s;
-    questions = r .questions ∙ one .questions ∙ ap tokenQuestions (skip-tokens t n j s);
-    entries = r .entries ∙ ap (λ (e : List ℕ). r .seen ++ e) (one .entries ∙ ap (λ (w : List Token). l ∷ q ∷ tokenEntries w) (skip-tokens t n j s))
-        ∙ sym (append-assoc (r .seen) (l ∷ q ∷ []) (tokenEntries (tokens j (drop j t))));
     marks = ed ∙ ap (λ (x : List ℕ). set x q (markMore (getD x q 0) l)) (r .marks) ∙ marks-more (r .seen) l q (r .good .even) (one .place);
     good = good-more (r .seen) l q (r .good) (one .letter) (one .place);
+    most = r .most;
+    questions = λ b. r .questions b ∙ one .questions ∙ ap tokenQuestions (skip-tokens t n j s);
+    entries = λ b. r .entries b ∙ ap (λ (e : List ℕ). r .seen ++ e) (one .entries ∙ ap (λ (w : List Token). l ∷ q ∷ tokenEntries w) (skip-tokens t n j s))
+        ∙ sym (append-assoc (r .seen) (l ∷ q ∷ []) (tokenEntries (tokens j (drop j t))));
+    passed = λ b. omega (arith, r .passed b, one .onward, s .onward);
+    high = r .high;
   }
+
+-- an index too high: the first such is kept
+module _ {ws : List Token} {t m : List ℕ} {k h : ℕ} {a : EntryAnswer} {o n : ℕ} (r : Reading ws t k h m) (read : EntryRead (tokens k (drop k t)) t k a) (told : a ≡ High o n) where
+  over : HighEntry (tokens k (drop k t)) t k o n
+  over = read .high o n told
+
+  pub high-next : n ≤ length t
+  high-next = over .within
+
+  pub high-less : {j : ℕ} → Skipped leadingSpaces t n j → length t - j < length t - k
+  high-less s = omega (arith, over .after, over .onward, over .within, s .onward, s .within)
+
+  first-high : h ≤ k → min h o ≡ h
+  first-high b = omega (arith, over .after)
+
+  new-high : length t ≤ h → min h o ≡ o
+  new-high b = omega (arith, over .place)
+
+  now-high : tokenQuestions ws ≡ Refused (TextQubit (min h o))
+  now-high = elim (decLt h (length t)) [
+    | yes b ↦ r .high b ∙ ap (λ (x : ℕ). Refused (TextQubit x)) (sym (first-high (r .passed b)))
+    | no b ↦ let c : length t ≤ h = omega arith in r .questions c ∙ over .questions ∙ ap (λ (x : ℕ). Refused (TextQubit x)) (sym (new-high c))
+  ]
+
+  pub high-step : {g j : ℕ} → g ≡ min h o → Skipped leadingSpaces t n j → Reading ws t j g m
+  high-step {g} {j} eg s = record {
+    seen = r .seen;
+    within = s .within;
+    begins = space-ends t n j s;
+    marks = r .marks;
+    good = r .good;
+    most = omega (arith, over .place);
+    questions = λ b. absurd (never b);
+    entries = λ b. absurd (never b);
+    passed = λ b. omega (arith, over .onward, s .onward);
+    high = λ b. now-high ∙ ap (λ (x : ℕ). Refused (TextQubit x)) (sym eg);
+  }
+    where
+      never : length t ≤ g → ⊥
+      never b = omega (arith, over .place)
 
 never-done : {x : Refusal} → Refused x ≡ Done → ⊥
 never-done e = let z : _≡_ {A = ℕ} 0 1 = cc in omega arith
 
-pub reading-refused : {ws : List Token} {t m : List ℕ} {k : ℕ} {a : EntryAnswer} {x : Refusal} → Reading ws t k m → EntryRead (tokens k (drop k t)) t k a → a ≡ NoEntry x
-    → TokensRead ws m (Refused x)
-reading-refused {x = x} r read told = record {
-  answer = sym (r .questions ∙ read .refused x told);
-  marks = λ e. absurd (never-done e);
-  good = λ e. absurd (never-done e);
-}
+refused-read : {ws : List Token} (m : List ℕ) {x : Refusal} → tokenQuestions ws ≡ Refused x → TokensRead ws m (Refused x)
+refused-read m e = record { answer = sym e; marks = λ d. absurd (never-done d); good = λ d. absurd (never-done d) }
 
-pub reading-done : {ws : List Token} {t m : List ℕ} {k : ℕ} → Reading ws t k m → length t ≤ k → TokensRead ws m Done
+-- a token is refused at once only where no index before it is too high
+pub reading-refused : {ws : List Token} {t m : List ℕ} {k h : ℕ} {a : EntryAnswer} {x : Refusal} → Reading ws t k h m → k < h → EntryRead (tokens k (drop k t)) t k a
+    → a ≡ NoEntry x → TokensRead ws m (Refused x)
+reading-refused {m = m} {x = x} r l read told = refused-read m (r .questions (reading-open r l) ∙ read .refused x told)
+
+pub reading-high : {ws : List Token} {t m : List ℕ} {k h : ℕ} → Reading ws t k h m → h < length t → TokensRead ws m (Refused (TextQubit h))
+reading-high {m = m} r l = refused-read m (r .high l)
+
+pub reading-done : {ws : List Token} {t m : List ℕ} {k h : ℕ} → Reading ws t k h m → length t ≤ h → length t ≤ k → TokensRead ws m Done
 unfolding tokenQuestions tokenEntries
-reading-done {ws} {t} {m} {k} r h =
-    let left : tokens k (drop k t) ≡ [] = no-more k (drop k t) (drop-of-length-le t h) in
-    let all : tokenEntries ws ≡ r .seen = r .entries ∙ ap (λ (w : List Token). r .seen ++ tokenEntries w) left ∙ append-nil (r .seen) in
+reading-done {ws} {t} {m} {k} r b l =
+    let left : tokens k (drop k t) ≡ [] = no-more k (drop k t) (drop-of-length-le t l) in
+    let all : tokenEntries ws ≡ r .seen = r .entries b ∙ ap (λ (w : List Token). r .seen ++ tokenEntries w) left ∙ append-nil (r .seen) in
     record {
-      answer = sym (r .questions ∙ ap tokenQuestions left);
+      answer = sym (r .questions b ∙ ap tokenQuestions left);
       marks = λ e. r .marks ∙ ap (λ (x : List ℕ). marksTo x (entryCount x)) (sym all);
       good = λ e. subst GoodEntries (sym all) (r .good);
     }
 
-pub reading-length : {ws : List Token} {t m d : List ℕ} {s k : ℕ} → BodyAt t s m → Reading ws t k d → length d ≡ length m
+pub reading-length : {ws : List Token} {t m d : List ℕ} {s k h : ℕ} → BodyAt t s m → Reading ws t k h d → length d ≡ length m
 reading-length b r = ap length (r .marks) ∙ length-marks (r .seen) _ ∙ sym (ap length (b .blank .none []) ∙ length-marks [] 0)
 
 pub ruleset readings = (
   reading-none,
   reading-start,
+  reading-within,
+  reading-ended,
   reading-word,
   reading-fits,
   reading-next,
   reading-less,
   reading-step,
-  reading-refused,
+  high-next,
+  high-less,
+  high-step,
+  reading-high,
   reading-done,
   reading-length,
   needs,

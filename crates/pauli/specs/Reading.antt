@@ -1,6 +1,6 @@
 -- What the functions that read text promise one another.
 use Prim.Native.Nat.{ℕ, _+_, _-_, _^_, _≤_, _<_}
-use mathlib.Core.Bool.{Bool, true, false, _&&_}
+use mathlib.Core.Bool.{Bool, true, false, cond, _&&_}
 use lib.Dec.{ltb}
 use mathlib.Core.Path.{_≡_}
 use mathlib.Core.List.{List, [], _∷_}
@@ -10,17 +10,19 @@ use Rattle.pauli.specs.declared.text.Head.{Head}
 use Rattle.pauli.specs.declared.text.Numeral.{Numeral}
 use Rattle.pauli.specs.declared.text.Numeral.the-variants.{Value, NotNumber}
 use Rattle.pauli.specs.declared.sparse_reader.IndexAnswer.{IndexAnswer}
-use Rattle.pauli.specs.declared.sparse_reader.IndexAnswer.the-variants.{At, NotAt}
+use Rattle.pauli.specs.declared.sparse_reader.IndexAnswer.the-variants.{At, TooHigh, NotAt}
 use Rattle.pauli.specs.declared.sparse_reader.EntryAnswer.{EntryAnswer}
-use Rattle.pauli.specs.declared.sparse_reader.EntryAnswer.the-variants.{Entry, NoEntry}
+use Rattle.pauli.specs.declared.sparse_reader.EntryAnswer.the-variants.{Entry, High, NoEntry}
+use Rattle.pauli_group.specs.PauliString.{qubits}
 use Rattle.pauli.specs.declared.refusal.Refusal.{Refusal}
+use Rattle.pauli.specs.declared.refusal.Refusal.the-variants.{NotNumeral, TextQubit}
 use Rattle.pauli.specs.declared.refusal.Outcome.{Outcome}
 use Rattle.pauli.specs.declared.refusal.Outcome.the-variants.{Done, Refused}
 use Rattle.pauli.specs.Entries.{entryCount, entryLetter, entryQubit}
 use Rattle.pauli.specs.Marks.{marksTo, Blank}
 use Rattle.pauli.specs.Places.{listed}
 use Rattle.pauli.specs.Layout.{phaseByte}
-use Rattle.pauli.specs.Text.{textEnd, denseBody, sparseEntries, fromSparseQuestions, isSpace, letterNamed, leadingWord, Token, tokens, tokenQuestions, tokenEntries, indexQuestions, isDigit, prefixPhase, prefixLength, textPhase, bodyStart, allDigits, digitsValue, isIndex, indexValue}
+use Rattle.pauli.specs.Text.{textEnd, denseBody, sparseEntries, fromSparseQuestions, isSpace, letterNamed, leadingWord, Token, tokens, tokenQuestions, tokenEntries, isDigit, prefixPhase, prefixLength, textPhase, bodyStart, allDigits, digitsValue, isIndex, indexValue}
 
 -- r is as far after k as the text that begins there says
 pub record Skipped (count : List ℕ → ℕ) (t : List ℕ) (k r : ℕ) : Type 0 where
@@ -59,16 +61,13 @@ indexNumeral bs = numeralIf (isIndex bs) (indexValue bs)
 
 -- ---- sparse text
 
--- the qubit of an index at offset k, or its refusal
-abbrev pub indexIf : Outcome → ℕ → IndexAnswer
-indexIf Done v = At v
-indexIf (Refused r) v = NotAt r
-
+-- the qubit of an index at offset k, or why there is none
 unfoldable pub indexAnswer : ℕ → List ℕ → IndexAnswer
-indexAnswer k bs = indexIf (indexQuestions k bs) (indexValue bs)
+indexAnswer k bs = cond (isIndex bs) (cond (ltb (indexValue bs) qubits) (At (indexValue bs)) (TooHigh k)) (NotAt (NotNumeral k))
 
 unfoldable pub entryAfter : ℕ → IndexAnswer → ℕ → EntryAnswer
 entryAfter l (At q) n = Entry l q n
+entryAfter l (TooHigh o) n = High o n
 entryAfter l (NotAt r) n = NoEntry r
 
 -- a token begins at this place of the text
@@ -92,8 +91,17 @@ pub record OneEntry (ws : List Token) (t : List ℕ) (k l q n : ℕ) : Type 0 wh
   pub onward : k < n
   pub within : n ≤ length t
 
+-- the first entry of the tokens ws of t, which begin at k, has an index too high at o, and the rest is from n on
+pub record HighEntry (ws : List Token) (t : List ℕ) (k o n : ℕ) : Type 0 where
+  pub questions : tokenQuestions ws ≡ Refused (TextQubit o)
+  pub after : k < o
+  pub place : o < length t
+  pub onward : o ≤ n
+  pub within : n ≤ length t
+
 pub record EntryRead (ws : List Token) (t : List ℕ) (k : ℕ) (r : EntryAnswer) : Type 0 where
   pub one : (l q n : ℕ) → r ≡ Entry l q n → OneEntry ws t k l q n
+  pub high : (o n : ℕ) → r ≡ High o n → HighEntry ws t k o n
   pub refused : (x : Refusal) → r ≡ NoEntry x → tokenQuestions ws ≡ Refused x
 
 -- a place from which tokens are read, and no marks yet

@@ -137,14 +137,19 @@ pub(crate) fn mark_entries(entries: &[u8], marks: &mut [u8])
 pub(crate) fn first_twice(marks: &[u8]) -> usize
     ensures { λ r. ⌜ r ≡ firstTwice (now (marks .entry)) ⌝ }
 {
+    let n = marks.len();
+    let mut found = n;
     let mut i = 0;
-    while i < marks.len() {
+    while i < n {
         if marks[i] == 5 {
-            return i;
+            // Only the first is kept.
+            if n <= found {
+                found = i;
+            }
         }
         i += 1;
     }
-    i
+    found
 }
 
 // Question 12 by the marks.

@@ -10,6 +10,7 @@ use crate::entries::mark;
 use crate::entries::write_marked;
 use crate::refusal::Outcome;
 use crate::refusal::Refusal;
+use crate::rows::smaller;
 use crate::text::Numeral;
 use crate::text::check_ascii;
 use crate::text::letter_named;
@@ -18,17 +19,22 @@ use crate::text::read_numeral;
 use crate::text::skip_spaces;
 use crate::text::skip_word;
 
-// The qubit that an index names.
+// The qubit that an index names, or the offset of an index that is too high for one.
 pub(crate) enum IndexAnswer {
     At(usize),
+    TooHigh { offset: usize },
     NotAt(Refusal),
 }
 
-// One letter and its qubit, and the offset after them.
+// One letter and its qubit, or the offset of an index too high; and the offset after them.
 pub(crate) enum EntryAnswer {
     Entry {
         letter: u8,
         qubit: usize,
+        next: usize,
+    },
+    High {
+        offset: usize,
         next: usize,
     },
     NoEntry(Refusal),
@@ -45,7 +51,7 @@ fn read_index(bs: &[u8], offset: usize) -> IndexAnswer
     if v < 128 {
         return IndexAnswer::At(v as usize);
     }
-    IndexAnswer::NotAt(Refusal::TextQubit { offset })
+    IndexAnswer::TooHigh { offset }
 }
 
 fn entry_after(letter: u8, index: IndexAnswer, next: usize) -> EntryAnswer
@@ -57,6 +63,7 @@ fn entry_after(letter: u8, index: IndexAnswer, next: usize) -> EntryAnswer
             qubit,
             next,
         },
+        IndexAnswer::TooHigh { offset } => EntryAnswer::High { offset, next },
         IndexAnswer::NotAt(why) => EntryAnswer::NoEntry(why),
     }
 }
@@ -91,16 +98,22 @@ fn read_entry(t: &[u8], at: usize) -> EntryAnswer
     entry_after(letter, read_index(&t[after..end], after), end)
 }
 
-// All tokens from an offset on: each entry is marked.
+// All tokens from an offset on, up to one that is refused: each entry is marked.
 pub(crate) fn read_tokens(t: &[u8], start: usize, marks: &mut [u8]) -> Outcome
     requires { ⌜ BodyAt (now t) start (now marks) ⌝ }
     ensures { λ r. ⌜ TokensRead (tokens start (drop start (now (t .entry)))) (now (marks .exit)) r ⌝ }
 {
+    // The offset of an index too high, or the end of the text: no token after it is read.
+    let mut high = t.len();
     let mut at = skip_spaces(t, start);
-    while at < t.len() {
+    while at < high {
         let entry = read_entry(t, at);
         match entry {
             EntryAnswer::NoEntry(why) => return Outcome::Refused(why),
+            EntryAnswer::High { offset, next } => {
+                high = smaller(high, offset);
+                at = skip_spaces(t, next);
+            }
             EntryAnswer::Entry {
                 letter,
                 qubit,
@@ -110,6 +123,9 @@ pub(crate) fn read_tokens(t: &[u8], start: usize, marks: &mut [u8]) -> Outcome
                 at = skip_spaces(t, next);
             }
         }
+    }
+    if high < t.len() {
+        return Outcome::Refused(Refusal::TextQubit { offset: high });
     }
     Outcome::Done
 }

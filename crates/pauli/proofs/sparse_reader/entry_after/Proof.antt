@@ -7,4 +7,5 @@ pub entry-after-spec : {M : Type 1} → statement M
 entry-after-spec =
     tie.close
     (tie.spec
-    (λ c. search entry-answers) (λ c. search entry-answers) (λ c. search entry-answers) (λ c. search entry-answers))
+    (λ c. search entry-answers) (λ c. search entry-answers) (λ c. search entry-answers) (λ c. search entry-answers)
+    (λ c. search entry-answers) (λ c. search entry-answers))
