@@ -19,3 +19,4 @@ pub mod WayBackSteps
 pub mod Displays
 pub mod GateImages
 pub mod GateWriting
+pub mod GateAsking

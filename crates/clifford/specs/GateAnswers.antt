@@ -4,7 +4,8 @@ use mathlib.Core.Path.{_≡_}
 use mathlib.Core.Bool.{cond}
 use mathlib.Core.List.{List}
 use lib.Dec.{ltb}
-use Rattle.clifford_gates.specs.GateNumbers.{gateTableau, singleQubitClifford, nameOf}
+use Rattle.clifford_gates.specs.GateTableaux.{onQubit}
+use Rattle.clifford_gates.specs.GateNumbers.{oneQubitGate, gateTableau, singleQubitClifford, nameOf}
 use Rattle.pauli.specs.declared.refusal.Outcome.{Outcome}
 use Rattle.pauli.specs.declared.refusal.Outcome.the-variants.{Done, Refused}
 use Rattle.pauli.specs.declared.refusal.Reply.{Reply}
@@ -37,6 +38,10 @@ pub record NameAnswered (q : Outcome) (n : ℕ) (r : GateAnswer) : Type 0 where
   pub told : gateReply r ≡ replyTo q (cond (ltb n 24) n 255)
 
 -- ---- records
+
+-- a one-qubit gate on q, and a gate on q and r
+unfoldable pub oneQubitRecord : ℕ → ℕ → List ℕ
+oneQubitRecord g q = tableauRecord (onQubit (oneQubitGate g) q)
 
 unfoldable pub gateRecord : ℕ → ℕ → ℕ → List ℕ
 gateRecord g q r = tableauRecord (gateTableau g q r)

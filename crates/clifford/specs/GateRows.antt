@@ -117,3 +117,24 @@ pub record WritesGateRow (g q r w i : ℕ) (out : List ℕ) : Type 0 where
 pub record WritesGateBy (g q r w i : ℕ) (k out : List ℕ) : Type 0 where
   pub row : WritesGateRow g q r w i out
   pub work : length k ≡ w + 1
+
+-- w is the width of a gate's tableau
+pub record GateSpan (g q r w : ℕ) : Type 0 where
+  pub is : w ≡ gateWidth g q r
+  pub small : w ≤ 128
+
+-- a gate and its qubits, and room for its tableau
+pub record GateFits (g q r : ℕ) (d : List ℕ) : Type 0 where
+  pub on : GateOn g q r
+  pub room : recordLength (gateWidth g q r) ≤ length d
+
+-- a one-qubit gate and its qubit, and room for its tableau
+pub record OneFits (g q : ℕ) (d : List ℕ) : Type 0 where
+  pub gate : g < 24
+  pub qubit : q < 128
+  pub room : recordLength (suc q) ≤ length d
+
+-- two one-qubit gates
+pub record BothSmall (g h : ℕ) : Type 0 where
+  pub first : g < 24
+  pub second : h < 24

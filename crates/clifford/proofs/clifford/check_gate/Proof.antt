@@ -1,0 +1,11 @@
+-- `clifford::check_gate` meets its contract.
+use Rattle.clifford.proofs.GateAsking.{gate-questions}
+use Rattle.clifford.proofs.clifford.check_gate.Statement.{statement}
+use Rattle.clifford.proofs.clifford.check_gate.Tie as tie
+
+pub check-gate-spec : {M : Type 1} → statement M
+check-gate-spec =
+    tie.close
+    (tie.spec
+    (λ c. search gate-questions)
+    (λ c. search gate-questions))
