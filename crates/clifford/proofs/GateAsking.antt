@@ -36,7 +36,7 @@ pub gate-out : {limit g : ℕ} → limit ≤ g → Refused (Gate 0) ≡ gateQues
 unfolding gateQuestion
 gate-out {limit} {g} h = asked-no (Gate 0) (le-ltb g limit h)
 
-gate-below : (limit g : ℕ) → gateQuestion limit g ≡ Done → g < limit
+pub gate-below : (limit g : ℕ) → gateQuestion limit g ≡ Done → g < limit
 unfolding gateQuestion
 gate-below limit g e = ltb-true g limit (ask-done (ltb g limit) (Gate 0) e)
 
@@ -123,7 +123,7 @@ on-qubits-done g q r e =
 pub gate-is-on : (g q r : ℕ) {a : Outcome} → a ≡ onQubitsQuestions g q r → a ≡ Done → GateOn g q r
 gate-is-on g q r e f = on-qubits-done g q r (sym e ∙ f)
 
-width-one : (g q r : ℕ) → g < 24 → gateWidth g q r ≡ suc q
+pub width-one : (g q r : ℕ) → g < 24 → gateWidth g q r ≡ suc q
 unfolding gateWidth
 width-one g q r h = ap (λ b. cond b (suc q) (suc (max q r))) (lt-ltb g 24 h)
 

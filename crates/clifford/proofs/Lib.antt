@@ -20,3 +20,5 @@ pub mod Displays
 pub mod GateImages
 pub mod GateWriting
 pub mod GateAsking
+pub mod GateNaming
+pub mod GateAnswers

@@ -1,11 +1,14 @@
 -- The images of gates as bytes, and what the functions that write them promise one another.
 use Prim.Native.Nat.{ℕ, zero, suc, _+_, _*_, _≤_, _<_}
 use mathlib.Core.Path.{_≡_}
-use mathlib.Core.List.{List, [], _∷_, _++_}
+use mathlib.Core.Bool.{Bool, cond, _&&_}
+use mathlib.Core.List.{List, [], _∷_}
 use mathlib.Core.Logic.{_≢_}
+use lib.Dec.{eqb}
 use lib.ListN.{length, getD}
 use Rattle.pauli_group.specs.PauliString.{PauliString, mul, scale, single}
-use Rattle.clifford_gates.specs.Gates.{Image, OneQubit, PairImage, TwoQubit}
+use Rattle.clifford_gates.specs.Gates.{Image, OneQubit, oneQubitGates, PairImage, TwoQubit}
+use Rattle.clifford_gates.specs.GateNumbers.{isMinus, firstWith}
 use Rattle.pauli.specs.Layout.{phaseByte, phaseOf, letterByte, letterOf}
 use Rattle.pauli.specs.Rows.{phaseBytesProduct, productPhaseByte, productLetterByte}
 use Rattle.pauli.specs.declared.algebra.PhasedLetter.{PhasedLetter}
@@ -54,6 +57,33 @@ generatorImage x z (suc (suc l)) = z
 pub record TakesTwo (g : ℕ) : Type 0 where
   pub from : 24 ≤ g
   pub below : g < 38
+
+-- ---- gates found by their images
+
+-- the image that a phase byte and a letter byte hold
+unfoldable pub imageHeld : PhasedLetter → Image
+imageHeld p = record { phase = phaseOf (p .0); letter = letterOf (p .1) }
+
+-- 1 for the phase -1, 0 for any other
+unfoldable pub minusByte : ℕ → ℕ
+minusByte p = cond (isMinus (phaseOf p)) 1 0
+
+-- images of X and of Z in the form of an entry
+unfoldable pub signedBytes : PhasedLetter → PhasedLetter → List ℕ
+signedBytes x z = minusByte (x .0) ∷ x .1 ∷ minusByte (z .0) ∷ z .1 ∷ []
+
+unfoldable pub sameEntry : List ℕ → List ℕ → Bool
+sameEntry a b =
+    (eqb (getD a 0 0) (getD b 0 0) && eqb (getD a 1 0) (getD b 1 0)) && (eqb (getD a 2 0) (getD b 2 0) && eqb (getD a 3 0) (getD b 3 0))
+
+-- the first gate with this entry
+unfoldable pub firstEntry : List ℕ → ℕ
+firstEntry e = firstWith (λ g. sameEntry (imageBytes g) e) oneQubitGates
+
+-- r is the number n of a gate, or 24
+pub record NameIs (n r : ℕ) : Type 0 where
+  pub is : r ≡ n
+  pub small : r ≤ 24
 
 -- ---- rows of a gate's tableau
 

@@ -1,7 +1,6 @@
 // Gates by number: their tableaux, their names, their products and inverses. Ports clifford.rs of PECOS, changed:
 // Copyright 2024 The PECOS Developers, Apache License, Version 2.0.
 ghost use mathlib.Core.Path.{_≡_};
-ghost use Prim.Native.Nat.{suc, _<_};
 ghost use lib.ListN.{length};
 ghost use Rattle.clifford_gates.specs.GateNumbers.{composeGate, inverseGate};
 ghost use Rattle.pauli.specs.declared.refusal.Outcome.the-variants.{Done};
@@ -9,10 +8,21 @@ ghost use Rattle.pauli.specs.Answers.{Written, written};
 ghost use Rattle.clifford.specs.Layout.{FormedTableau};
 ghost use Rattle.clifford.specs.Questions.{tableauQuestions};
 ghost use Rattle.clifford.specs.GateQuestions.{gateQuestion, differentQuestion, secondQuestions, gateWidth, onQubitsQuestions, onQubitsAnswer, onQubitQuestions, onQubitAnswer, composeGateQuestions};
-ghost use Rattle.clifford.specs.GateAnswers.{gateReply, GateAnswered, NameAnswered, gateRecord, oneQubitRecord, productRecord, recordName};
-ghost use Rattle.clifford.specs.GateRows.{GateOn, GateSpan, GateFits, OneFits, BothSmall};
+ghost use Rattle.clifford.specs.GateAnswers.{gateReply, nameAnswer, GateAnswered, NameAnswered, gateRecord, oneQubitRecord, productRecord, recordName};
+ghost use Rattle.clifford.specs.GateRows.{GateOn, GateSpan, GateFits, OneFits, BothSmall, NameIs};
+use crate::gates::first_gate;
+use crate::gates::inverse_number;
+use crate::gates::letter_image;
+use crate::gates::product_number;
+use crate::gates::sent_image;
+use crate::gates::signed_images;
 use crate::gates::write_gate;
+use crate::layout::letter_in_row;
 use crate::layout::record_length;
+use crate::layout::row_phase;
+use crate::layout::width;
+use crate::questions::check_tableau;
+use pauli::algebra::PhasedLetter;
 use pauli::questions::check_qubit;
 use pauli::questions::check_room;
 use pauli::refusal::Outcome;
@@ -141,4 +151,132 @@ pub fn on_qubits(gate: u8, q0: usize, q1: usize, dst: &mut [u8]) -> Outcome
         write_on_qubits(g, q0, q1, dst);
     }
     answer
+}
+
+fn on_qubit_answer(gate: usize, q: usize, room: usize) -> Outcome
+    ensures { λ o. ⌜ o ≡ onQubitAnswer gate q room ⌝ }
+{
+    let first = check_on_qubit(gate, q);
+    if let Outcome::Done = first {
+        return check_room(record_length(q + 1), room);
+    }
+    first
+}
+
+fn write_on_qubit(gate: usize, q: usize, dst: &mut [u8])
+    requires { ⌜ OneFits gate q (now dst) ⌝ }
+    ensures { λ _. ⌜ now (dst .exit) ≡ written Done (oneQubitRecord gate q) (now (dst .entry)) ⌝ }
+{
+    write_gate(gate, q, q, q + 1, dst);
+}
+
+// A one-qubit gate on its qubit.
+pub fn on_qubit(gate: u8, q: usize, dst: &mut [u8]) -> Outcome
+    ensures { λ r. ⌜ Written (onQubitAnswer gate q (length (now (dst .entry)))) (oneQubitRecord gate q) (now (dst .entry)) (now (dst .exit)) r ⌝ }
+{
+    let g = gate as usize;
+    let answer = on_qubit_answer(g, q, dst.len());
+    if let Outcome::Done = answer {
+        write_on_qubit(g, q, dst);
+    }
+    answer
+}
+
+// ---- the 24 products
+
+fn write_product(index: usize, q: usize, dst: &mut [u8])
+    requires { ⌜ OneFits index q (now dst) ⌝ }
+    ensures { λ _. ⌜ now (dst .exit) ≡ written Done (productRecord index q) (now (dst .entry)) ⌝ }
+{
+    write_on_qubit(product_number(index), q, dst);
+}
+
+// One of the 24 products of H and SZ, by its index.
+pub fn single_qubit_clifford(index: usize, qubit: usize, dst: &mut [u8]) -> Outcome
+    ensures { λ r. ⌜ Written (onQubitAnswer index qubit (length (now (dst .entry)))) (productRecord index qubit) (now (dst .entry)) (now (dst .exit)) r ⌝ }
+{
+    let answer = on_qubit_answer(index, qubit, dst.len());
+    if let Outcome::Done = answer {
+        write_product(index, qubit, dst);
+    }
+    answer
+}
+
+// ---- names
+
+// The number of the gate that a tableau is, or 24.
+fn name_of(t: &[u8]) -> usize
+    requires { ⌜ FormedTableau (now t) ⌝ }
+    ensures { λ r. ⌜ NameIs (recordName (now (t .entry))) r ⌝ }
+{
+    if width(t) != 1 {
+        return 24;
+    }
+    let x = PhasedLetter(row_phase(t, 0), letter_in_row(t, 0, 0));
+    let z = PhasedLetter(row_phase(t, 1), letter_in_row(t, 1, 0));
+    first_gate(signed_images(x, z))
+}
+
+fn named(n: usize) -> GateAnswer
+    ensures { λ r. ⌜ r ≡ nameAnswer Done n ⌝ }
+{
+    if n < 24 {
+        return GateAnswer::Named(n as u8);
+    }
+    GateAnswer::Unnamed
+}
+
+// The first of the 24 gates, by number, whose images a tableau has.
+pub fn from_clifford_rep(t: &[u8]) -> GateAnswer
+    ensures { λ r. ⌜ NameAnswered (tableauQuestions (now (t .entry))) (recordName (now (t .entry))) r ⌝ }
+{
+    let answer = check_tableau(t);
+    match answer {
+        Outcome::Done => named(name_of(t)),
+        Outcome::Refused(why) => GateAnswer::NoGate(why),
+    }
+}
+
+// ---- products and inverses by number
+
+fn check_gates(g: usize, h: usize) -> Outcome
+    ensures { λ r. ⌜ r ≡ composeGateQuestions g h ⌝ }
+{
+    let first = check_gate(24, g);
+    if let Outcome::Done = first {
+        return check_gate(24, h);
+    }
+    first
+}
+
+// The number of the gate that g after h is.
+fn composed(g: usize, h: usize) -> usize
+    requires { ⌜ BothSmall g h ⌝ }
+    ensures { λ r. ⌜ NameIs (composeGate g h) r ⌝ }
+{
+    let x = sent_image(g, letter_image(h, 1));
+    let z = sent_image(g, letter_image(h, 2));
+    first_gate(signed_images(x, z))
+}
+
+// g composed with h: h acts first.
+pub fn compose(g: u8, h: u8) -> GateAnswer
+    ensures { λ r. ⌜ GateAnswered (composeGateQuestions g h) (composeGate g h) r ⌝ }
+{
+    let answer = check_gates(g as usize, h as usize);
+    match answer {
+        Outcome::Done => GateAnswer::Named(composed(g as usize, h as usize) as u8),
+        Outcome::Refused(why) => GateAnswer::NoGate(why),
+    }
+}
+
+// The inverse of a gate.
+pub fn inverse(g: u8) -> GateAnswer
+    ensures { λ r. ⌜ GateAnswered (gateQuestion 38 g) (inverseGate g) r ⌝ }
+{
+    let answer = check_gate(38, g as usize);
+    match answer {
+        Outcome::Done => GateAnswer::Named(inverse_number(g as usize)),
+        Outcome::Refused(why) => GateAnswer::NoGate(why),
+    }
 }

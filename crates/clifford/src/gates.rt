@@ -4,20 +4,22 @@ ghost use mathlib.Core.Path.{_≡_};
 ghost use mathlib.Core.Bool.{cond};
 ghost use Prim.Native.Nat.{_<_};
 ghost use lib.Dec.{eqb};
+ghost use lib.ListN.{getD};
 ghost use Rattle.clifford_group.specs.Tableau.{rowImage};
 ghost use Rattle.clifford_gates.specs.GateTableaux.{imageString};
-ghost use Rattle.clifford_gates.specs.GateNumbers.{oneQubitGate, twoQubitGate, gateTableau};
-ghost use Rattle.clifford_gates.specs.Updates.{letterImage};
+ghost use Rattle.clifford_gates.specs.GateNumbers.{oneQubitGate, twoQubitGate, gateTableau, productGates, inverseNumbers};
+ghost use Rattle.clifford_gates.specs.Updates.{letterImage, sentImage};
 ghost use Rattle.pauli.specs.declared.refusal.Outcome.the-variants.{Done};
 ghost use Rattle.pauli.specs.Answers.{written};
 ghost use Rattle.pauli.specs.Layout.{letterOf, encodeString};
 ghost use Rattle.clifford.specs.Layout.{rowOf, tableauRecord};
 ghost use Rattle.clifford.specs.Rows.{rowWritten, lettersIn};
 ghost use Rattle.clifford.specs.GateQuestions.{gateWidth};
-ghost use Rattle.clifford.specs.GateRows.{imageBytes, pairBytes, yBytes, ImageOf, TakesTwo, generatorImage, PairOf, OneRow, pairOn, ImageAsked, RowImageOf, rowImageString, PutsImage, WritesGate, WritesGateRow, WritesGateBy};
+ghost use Rattle.clifford.specs.GateRows.{imageBytes, pairBytes, yBytes, imageHeld, minusByte, signedBytes, sameEntry, firstEntry, NameIs, ImageOf, TakesTwo, generatorImage, PairOf, OneRow, pairOn, ImageAsked, RowImageOf, rowImageString, PutsImage, WritesGate, WritesGateRow, WritesGateBy};
 use crate::layout::row_letter;
 use crate::layout::row_offset;
 use crate::layout::row_qubit;
+use crate::layout::wide;
 use crate::layout::write_row;
 use crate::sending::clear_row;
 use crate::sending::multiply_letter;
@@ -69,6 +71,76 @@ const IMAGES_2Q: [[u8; 12]; 14] = [
     [1, 2, 3, 1, 3, 2, 0, 0, 2, 0, 2, 0], // 35: ISWAPdg
     [0, 0, 1, 0, 1, 0, 0, 1, 2, 0, 2, 1], // 36: G
     [0, 0, 1, 0, 1, 0, 0, 1, 2, 0, 2, 1], // 37: Gdg
+];
+
+// The gates that the 24 products of H and SZ are, by index.
+const PRODUCTS: [u8; 24] = [
+    0,
+    1,
+    2,
+    3,
+    14,
+    15,
+    4,
+    17,
+    23,
+    13,
+    12,
+    22,
+    11,
+    10,
+    16,
+    20,
+    18,
+    9,
+    5,
+    8,
+    7,
+    21,
+    19,
+    6,
+];
+
+// The inverse of each gate.
+const INVERSES: [u8; 38] = [
+    0,
+    1,
+    2,
+    3,
+    4,
+    5,
+    6,
+    7,
+    8,
+    9,
+    11,
+    10,
+    13,
+    12,
+    15,
+    14,
+    17,
+    16,
+    19,
+    18,
+    21,
+    20,
+    23,
+    22,
+    24,
+    25,
+    26,
+    27,
+    29,
+    28,
+    31,
+    30,
+    33,
+    32,
+    35,
+    34,
+    37,
+    36,
 ];
 
 // A sign, and a letter on each of two qubits.
@@ -146,6 +218,78 @@ fn second_image(gate: usize, letter: u8) -> PairBytes
         return PairBytes(e[3], e[4], e[5]);
     }
     PairBytes(e[9], e[10], e[11])
+}
+
+// ---- gates found by their images
+
+// What a one-qubit gate makes of an image.
+pub(crate) fn sent_image(gate: usize, image: PhasedLetter) -> PhasedLetter
+    requires { ⌜ gate < 24 ⌝ }
+    ensures { λ r. ⌜ ImageOf (sentImage (oneQubitGate gate) (imageHeld image)) r ⌝ }
+{
+    let i = letter_image(gate, image.1);
+    PhasedLetter(phase_times(image.0, i.0), i.1)
+}
+
+// 1 for the phase -1; any other counts as plus.
+fn sign_of(phase: u8) -> u8
+    ensures { λ r. ⌜ r ≡ minusByte phase ⌝ }
+{
+    if phase == 1 { 1 } else { 0 }
+}
+
+// The images of X and of Z, as in the table.
+pub(crate) fn signed_images(x: PhasedLetter, z: PhasedLetter) -> [u8; 4]
+    ensures { λ r. ⌜ r ≡ signedBytes x z ⌝ }
+{
+    [sign_of(x.0), x.1, sign_of(z.0), z.1]
+}
+
+fn same_images(a: [u8; 4], b: [u8; 4]) -> bool
+    ensures { λ r. ⌜ r ≡ sameEntry a b ⌝ }
+{
+    if a[0] != b[0] {
+        return false;
+    }
+    if a[1] != b[1] {
+        return false;
+    }
+    if a[2] != b[2] {
+        return false;
+    }
+    a[3] == b[3]
+}
+
+// The first gate, by number, whose images are these, or 24.
+pub(crate) fn first_gate(images: [u8; 4]) -> usize
+    ensures { λ r. ⌜ NameIs (firstEntry images) r ⌝ }
+{
+    let mut gate = 0;
+    let found = loop {
+        if 24 <= gate {
+            break gate;
+        }
+        if same_images(images_1q(gate), images) {
+            break gate;
+        }
+        gate += 1;
+    };
+    found
+}
+
+// The gate that a product of H and SZ is.
+pub(crate) fn product_number(index: usize) -> usize
+    requires { ⌜ index < 24 ⌝ }
+    ensures { λ r. ⌜ r ≡ getD productGates index 0 ⌝ }
+{
+    wide(PRODUCTS[index])
+}
+
+pub(crate) fn inverse_number(gate: usize) -> u8
+    requires { ⌜ gate < 38 ⌝ }
+    ensures { λ r. ⌜ r ≡ getD inverseNumbers gate 0 ⌝ }
+{
+    INVERSES[gate]
 }
 
 // ---- rows

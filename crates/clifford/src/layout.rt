@@ -7,7 +7,7 @@ ghost use Rattle.clifford.specs.Rows.{Sized, RowIndex, OwnRow, OwnLetter
 use pauli::rows::copy;
 use pauli::rows::multiply_row;
 
-fn wide(x: u8) -> usize
+pub(crate) fn wide(x: u8) -> usize
     ensures { λ r. ⌜ r ≡ x ⌝ }
 {
     x as usize

@@ -1,0 +1,13 @@
+-- `clifford::write_on_qubit` meets its contract.
+use Rattle.clifford.proofs.GateAnswers.{one-qubit-answers}
+use Rattle.clifford.proofs.clifford.write_on_qubit.Statement.{statement}
+use Rattle.clifford.proofs.clifford.write_on_qubit.Tie as tie
+
+pub write-on-qubit-spec : {M : Type 1} → statement M
+write-on-qubit-spec =
+    tie.close
+    (tie.spec
+    (λ c. search one-qubit-answers)
+    (λ c κs. search one-qubit-answers)
+    (λ c. search one-qubit-answers)
+    (λ c. search one-qubit-answers))
