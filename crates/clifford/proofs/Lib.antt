@@ -22,3 +22,4 @@ pub mod GateWriting
 pub mod GateAsking
 pub mod GateNaming
 pub mod GateAnswers
+pub mod Readings

@@ -15,11 +15,11 @@ is-true true t = refl
 is-true false t = absurd t
 
 -- a test of all entries, and what it says of each
-abbrev all-test : {A : Type 0} → (A → Bool) → List A → Bool
+abbrev pub all-test : {A : Type 0} → (A → Bool) → List A → Bool
 all-test test [] = true
 all-test test (a ∷ rest) = test a && all-test test rest
 
-all-of : {A : Type 0} {P : A → Type 0} (test : A → Bool) → ((a : A) → T (test a) → P a) → (l : List A) → T (all-test test l) → All P l
+pub all-of : {A : Type 0} {P : A → Type 0} (test : A → Bool) → ((a : A) → T (test a) → P a) → (l : List A) → T (all-test test l) → All P l
 all-of test sound [] t = All.none
 all-of test sound (a ∷ rest) t =
     let parts = both (test a) (all-test test rest) t in

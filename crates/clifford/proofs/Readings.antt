@@ -1,0 +1,45 @@
+-- The readings with a star, by one computed test over their list.
+use mathlib.Core.Path.{_≡_, refl, ap₂}
+use mathlib.Core.Bool.{Bool, true, false, _&&_}
+use mathlib.Core.List.{List, [], _∷_}
+use Prim.Native.Nat.{ℕ}
+use lib.Dec.{T, eqb, eqb→eq}
+use Rattle.pauli_group.proofs.PaperForms.{both}
+use Rattle.clifford_gates.specs.Gates.{All}
+use Rattle.clifford_gates.proofs.GateTables.{all-of}
+use Rattle.pauli_group.specs.Phase.{negate, turn, _·_, conjugate, isReal, sign}
+use Rattle.pauli_group.specs.Letter.{letterProduct, letterPhase, letterMul, anticommute}
+use Rattle.pauli_group.specs.PauliString.{qubits, productTo, countTo, phaseOfLetters, mul, identityString, scale, single, anticommutingPlaces, commute, commutationSign}
+use Rattle.clifford_group.specs.Tableau.{letterOf as letterFrom, rowImage, imageOf, applyTo, apply, widen, compose, allTo, validQubit, validPair, isValid, hasX, hasZ, transposed, inverseRow, inverse}
+use Rattle.clifford_gates.specs.Gates.{oneQubitGates, twoQubitGates}
+use Rattle.clifford_gates.specs.GateTableaux.{imageString, gateOnEach, onQubit, pairString, pairRow, onQubits}
+use Rattle.clifford_gates.specs.GateNumbers.{oneQubitGate, twoQubitGate, gateTableau, sameBit, sameLetter, isMinus, matchesImage, matches, firstWith, nameOf, composeGate}
+use Rattle.pauli.specs.Places.{listed}
+use Rattle.pauli.specs.Layout.{phaseByte, letterByte, phaseOf, letterOf, encodeString, decodeString, stringRecord, stringOf}
+use Rattle.pauli.specs.Rows.{productPhaseByte, productLetterByte, phaseBytesProduct}
+use Rattle.clifford.specs.Layout.{rowLength, encodeRow, decodeRow, rowOffset, rowOf, joined, tableauRecord, rowPart, tableauOf}
+use Rattle.clifford.specs.Tableaux.{recordValid, applyRecord, inverseRecord}
+use Rattle.clifford.specs.GateAnswers.{gateRecord, recordName}
+use Rattle.clifford.specs.Readings.{Reading, readings, answered, stringBytes}
+
+abbrev same-bytes : List ℕ → List ℕ → Bool
+same-bytes [] [] = true
+same-bytes [] (y ∷ ys) = false
+same-bytes (x ∷ xs) [] = false
+same-bytes (x ∷ xs) (y ∷ ys) = eqb x y && same-bytes xs ys
+
+same-is : (xs ys : List ℕ) → T (same-bytes xs ys) → xs ≡ ys
+same-is [] [] t = refl
+same-is [] (y ∷ ys) t = absurd t
+same-is (x ∷ xs) [] t = absurd t
+same-is (x ∷ xs) (y ∷ ys) t = let parts = both (eqb x y) (same-bytes xs ys) t in ap₂ _∷_ (eqb→eq x y (parts .0)) (same-is xs ys (parts .1))
+
+abbrev test : Reading → Bool
+test r = same-bytes (answered (r .asked)) (r .answer)
+
+holds : (r : Reading) → T (test r) → answered (r .asked) ≡ r .answer
+holds r t = same-is (answered (r .asked)) (r .answer) t
+
+pub readings-hold : All (λ r. answered (r .asked) ≡ r .answer) readings
+unfolding readings answered negate turn _·_ conjugate isReal sign letterProduct letterPhase letterMul anticommute qubits productTo countTo phaseOfLetters mul identityString scale single anticommutingPlaces commute commutationSign rowImage imageOf applyTo apply widen compose allTo validQubit validPair isValid hasX hasZ transposed inverseRow inverse letterFrom stringBytes oneQubitGates twoQubitGates imageString gateOnEach onQubit pairString pairRow onQubits oneQubitGate twoQubitGate gateTableau sameBit sameLetter isMinus matchesImage matches firstWith nameOf composeGate listed phaseByte letterByte phaseOf letterOf encodeString decodeString stringRecord stringOf productPhaseByte productLetterByte phaseBytesProduct rowLength encodeRow decodeRow rowOffset rowOf joined tableauRecord rowPart tableauOf recordValid applyRecord inverseRecord gateRecord recordName
+readings-hold = all-of test holds readings tt

@@ -1,0 +1,55 @@
+-- The readings on the bench that the scope document marks with a star: what is asked, and what is answered, in bytes.
+use Prim.Native.Nat.{ℕ, _-_}
+use mathlib.Core.Path.{_≡_}
+use mathlib.Core.List.{List, [], _∷_, _++_}
+use lib.ListN.{length, replicate}
+use Rattle.pauli.specs.Answers.{oneOrZero}
+use Rattle.pauli.specs.Rows.{phaseBytesProduct, productPhaseByte, productLetterByte}
+use Rattle.clifford_gates.specs.GateNumbers.{composeGate}
+use Rattle.clifford.specs.Tableaux.{recordValid, applyRecord, inverseRecord}
+use Rattle.clifford.specs.GateAnswers.{gateRecord, recordName}
+
+pub data Asked : Type 0 where
+  phaseProduct : ℕ → ℕ → Asked
+  letterProduct : ℕ → ℕ → Asked
+  applied : List ℕ → List ℕ → Asked
+  inverted : List ℕ → Asked
+  gateComposed : ℕ → ℕ → Asked
+  valid : List ℕ → Asked
+  named : List ℕ → Asked
+
+-- by the definitions that the contracts cite
+unfoldable pub answered : Asked → List ℕ
+answered (phaseProduct a b) = phaseBytesProduct a b ∷ []
+answered (letterProduct a b) = productPhaseByte a b ∷ productLetterByte a b ∷ []
+answered (applied t s) = applyRecord t s
+answered (inverted t) = inverseRecord t
+answered (gateComposed g h) = composeGate g h ∷ []
+answered (valid t) = oneOrZero (recordValid t) ∷ []
+answered (named t) = recordName t ∷ []
+
+-- a string record by its phase and its first letters
+unfoldable pub stringBytes : ℕ → List ℕ → List ℕ
+stringBytes p ls = p ∷ (ls ++ replicate (128 - length ls) 0)
+
+pub record Reading : Type 0 where
+  pub asked : Asked
+  pub answer : List ℕ
+
+abbrev pub reading : Asked → List ℕ → Reading
+reading q a = record { asked = q; answer = a }
+
+unfoldable pub readings : List Reading
+readings =
+    reading (phaseProduct 2 2) (1 ∷ []) ∷  -- i·i = −1
+    reading (letterProduct 1 2) (3 ∷ 3 ∷ []) ∷  -- X·Z = −iY
+    reading (applied (gateRecord 4 0 0) (stringBytes 0 (3 ∷ []))) (stringBytes 1 (3 ∷ [])) ∷  -- `h` on Y0: −Y0
+    reading (applied (gateRecord 24 0 1) (stringBytes 0 (1 ∷ 2 ∷ []))) (stringBytes 1 (3 ∷ 3 ∷ [])) ∷  -- `cx(0,1)` on X0 Z1: −Y0 Y1
+    reading (inverted (gateRecord 14 0 0)) (1 ∷ 1 ∷ 3 ∷ 0 ∷ 2 ∷ []) ∷  -- inverse of `sz`: X to −Y, Z to Z
+    reading (gateComposed 14 4) (17 ∷ []) ∷  -- `compose(sz,h)`: Fdg
+    reading (gateComposed 4 14) (23 ∷ []) ∷  -- `compose(h,sz)`: F4dg
+    reading (valid (0 ∷ [])) (1 ∷ []) ∷  -- width 0 is valid
+    reading (valid (1 ∷ 0 ∷ 1 ∷ 0 ∷ 1 ∷ [])) (0 ∷ []) ∷  -- X to X, Z to X is not
+    reading (valid (1 ∷ 2 ∷ 1 ∷ 0 ∷ 2 ∷ [])) (0 ∷ []) ∷  -- X to +iX, Z to Z is not valid
+    reading (named (1 ∷ 2 ∷ 1 ∷ 0 ∷ 2 ∷ [])) (0 ∷ []) ∷  -- yet named I
+    []
