@@ -61,14 +61,14 @@ second-asked : (g q r : ℕ) → 24 ≤ g → secondQuestions g q r ≡ (qubitQu
 unfolding secondQuestions
 second-asked g q r h = ap (λ b. cond b Done (qubitQuestion r andThen differentQuestion q r)) (le-ltb g 24 h)
 
-pub second-free : {g : ℕ} (q r : ℕ) → g < 24 → Done ≡ secondQuestions g q r
-second-free {g} q r h = sym (second-passed g q r h)
+pub second-free : {g : ℕ} (q r : ℕ) → g ≤ 23 → Done ≡ secondQuestions g q r
+second-free {g} q r h = sym (second-passed g q r (omega arith))
 
-pub second-high : {g : ℕ} (q r : ℕ) {a : Outcome} {x : Refusal} → 24 ≤ g → a ≡ qubitQuestion r → a ≡ Refused x → a ≡ secondQuestions g q r
-second-high {g} q r h e f = refused (differentQuestion q r) e f ∙ sym (second-asked g q r h)
+pub second-high : {g : ℕ} (q r : ℕ) {a : Outcome} {x : Refusal} → 23 < g → a ≡ qubitQuestion r → a ≡ Refused x → a ≡ secondQuestions g q r
+second-high {g} q r h e f = refused (differentQuestion q r) e f ∙ sym (second-asked g q r (omega arith))
 
-pub second-other : {g : ℕ} (q r : ℕ) {a b : Outcome} → 24 ≤ g → a ≡ qubitQuestion r → a ≡ Done → b ≡ differentQuestion q r → b ≡ secondQuestions g q r
-second-other {g} q r h e f d = passed e f d ∙ sym (second-asked g q r h)
+pub second-other : {g : ℕ} (q r : ℕ) {a b : Outcome} → 23 < g → a ≡ qubitQuestion r → a ≡ Done → b ≡ differentQuestion q r → b ≡ secondQuestions g q r
+second-other {g} q r h e f d = passed e f d ∙ sym (second-asked g q r (omega arith))
 
 -- ---- a gate and its qubits
 pub gate-refused : (g q r : ℕ) {a : Outcome} {x : Refusal} → a ≡ gateQuestion 38 g → a ≡ Refused x → a ≡ onQubitsQuestions g q r

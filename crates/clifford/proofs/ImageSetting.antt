@@ -138,14 +138,10 @@ module _ (t : List ℕ) (slot : ℕ) (s : List ℕ) {r : Outcome} (p : r ≡ app
         let both : tableauQuestions t andThen stringQuestions s ≡ Done = sym p ∙ h in
         record { string = string-formed s (done-second (tableauQuestions t) _ both); narrow = omega (arith, tableau-formed t (done-first _ _ both) .narrow) }
 
-    module _ {q : Outcome} (pq : q ≡ insideQuestion n (stringOf s)) where
-      pub set-second : {x : Refusal} → q ≡ Refused x → q ≡ setQuestions t slot s
-      unfolding setQuestions
-      set-second k = passed p h (refused _ (pq ∙ ap (λ (j : ℕ). insideQuestion j (stringOf s)) en) k)
-
-      pub set-third : {z : Outcome} → q ≡ Done → z ≡ slotQuestion slot n → z ≡ setQuestions t slot s
-      unfolding setQuestions
-      set-third k e = passed p h (passed (pq ∙ ap (λ (j : ℕ). insideQuestion j (stringOf s)) en) k (e ∙ ap (slotQuestion slot) en))
+    pub set-then : {q z a : Outcome} → q ≡ insideQuestion n (stringOf s) → z ≡ slotQuestion slot n → a ≡ (q andThen z) → a ≡ setQuestions t slot s
+    unfolding setQuestions
+    set-then pq pz e =
+        passed p h (e ∙ ap₂ _andThen_ (pq ∙ ap (λ (j : ℕ). insideQuestion j (stringOf s)) en) (pz ∙ ap (slotQuestion slot) en))
 
 pub sets : {t : List ℕ} {slot : ℕ} {s : List ℕ} {r : Outcome} → r ≡ setQuestions t slot s → r ≡ Done → Sets t slot s
 unfolding setQuestions applyQuestions
@@ -326,6 +322,6 @@ set-fits t slot s p h e = let o : Sets t slot s = sets p h in record { fits = om
 
 pub ruleset insides = (inside-no, inside-yes, needs)
 
-pub ruleset image-questions = (set-first, set-beside, set-second, set-third, needs)
+pub ruleset image-questions = (set-first, set-beside, set-then, needs)
 
 pub ruleset image-setting = (sets, set-x-row, set-z-row, set-fits, set-length, x-written, z-written, answers, needs)

@@ -78,7 +78,7 @@ fn check_different(q: usize, r: usize) -> Outcome
 fn check_second(gate: usize, q: usize, r: usize) -> Outcome
     ensures { λ o. ⌜ o ≡ secondQuestions gate q r ⌝ }
 {
-    if gate < 24 {
+    if gate <= 23 {
         return Outcome::Done;
     }
     let first = check_qubit(r);

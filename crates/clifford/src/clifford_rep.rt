@@ -31,6 +31,7 @@ use crate::signing::write_signs;
 use crate::support::support_count;
 use crate::support::write_support;
 use crate::validity::valid_rows;
+use pauli::questions::and_then;
 use pauli::questions::check_room;
 use pauli::questions::check_string;
 use pauli::refusal::CountAnswer;
@@ -99,11 +100,9 @@ fn set_answer(t: &[u8], slot: usize, s: &[u8]) -> Outcome
         return first;
     };
     let n = width(t);
-    let second = check_inside(s, n);
-    let Outcome::Done = second else {
-        return second;
-    };
-    check_slot(slot, n)
+    let inside = check_inside(s, n);
+    let in_slot = check_slot(slot, n);
+    and_then(inside, in_slot)
 }
 
 // The image of X on this qubit, replaced by the string s.

@@ -42,6 +42,12 @@ pub passed : {r q y z : Outcome} → r ≡ q → r ≡ Done → z ≡ y → z �
 unfolding _andThen_
 passed {r} {q} {y} p h e = e ∙ ap (λ x. x andThen y) (sym h ∙ p)
 
+pub then-second : {a : Outcome} (b : Outcome) → a ≡ Done → b ≡ a andThen b
+then-second b e = passed refl e refl
+
+pub then-first : {a : Outcome} {x : Refusal} (b : Outcome) → a ≡ Refused x → a ≡ a andThen b
+then-first b e = refused b refl e
+
 pub done-first : (q y : Outcome) → q andThen y ≡ Done → q ≡ Done
 unfolding _andThen_
 done-first Done y e = refl

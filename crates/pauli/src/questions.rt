@@ -1,8 +1,18 @@
 // The questions on entry that every layer puts. Each answers Done, or the refusal.
 ghost use mathlib.Core.Path.{_≡_};
-ghost use Rattle.pauli.specs.Questions.{byteQuestion, pairQuestions, stringQuestions, stringsQuestions, qubitQuestion, roomQuestion};
+ghost use Rattle.pauli.specs.Questions.{byteQuestion, pairQuestions, stringQuestions, stringsQuestions, qubitQuestion, roomQuestion, _andThen_};
 use crate::refusal::Outcome;
 use crate::refusal::Refusal;
+
+// The second answer where the first question lets by.
+pub fn and_then(first: Outcome, second: Outcome) -> Outcome
+    ensures { λ r. ⌜ r ≡ (first andThen second) ⌝ }
+{
+    if let Outcome::Done = first {
+        return second;
+    }
+    first
+}
 
 // A phase or a letter given by itself.
 pub fn check_byte(b: u8) -> Outcome

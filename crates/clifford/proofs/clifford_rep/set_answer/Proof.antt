@@ -7,6 +7,12 @@ pub set-answer-spec : {M : Type 1} → statement M
 set-answer-spec =
     tie.close
     (tie.spec
-    (λ c. search image-questions) (λ c. search image-questions) (λ c. search image-questions) (λ c. search image-questions)
-    (λ c. search image-questions) (λ c. search image-questions) (λ c. search image-questions) (λ c. search image-questions)
-    (λ c. search image-questions) (λ c. search image-questions) (λ c. search image-questions))
+    (λ c κs. search image-questions)
+    (λ c. search image-questions)
+    (λ c. search image-questions)
+    (λ c. search image-questions)
+    (λ c κs. search image-questions)
+    (λ c κs. search image-questions)
+    (λ c κs. search image-questions)
+    (λ c κs. search image-questions)
+    (λ c. search image-questions))
