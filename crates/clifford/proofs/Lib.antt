@@ -4,6 +4,7 @@ pub mod TableauRecords
 pub mod TableauAsking
 pub mod WorkRows
 pub mod Sendings
+pub mod RowBytes
 pub mod RecordWriting
 pub mod InverseRows
 pub mod TableauAnswers
@@ -19,3 +20,4 @@ pub mod WayBackSteps
 pub mod Displays
 pub mod GateImages
 pub mod GateWriting
+pub mod PlayedRows
