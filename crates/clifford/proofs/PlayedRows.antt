@@ -56,7 +56,7 @@ table-reads g h a b =
     (letters .each (λ a. letters .all (reads g a)) (subst T (sym (all-each 38 (λ g. letters .all (λ a. letters .all (reads g a))) refl g h)) tt) a) b)
 
 -- ---- one row
-pub capped-letter : (x : ℕ) → min x 3 ≡ letterByte (letterOf x)
+capped-letter : (x : ℕ) → min x 3 ≡ letterByte (letterOf x)
 unfolding letterByte letterOf
 capped-letter zero = omega arith
 capped-letter (suc zero) = omega arith

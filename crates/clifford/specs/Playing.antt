@@ -34,6 +34,7 @@ unfoldable pub playable : ℕ → ℕ → ℕ → List ℕ → Bool
 playable g q s t =
     ltb g 38 && (ltb q (widthOf t) && (ltb s (widthOf t) && (leb (widthOf t) 128 && eqb (length t) (recordLength (widthOf t)))))
 
+-- the record after the gate; where the gate has no place in it, it stays
 unfoldable pub played : ℕ → ℕ → ℕ → List ℕ → List ℕ
 played g q r t =
     let s : ℕ = secondQubit g q r in
