@@ -13,3 +13,4 @@ pub mod GateQuestions
 pub mod GateRows
 pub mod GateAnswers
 pub mod Readings
+pub mod Playing
