@@ -13,10 +13,14 @@ use Rattle.pauli.specs.declared.refusal.Outcome.{Outcome}
 use Rattle.pauli.specs.declared.refusal.Outcome.the-variants.{Done, Refused}
 use Rattle.pauli.specs.Questions.{_andThen_}
 use Rattle.pauli.proofs.Asking.{passed, refused, done-first, done-second}
-use Rattle.clifford.specs.Answers.{partAnswer}
-use Rattle.clifford.specs.Layout.{rowLength, encodeRow, rowOf, widthOf, rowPart, tableauOf}
+use Rattle.clifford.specs.Answers.{partAnswer, CountAnswered}
+use Rattle.clifford.specs.Layout.{rowLength, rowOffset, encodeRow, rowOf, widthOf, rowPart, tableauOf}
+use Rattle.pauli.specs.declared.refusal.CountAnswer.{CountAnswer}
+use Rattle.pauli.specs.declared.refusal.CountAnswer.the-variants.{Count, NoCount}
+use Rattle.pauli.specs.Answers.{countAnswer, countReply, replyTo}
+use Rattle.pauli.proofs.Answers.{count-told}
 use Rattle.clifford.specs.Questions.{tableauQuestions, slotQuestion, imageQuestions}
-use Rattle.clifford.specs.Rows.{OwnRow}
+use Rattle.clifford.specs.Rows.{OwnRow, RowIndex, Sized}
 use Rattle.clifford.specs.Tableaux.{xImagePart, zImagePart}
 use Rattle.clifford.proofs.TableauRows.{row-there}
 use Rattle.clifford.proofs.TableauRecords.{row-x, row-z, row-part, part-formed, width-of}
@@ -88,6 +92,34 @@ module _ (t : List ℕ) (slot : ℕ) {r : Outcome} {x : Refusal} (p : r ≡ imag
 row-some : {t : List ℕ} {r : ℕ} → OwnRow t r → rowPart t r ≡ [] → ⊥
 unfolding rowLength
 row-some {t} {r} o e = let long = part-formed (o .tableau) r (o .own) .long in omega (arith, ap length e)
+
+-- ---- where it starts
+offset-answered : {q : Outcome} {n : ℕ} {r : CountAnswer} → r ≡ countAnswer q n → CountAnswered q n r
+offset-answered {q} {n} e = record { answer = e; told = ap countReply e ∙ count-told q n }
+
+module _ (t : List ℕ) (slot : ℕ) {r : Outcome} (p : r ≡ imageQuestions t slot) where
+  pub x-index : {n : ℕ} → r ≡ Done → n ≡ widthOf t → RowIndex n slot
+  x-index h e = record { narrow = omega (arith, e, own-x t slot p h .tableau .narrow); own = omega (arith, e, own-x t slot p h .own) }
+
+  pub z-index : {n : ℕ} → r ≡ Done → n ≡ widthOf t → RowIndex n (n + slot)
+  z-index {n} h e = record { narrow = omega (arith, e, own-z t slot p h e .tableau .narrow); own = omega (arith, e, own-z t slot p h e .own) }
+
+  at-offset : (k : ℕ) {at : ℕ} → r ≡ Done → at ≡ k → CountAnswered (imageQuestions t slot) k (Count at)
+  unfolding countAnswer
+  at-offset k h e = offset-answered (ap Count e ∙ ap (λ x. countAnswer x k) (sym h ∙ p))
+
+  pub x-offset : {n at : ℕ} → r ≡ Done → n ≡ widthOf t → Sized (rowOffset n slot) at → CountAnswered (imageQuestions t slot) (rowOffset (widthOf t) slot) (Count at)
+  x-offset h e s = at-offset _ h (s .is ∙ ap (λ (j : ℕ). rowOffset j slot) e)
+
+  pub z-offset : {n at : ℕ} → r ≡ Done → n ≡ widthOf t → Sized (rowOffset n (n + slot)) at
+      → CountAnswered (imageQuestions t slot) (rowOffset (widthOf t) (widthOf t + slot)) (Count at)
+  z-offset h e s = at-offset _ h (s .is ∙ ap (λ (j : ℕ). rowOffset j (j + slot)) e)
+
+  pub no-offset : {x : Refusal} (k : ℕ) → r ≡ Refused x → CountAnswered (imageQuestions t slot) k (NoCount x)
+  unfolding countAnswer
+  no-offset k h = offset-answered (ap (λ y. countAnswer y k) (sym h ∙ p))
+
+pub ruleset image-offsets = (x-index, z-index, image-fits, x-offset, z-offset, no-offset, needs)
 
 pub x-empty : (t : List ℕ) (slot : ℕ) → xImagePart t slot ≡ [] → imageQuestions t slot ≡ Done → ⊥
 x-empty t slot e h = row-some (own-x t slot refl h) (x-handed t slot refl h refl ∙ e)

@@ -1,10 +1,12 @@
 // Tableaux: their action on strings, their composition, their images. Ports clifford_rep.rs of PECOS, changed:
 // Copyright 2024 The PECOS Developers, Apache License, Version 2.0.
 ghost use mathlib.Core.Path.{_≡_};
-ghost use Prim.Native.Nat.{max};
+ghost use Prim.Native.Nat.{max, _+_};
 ghost use lib.ListN.{length};
 ghost use Rattle.pauli.specs.declared.refusal.Outcome.the-variants.{Done};
 ghost use Rattle.pauli.specs.Answers.{CountWritten, FlagAnswered, Written, written};
+ghost use Rattle.clifford.specs.Answers.{CountAnswered};
+ghost use Rattle.clifford.specs.Layout.{widthOf, rowOffset};
 ghost use Rattle.clifford.specs.Display.{nameText, textOfTableau, displayAnswer, startsWith};
 ghost use Rattle.clifford.specs.Questions.{tableauQuestions, imageQuestions, setQuestions, identityAnswer, applyQuestions, applyAnswer, composeAnswer, extendQuestions, extendAnswer, inverseAnswer, pauliAnswer, supportAnswer};
 ghost use Rattle.clifford.specs.Tableaux.{recordValid, xImagePart, zImagePart, setXRecord, setZRecord, identityRecord, applyRecord, composeRecord, extendRecord, inverseRecord, pauliRecord, supportBytes};
@@ -18,6 +20,7 @@ use crate::displaying::write_display;
 use crate::inverting::write_inverse;
 use crate::layout::record_length;
 use crate::layout::row;
+use crate::layout::row_offset;
 use crate::layout::width;
 use crate::questions::check_slot;
 use crate::questions::check_tableau;
@@ -90,6 +93,31 @@ pub fn z_image(t: &[u8], slot: usize) -> &[u8]
         return row(t, width(t) + slot);
     }
     &t[0..0]
+}
+
+// Where in the record the image of X on this qubit starts.
+pub fn x_image_offset(t: &[u8], slot: usize) -> CountAnswer
+    ensures { λ r. ⌜ CountAnswered (imageQuestions (now (t .entry)) slot) (rowOffset (widthOf (now (t .entry))) slot) r ⌝ }
+{
+    let answer = check_image(t, slot);
+    match answer {
+        Outcome::Done => CountAnswer::Count(row_offset(width(t), slot)),
+        Outcome::Refused(why) => CountAnswer::NoCount(why),
+    }
+}
+
+// Where in the record the image of Z on this qubit starts.
+pub fn z_image_offset(t: &[u8], slot: usize) -> CountAnswer
+    ensures { λ r. ⌜ CountAnswered (imageQuestions (now (t .entry)) slot) (rowOffset (widthOf (now (t .entry))) (widthOf (now (t .entry)) + slot)) r ⌝ }
+{
+    let answer = check_image(t, slot);
+    match answer {
+        Outcome::Done => {
+            let n = width(t);
+            CountAnswer::Count(row_offset(n, n + slot))
+        }
+        Outcome::Refused(why) => CountAnswer::NoCount(why),
+    }
 }
 
 fn set_answer(t: &[u8], slot: usize, s: &[u8]) -> Outcome

@@ -94,7 +94,7 @@ product-not {q} {r} out d p h = record {
   bytes = ap (λ x. written x out d) (sym h ∙ p);
 }
 
-count-told : (q : Outcome) (n : ℕ) → countReply (countAnswer q n) ≡ replyTo q n
+pub count-told : (q : Outcome) (n : ℕ) → countReply (countAnswer q n) ≡ replyTo q n
 unfolding countReply countAnswer replyTo
 count-told Done n = refl
 count-told (Refused r) n = refl

@@ -61,6 +61,7 @@ pub enum LetterAnswer {
 }
 
 // Number 0 and the answer's value, or a refusal's number and its detail.
+#[repr(C)]
 pub struct Reply {
     pub number: u64,
     pub value: u64,

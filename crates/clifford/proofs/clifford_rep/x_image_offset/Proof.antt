@@ -1,0 +1,16 @@
+-- `clifford_rep::x_image_offset` meets its contract.
+use Rattle.clifford.proofs.TableauImages.{image-offsets}
+use Rattle.clifford.proofs.clifford_rep.x_image_offset.Statement.{statement}
+use Rattle.clifford.proofs.clifford_rep.x_image_offset.Tie as tie
+
+pub x-image-offset-spec : {M : Type 1} → statement M
+x-image-offset-spec =
+    tie.close
+    (tie.spec
+    (λ c κs. search image-offsets)
+    (λ c. search image-offsets)
+    (λ c κs. search image-offsets)
+    (λ c κs. search image-offsets)
+    (λ c. search image-offsets)
+    (λ c. search image-offsets)
+    (λ c. search image-offsets))
