@@ -1,0 +1,4 @@
+pub mod Lists
+pub mod ListQuestions
+pub mod Runs
+pub mod Reports

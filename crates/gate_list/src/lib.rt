@@ -1,0 +1,1 @@
+// Gate lists: their format, their questions, and their run.
