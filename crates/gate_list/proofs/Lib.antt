@@ -1,0 +1,3 @@
+pub mod ListAsking
+pub mod Chains
+pub mod ListAdmitted

@@ -2,3 +2,4 @@ pub mod Lists
 pub mod ListQuestions
 pub mod Runs
 pub mod Reports
+pub mod Reading

@@ -1,0 +1,45 @@
+// Gate lists: what is asked of them.
+ghost use mathlib.Core.Path.{_≡_};
+ghost use Rattle.gate_list.specs.ListQuestions.{listQuestions};
+ghost use Rattle.gate_list.specs.Reading.{Blank, Unmarked, linksQuestion};
+use crate::chain::check_chain;
+use crate::questions::and_then;
+use crate::questions::check_head;
+use crate::questions::check_link;
+use crate::questions::check_size;
+use crate::reading::width;
+use clifford::questions::check_width;
+use pauli::refusal::Outcome;
+
+// The head's link, and then the chain.
+fn check_links(list: &[u8], met: &mut [u8]) -> Outcome
+    requires { ⌜ Unmarked (now list) (now met) ⌝ }
+    ensures { λ r. ⌜ r ≡ linksQuestion (now (list .entry)) ⌝ }
+{
+    let link = check_link(list, 0);
+    let Outcome::Done = link else {
+        return link;
+    };
+    check_chain(list, met)
+}
+
+// All questions in their order, with a mark for each record, none of them set.
+fn check_list_with(list: &[u8], met: &mut [u8]) -> Outcome
+    requires { ⌜ Blank (now met) ⌝ }
+    ensures { λ r. ⌜ r ≡ listQuestions (now (list .entry)) ⌝ }
+{
+    let size = check_size(list);
+    let Outcome::Done = size else {
+        return size;
+    };
+    let from_head = and_then(check_head(list), check_links(list, met));
+    and_then(check_width(width(list)), from_head)
+}
+
+// Whether a list can be run: Done, or the refusal.
+pub fn check_list(list: &[u8]) -> Outcome
+    ensures { λ r. ⌜ r ≡ listQuestions (now (list .entry)) ⌝ }
+{
+    let mut met = [0u8; 4096];
+    check_list_with(list, &mut met)
+}
