@@ -1,3 +1,4 @@
 pub mod ListAsking
 pub mod Chains
 pub mod ListAdmitted
+pub mod AdmittedChains

@@ -21,11 +21,11 @@ use Rattle.gate_list.specs.ListQuestions.{sizeQuestion, headQuestion, li
 use Rattle.gate_list.specs.Reading.{OwnRecord, ByteSized, Blank, Unmarked, Unmet, linksQuestion}
 
 -- ---- a list of records: at least the head, and at most 4,096
-and-first : (a b : Bool) → (a && b) ≡ true → a ≡ true
+pub and-first : (a b : Bool) → (a && b) ≡ true → a ≡ true
 and-first true b e = refl
 and-first false b e = e
 
-and-second : (a b : Bool) → (a && b) ≡ true → b ≡ true
+pub and-second : (a b : Bool) → (a && b) ≡ true → b ≡ true
 and-second true b e = e
 and-second false b e = cc
 

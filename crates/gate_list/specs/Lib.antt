@@ -3,3 +3,4 @@ pub mod ListQuestions
 pub mod Runs
 pub mod Reports
 pub mod Reading
+pub mod OrderedLists
