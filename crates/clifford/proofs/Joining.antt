@@ -19,11 +19,15 @@ pub joined-more : (k : ℕ) (f : ℕ → List ℕ) → joined (suc k) f ≡ join
 unfolding joined
 joined-more k f = refl
 
+pub length-below : (m : ℕ) (f : ℕ → List ℕ) (k : ℕ) → ((r : ℕ) → r < k → length (f r) ≡ m) → length (joined k f) ≡ k * m
+unfolding joined
+length-below m f zero each = sym (zero-mul m)
+length-below m f (suc k) each =
+    length-append (joined k f) (f k) ∙ ap₂ _+_ (length-below m f k (λ r l. each r (omega arith))) (each k (le-refl (suc k))) ∙ sym (suc-mul k m)
+
 module _ (m : ℕ) (f : ℕ → List ℕ) (each : (r : ℕ) → length (f r) ≡ m) where
   pub length-joined : (k : ℕ) → length (joined k f) ≡ k * m
-  unfolding joined
-  length-joined zero = sym (zero-mul m)
-  length-joined (suc k) = length-append (joined k f) (f k) ∙ ap₂ _+_ (length-joined k) (each k) ∙ sym (suc-mul k m)
+  length-joined k = length-below m f k (λ r l. each r)
 
   -- the part of each
   pub joined-part : (k r : ℕ) → r < k → take m (drop (r * m) (joined k f)) ≡ f r

@@ -4,6 +4,8 @@ pub mod TableauRecords
 pub mod TableauAsking
 pub mod WorkRows
 pub mod Sendings
+pub mod RowBytes
+pub mod PlayedRows
 pub mod RecordWriting
 pub mod InverseRows
 pub mod TableauAnswers
@@ -16,6 +18,7 @@ pub mod Supports
 pub mod RecordLaws
 pub mod WayBacks
 pub mod WayBackSteps
+pub mod PlayedGates
 pub mod Displays
 pub mod GateImages
 pub mod GateWriting

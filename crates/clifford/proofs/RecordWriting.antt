@@ -1,182 +1,96 @@
 -- Records written row by row: what a loop over the rows has written before row r, and the rows of tableaux widened and composed.
 use mathlib.Core.Path.{_≡_, refl, sym, ap, ap₂, _∙_, subst}
 use mathlib.Core.Bool.{cond}
-use mathlib.Core.List.{List, [], _∷_, _++_, append-assoc, append-nil}
+use mathlib.Core.List.{List, _∷_, _++_}
 use Prim.Native.Nat.{ℕ, zero, suc, _+_, _*_, _-_, _≤_, _<_, max}
-use native.Mathlib.Nat.{not-suc-le-zero, zero-mul, mul-le-mul-right}
-use native.Mathlib.Numerals.{add-one}
+use native.Mathlib.Nat.{le-refl}
 use native.Mathlib.Omega.{arith}
 use native.Mathlib.Decide.{decLt}
 use lib.Dec.{ltb}
-use lib.ListN.{length, getD, set, take, drop, replicate, length-set, length-append, length-drop, length-take, drop-of-length-le, take-append-drop}
-use lib.Seq.{take-at, drop-at, drop-drop, drop-set-lt}
+use lib.ListN.{length, set, take, drop, replicate, length-set, length-take}
+use lib.Seq.{drop-set-lt, getD-set-same}
 use borrow.Author.Needs.{needs}
 use borrow.Author.Tests.{lt-ltb, le-ltb}
 use borrow.Rule.Slice.PartMut.{putMid}
-use Rattle.pauli_group.specs.Letter.{Letter, I, X, Z}
+use Rattle.pauli_group.specs.Letter.{Letter, X, Z}
 use Rattle.pauli_group.specs.PauliString.{PauliString, qubits, Within}
-use Rattle.clifford_group.specs.Tableau.{Tableau, imageOf, apply, widen, compose, Proper}
-use Rattle.clifford_group.proofs.Rows.{Generator, ofX, ofZ}
+use Rattle.clifford_group.specs.Tableau.{Tableau, imageOf, apply, widen, compose}
+use Rattle.clifford_group.proofs.Rows.{ofX, ofZ}
 use Rattle.clifford_group.proofs.Images.{within-image}
 use Rattle.clifford_group.proofs.Apply.{within-apply}
 use Rattle.clifford_group.proofs.Compose.{row-compose, width-compose}
 use Rattle.pauli.specs.declared.refusal.Outcome.the-variants.{Done}
 use Rattle.pauli.specs.Answers.{written}
 use Rattle.pauli.specs.Layout.{letterByte, letterOf, encodeString, decodeString, WellFormed}
-use Rattle.pauli.proofs.Places.{from, from-is, length-from}
+use Rattle.pauli.proofs.Places.{from}
 use Rattle.pauli.proofs.Records.{letter-back, length-encode, encode-formed, decode-encode, decode-within}
 use Rattle.clifford.specs.Layout.{rowLength, encodeRow, rowOffset, recordLength, rowOf, joined, widthOf, tableauOf, tableauRecord, FormedTableau}
 use Rattle.clifford.specs.Rows.{Sized, RowIndex, Finished, Sends, SendsLetter, rowQubit, rowLetter, rowWritten, lettersIn, stringIn}
 use Rattle.clifford.specs.Writing.{SendsRow, Extends, ExtendsRow, ExtendsBy, Composes, ComposesRow, ComposesBy}
-use Rattle.clifford.proofs.Joining.{length-joined, joined-more}
 use Rattle.clifford.proofs.TableauRows.{length-row}
-use Rattle.clifford.proofs.TableauRecords.{row-x, row-z, row-room, record-small, proper-of, width-of, length-record}
+use Rattle.clifford.proofs.RowBytes.{BytesTo, some-bytes, bytes-none, bytes-room, bytes-start, bytes-index, bytes-more, bytes-kept, bytes-all, bytes-end}
+use Rattle.clifford.proofs.TableauRecords.{proper-of, width-of, length-record}
 
 -- ---- the rows before r stand in d, and then what stood in d₀
-abbrev rowsBefore : ℕ → (ℕ → PauliString) → ℕ → List ℕ
-rowsBefore w f r = w ∷ joined r (λ i. encodeRow w (f i))
-
 pub record RowsTo (w : ℕ) (f : ℕ → PauliString) (d₀ : List ℕ) (r : ℕ) (d : List ℕ) : Type 0 where
-  pub narrow : w ≤ 128
-  pub room : recordLength w ≤ length d₀
-  pub within : r ≤ 2 * w
-  pub long : length d ≡ length d₀
-  pub bytes : d ≡ rowsBefore w f r ++ drop (rowOffset w r) d₀
-
-length-before : (w : ℕ) (f : ℕ → PauliString) (r : ℕ) → length (rowsBefore w f r) ≡ rowOffset w r
-unfolding rowOffset
-length-before w f r =
-    ap suc (length-joined (rowLength w) (λ i. encodeRow w (f i)) (λ i. length-row w (f i)) r)
-    ∙ (let e : suc (r * rowLength w) ≡ 1 + r * rowLength w = omega arith in e)
+  pub rows : BytesTo w (λ i. encodeRow w (f i)) d₀ r d
 
 pub some-room : (w : ℕ) → 0 < recordLength w
-unfolding recordLength
-some-room w = omega arith
-
-first-offset : (w : ℕ) → rowOffset w 0 ≡ 1
-unfolding rowOffset
-first-offset w = omega (arith, zero-mul (rowLength w))
+some-room = some-bytes
 
 pub rows-none : (w : ℕ) (f : ℕ → PauliString) (d : List ℕ) → w ≤ 128 → recordLength w ≤ length d → RowsTo w f (set d 0 w) 0 (set d 0 w)
-unfolding joined
-rows-none w f [] n h = absurd (empty (some-room w) h)
-  where
-    empty : 0 < recordLength w → recordLength w ≤ 0 → ⊥
-    empty a b = omega arith
-rows-none w f (x ∷ d) n h = record {
-  narrow = n;
-  room = h;
-  within = omega arith;
-  long = refl;
-  bytes = ap (λ (j : ℕ). w ∷ drop j (w ∷ d)) (sym (first-offset w));
+rows-none w f d n h = record {
+  rows = bytes-none w (λ i. encodeRow w (f i)) (set d 0 w) n (omega (arith, length-set d 0 w)) (getD-set-same d 0 w 0 (omega (arith, some-room w))) (λ i l. length-row w (f i));
 }
-
-next-offset : (w r : ℕ) → rowOffset w r + rowLength w ≡ rowOffset w (suc r)
-unfolding rowOffset
-next-offset w r = omega arith
 
 pub rows-room : {w : ℕ} {f : ℕ → PauliString} {d₀ : List ℕ} {r : ℕ} (d : List ℕ) (at : ℕ) → RowsTo w f d₀ r d → r < 2 * w → Sized (rowOffset w r) at
     → rowLength w ≤ length (from at d)
-rows-room {w} {f} {d₀} {r} d at m h s = omega (arith, length-from at d, m .long, m .room, s .is, row-room w r h)
+rows-room d at m h s = bytes-room (m .rows) h s
 
 pub rows-start : {w : ℕ} {f : ℕ → PauliString} {d₀ : List ℕ} {r : ℕ} {d : List ℕ} {at : ℕ} → RowsTo w f d₀ r d → r < 2 * w → Sized (rowOffset w r) at → at ≤ length d
-rows-start {w} {f} {d₀} {r} m h s = omega (arith, m .long, m .room, s .is, row-room w r h)
+rows-start m h s = bytes-start (m .rows) h s
 
 pub rows-index : {w : ℕ} {f : ℕ → PauliString} {d₀ : List ℕ} {r : ℕ} {d : List ℕ} → RowsTo w f d₀ r d → r < 2 * w → RowIndex w r
-rows-index m h = record { narrow = m .narrow; own = h }
+rows-index m h = bytes-index (m .rows) h
 
 pub rows-length : {w : ℕ} {f : ℕ → PauliString} (d : List ℕ) {r : ℕ} {e : List ℕ} → RowsTo w f (set d 0 w) r e → length e ≡ length d
-rows-length {w} {f} d m = m .long ∙ length-set d 0 w
+rows-length {w} {f} d m = m .rows .long ∙ length-set d 0 w
 
 -- `&mut d[at..]` was lent, and came back with the row at its front
 pub rows-more : {w : ℕ} {f : ℕ → PauliString} {d₀ : List ℕ} {r : ℕ} {d : List ℕ} {at : ℕ} {ys : List ℕ} → RowsTo w f d₀ r d → r < 2 * w → Sized (rowOffset w r) at
     → ys ≡ rowWritten w (f r) (from at d) → RowsTo w f d₀ (r + 1) (putMid at (length d - at) d ys)
 unfolding rowWritten
-rows-more {w} {f} {d₀} {r} {d} {at} {ys} m h s k =
-    let head : List ℕ = rowsBefore w f r in
-    let row : List ℕ = encodeRow w (f r) in
-    let start : length head ≡ at = length-before w f r ∙ sym (s .is) in
-    let off : at ≡ rowOffset w r = s .is in
-    let whole : d ≡ head ++ drop at d₀ = m .bytes ∙ ap (λ (j : ℕ). head ++ drop j d₀) (sym (s .is)) in
-    let front : take at d ≡ head = ap (take at) whole ∙ take-at head (drop at d₀) at start in
-    let back : drop at d ≡ drop at d₀ = ap (drop at) whole ∙ drop-at head (drop at d₀) at start in
-    let rest : drop (length d - at) (drop at d) ≡ [] = drop-of-length-le (drop at d) {i = length d - at} (omega (arith, length-drop at d)) in
-    let after : drop (rowLength w) (from at d) ≡ drop (rowOffset w (r + 1)) d₀ =
-    ap (drop (rowLength w)) (from-is at d ∙ back) ∙ drop-drop (rowLength w) at d₀
-    ∙ ap (λ (j : ℕ). drop j d₀) (ap (λ (j : ℕ). j + rowLength w) off ∙ next-offset w r ∙ ap (rowOffset w) (sym (add-one r))) in
-    let made : putMid at (length d - at) d ys ≡ rowsBefore w f (r + 1) ++ drop (rowOffset w (r + 1)) d₀ =
-    ap₂ (λ (a : List ℕ) (b : List ℕ). a ++ (ys ++ b)) front rest
-    ∙ ap (λ (y : List ℕ). head ++ y) (append-nil ys ∙ k ∙ ap (λ (l : List ℕ). row ++ l) after)
-    ∙ sym (append-assoc head row (drop (rowOffset w (r + 1)) d₀))
-    ∙ ap (λ (l : List ℕ). (w ∷ l) ++ drop (rowOffset w (r + 1)) d₀)
-    (sym (joined-more r (λ i. encodeRow w (f i))) ∙ ap (λ (j : ℕ). joined j (λ i. encodeRow w (f i))) (sym (add-one r))) in
-    record {
-      narrow = m .narrow;
-      room = m .room;
-      within = omega arith;
-      long = ap length made ∙ length-append (rowsBefore w f (r + 1)) (drop (rowOffset w (r + 1)) d₀)
-          ∙ omega (arith, length-before w f (r + 1), length-drop (rowOffset w (r + 1)) d₀, m .room, row-room w r h, next-offset w r, ap (rowOffset w) (add-one r));
-      bytes = made;
-    }
-
-all-rows : (w : ℕ) → rowOffset w (2 * w) ≡ recordLength w
-unfolding rowOffset recordLength
-all-rows w = refl
+rows-more m h s k = record { rows = bytes-more (m .rows) h s k }
 
 pub rows-all : (t : Tableau) {w : ℕ} (d : List ℕ) {r : ℕ} {e : List ℕ} → t .width ≡ w → RowsTo w (rowOf t) (set d 0 w) r e → 2 * w ≤ r
     → e ≡ written Done (tableauRecord t) d
 unfolding written tableauRecord
 rows-all t {w} d {r} {e} et m h =
-    let end : r ≡ 2 * w = omega (arith, m .within) in
-    m .bytes ∙ ap (λ (j : ℕ). rowsBefore w (rowOf t) j ++ drop (rowOffset w j) (set d 0 w)) end
-    ∙ ap (λ (j : ℕ). rowsBefore w (rowOf t) (2 * w) ++ drop j (set d 0 w)) (all-rows w)
-    ∙ ap (λ (l : List ℕ). rowsBefore w (rowOf t) (2 * w) ++ l) (drop-set-lt (recordLength w) d 0 w (some-room w))
-    ∙ ap (λ (v : ℕ). rowsBefore v (rowOf t) (2 * v) ++ drop (recordLength v) d) (sym et)
+    let rows : ℕ → ℕ → List ℕ = λ v i. encodeRow v (rowOf t i) in
+    bytes-all (m .rows) h
+    ∙ ap (λ (l : List ℕ). (w ∷ joined (2 * w) (rows w)) ++ l) (drop-set-lt (recordLength w) d 0 w (some-room w))
+    ∙ ap (λ (v : ℕ). (v ∷ joined (2 * v) (rows v)) ++ drop (recordLength v) d) (sym et)
     ∙ ap (λ (j : ℕ). tableauRecord t ++ drop j d) (sym (length-record t))
 
 -- rows that d₀ holds already
-rows-kept : {w : ℕ} {f : ℕ → PauliString} {d₀ : List ℕ} {r : ℕ} {d : List ℕ} → RowsTo w f d₀ r d → r < 2 * w
-    → take (rowLength w) (drop (rowOffset w r) d₀) ≡ encodeRow w (f r) → RowsTo w f d₀ (suc r) d
-rows-kept {w} {f} {d₀} {r} {d} m h k =
-    let off = rowOffset w r in
-    let tail : drop off d₀ ≡ encodeRow w (f r) ++ drop (rowOffset w (suc r)) d₀ =
-    sym (take-append-drop (rowLength w) (drop off d₀)) ∙ ap₂ _++_ k (drop-drop (rowLength w) off d₀ ∙ ap (λ (j : ℕ). drop j d₀) (next-offset w r)) in
-    record {
-      narrow = m .narrow;
-      room = m .room;
-      within = omega arith;
-      long = m .long;
-      bytes = m .bytes ∙ ap (λ (l : List ℕ). rowsBefore w f r ++ l) tail ∙ sym (append-assoc (rowsBefore w f r) (encodeRow w (f r)) (drop (rowOffset w (suc r)) d₀))
-          ∙ ap (λ (l : List ℕ). (w ∷ l) ++ drop (rowOffset w (suc r)) d₀) (sym (joined-more r (λ i. encodeRow w (f i))));
-    }
-
 pub rows-kept-to : {w : ℕ} {f : ℕ → PauliString} {d₀ : List ℕ} {r : ℕ} {d : List ℕ} (k : ℕ) → RowsTo w f d₀ r d → r + k ≤ 2 * w
     → ((i : ℕ) → r ≤ i → i < r + k → take (rowLength w) (drop (rowOffset w i) d₀) ≡ encodeRow w (f i)) → RowsTo w f d₀ (r + k) d
 rows-kept-to {w} {f} {d₀} {r} {d} zero m h each = let e : r ≡ r + 0 = omega arith in subst (λ (j : ℕ). RowsTo w f d₀ j d) e m
 rows-kept-to {w} {f} {d₀} {r} {d} (suc k) m h each =
     let e : suc (r + k) ≡ r + suc k = omega arith in
-    subst (λ (j : ℕ). RowsTo w f d₀ j d) e
-    (rows-kept (rows-kept-to k m (omega arith) (λ i a b. each i a (omega arith))) (omega arith) (each (r + k) (omega arith) (omega arith)))
+    let before : RowsTo w f d₀ (r + k) d = rows-kept-to k m (omega arith) (λ i a b. each i a (omega arith)) in
+    subst (λ (j : ℕ). RowsTo w f d₀ j d) e (record { rows = bytes-kept (before .rows) (omega arith) (each (r + k) (omega arith) (omega arith)) })
 
 -- a record, with none of its rows looked at yet
 pub rows-own : {b : List ℕ} (f : ℕ → PauliString) → FormedTableau b → RowsTo (widthOf b) f b 0 b
 rows-own {b} f o = record {
-  narrow = o .narrow;
-  room = omega (arith, o .long);
-  within = omega arith;
-  long = refl;
-  bytes = first b (o .some) ∙ ap (λ (j : ℕ). (widthOf b ∷ joined 0 (λ i. encodeRow (widthOf b) (f i))) ++ drop j b) (sym (first-offset (widthOf b)));
+  rows = bytes-none (widthOf b) (λ i. encodeRow (widthOf b) (f i)) b (o .narrow) (omega (arith, o .long)) refl (λ i l. length-row (widthOf b) (f i));
 }
-  where
-    first : (b : List ℕ) → 0 < length b → b ≡ rowsBefore (widthOf b) f 0 ++ drop 1 b
-    first [] h = absurd (not-suc-le-zero h)
-    first (x ∷ b) h = unfold joined in refl
 
 pub rows-end : (t : Tableau) {w : ℕ} {d₀ : List ℕ} {e : List ℕ} → t .width ≡ w → length d₀ ≡ recordLength w → RowsTo w (rowOf t) d₀ (2 * w) e → e ≡ tableauRecord t
 unfolding tableauRecord
 rows-end t {w} {d₀} et long m =
-    m .bytes ∙ ap (λ (l : List ℕ). rowsBefore w (rowOf t) (2 * w) ++ l) (drop-of-length-le d₀ {i = rowOffset w (2 * w)} (omega (arith, all-rows w)))
-    ∙ append-nil (rowsBefore w (rowOf t) (2 * w)) ∙ ap (λ (v : ℕ). rowsBefore v (rowOf t) (2 * v)) (sym et)
+    bytes-end (m .rows) (le-refl (2 * w)) long ∙ ap (λ (v : ℕ). v ∷ joined (2 * v) (λ i. encodeRow v (rowOf t i))) (sym et)
 
 -- ---- the generator of row r, and rows that are made from generators
 pub letter-of-row : (w r : ℕ) {l : ℕ} → l ≡ letterByte (rowLetter w r) → letterOf l ≡ rowLetter w r

@@ -4,10 +4,12 @@ use mathlib.Core.Path.{_≡_}
 use mathlib.Core.Bool.{cond}
 use mathlib.Core.List.{List, [], _∷_, _++_}
 use lib.Dec.{ltb}
-use lib.ListN.{length, take, drop, getD}
-use Rattle.pauli_group.specs.Letter.{I}
+use lib.ListN.{length, take, drop, getD, set}
+use Rattle.pauli_group.specs.Phase.{_·_}
+use Rattle.pauli_group.specs.Letter.{Letter, I}
 use Rattle.pauli_group.specs.PauliString.{PauliString}
 use Rattle.clifford_group.specs.Tableau.{Tableau}
+use Rattle.clifford_gates.specs.Gates.{PairImage}
 use Rattle.pauli.specs.Places.{listed}
 use Rattle.pauli.specs.Layout.{phaseByte, phaseOf, letterByte, letterOf}
 
@@ -23,6 +25,20 @@ decodeRow w b = record {
   phase = phaseOf (getD b 0 0);
   letters = λ q. cond (ltb q w) (letterOf (getD b (suc q) 0)) I;
 }
+
+-- Of a row of any bytes, where one above 3 is read as 3: the letter on qubit q.
+unfoldable pub letterIn : List ℕ → ℕ → Letter
+letterIn b q = letterOf (getD b (suc q) 0)
+
+-- Its phase times that of an image, and the image's letters on qubits q and r; every other byte stays.
+unfoldable pub withPair : ℕ → ℕ → PairImage → List ℕ → List ℕ
+withPair q r i b =
+    set (set (set b 0 (phaseByte (phaseOf (getD b 0 0) · i .phase))) (suc q) (letterByte (i .first))) (suc r) (letterByte (i .second))
+
+-- the row at the front of b has qubits q and r
+pub record OnRow (q r : ℕ) (b : List ℕ) : Type 0 where
+  pub first : q + 1 < length b
+  pub second : r + 1 < length b
 
 -- ---- records: "Byte 0 is the width n, 0 to 128. X rows 0 to n−1 follow, then Z rows"
 
@@ -59,6 +75,10 @@ tableauOf b = record {
   xImage = λ q. decodeRow (widthOf b) (rowPart b q);
   zImage = λ q. decodeRow (widthOf b) (rowPart b (widthOf b + q));
 }
+
+-- a record with each of its rows changed
+unfoldable pub eachRow : (List ℕ → List ℕ) → List ℕ → List ℕ
+eachRow f b = widthOf b ∷ joined (2 * widthOf b) (λ r. f (rowPart b r))
 
 -- the bytes of some tableau of width at most 128
 pub record FormedTableau (b : List ℕ) : Type 0 where

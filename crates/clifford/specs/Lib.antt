@@ -12,3 +12,4 @@ pub mod Display
 pub mod GateQuestions
 pub mod GateRows
 pub mod GateAnswers
+pub mod Playing

@@ -1,9 +1,10 @@
 // Tableau records: where their rows are, and how one row is read and written. Only here does code know the bytes of a row.
 ghost use mathlib.Core.Path.{_≡_};
-ghost use Prim.Native.Nat.{_≤_};
+ghost use Prim.Native.Nat.{_≤_, min};
 ghost use Rattle.pauli.specs.Layout.{phaseOf, letterByte};
-ghost use Rattle.clifford.specs.Layout.{widthOf, recordLength, rowOffset, rowOf, rowPart, tableauOf};
+ghost use Rattle.clifford.specs.Layout.{widthOf, recordLength, rowOffset, rowOf, rowPart, tableauOf, OnRow};
 ghost use Rattle.clifford.specs.Rows.{Sized, RowIndex, OwnRow, OwnLetter, WorkOnRow, Finished, rowQubit, rowLetter, rowTimes, rowWritten, rowLetters, lettersIn, stringIn};
+ghost use Rattle.clifford.specs.Playing.{tableOnRow};
 use pauli::rows::copy;
 use pauli::rows::multiply_row;
 
@@ -100,4 +101,23 @@ pub(crate) fn letter_in_row(t: &[u8], r: usize, q: usize) -> u8
     ensures { λ l. ⌜ l ≡ letterByte (rowOf (tableauOf (now (t .entry))) r .letters q) ⌝ }
 {
     row(t, r)[q + 1]
+}
+
+// A phase or a letter as it is read: a byte above 3 as 3.
+fn read(x: u8) -> u8
+    ensures { λ r. ⌜ r ≡ min x 3 ⌝ }
+{
+    if x < 3 { x } else { 3 }
+}
+
+// The row at the front of b, changed on qubits q and s as the table says.
+pub(crate) fn change_row(b: &mut [u8], q: usize, s: usize, table: &[u8; 16])
+    requires { ⌜ OnRow q s (now b) ⌝ }
+    ensures { λ _. ⌜ now (b .exit) ≡ tableOnRow (now (table .entry)) q s (now (b .entry)) ⌝ }
+{
+    let k = 4 * read(b[q + 1]) + read(b[s + 1]);
+    let e = table[k as usize];
+    b[0] = read(b[0]) ^ (e / 16 % 2);
+    b[q + 1] = e / 4 % 4;
+    b[s + 1] = e % 4;
 }

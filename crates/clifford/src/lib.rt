@@ -7,6 +7,7 @@ mod displaying;
 mod gates;
 mod inverting;
 mod layout;
+pub mod playing;
 pub mod questions;
 mod sending;
 mod setting;
