@@ -86,84 +86,95 @@ record-link l i e =
     (done-second (secondQuestions l i) _
     (done-second (qubitQuestion l i (byteOf l i 1)) _ (done-second (gateQuestion l i) _ (done-second (zerosQuestion l i) _ e)))))
 
--- ---- the walk: the questions along the whole chain come to q, and record i is next
-pub record Walking (l : List ℕ) (q : Outcome) (m : List ℕ) (i : ℕ) : Type 0 where
+-- ---- the walk: the questions along the whole chain come to q, and the link of record k is followed next
+pub record Walking (l : List ℕ) (q : Outcome) (m : List ℕ) (k : ℕ) : Type 0 where
   pub long : length m ≡ 4096
   pub few : recordCount l ≤ 4096
-  pub own : i < recordCount l
+  pub own : k < recordCount l
+  pub link : nextOf l k < recordCount l
   pub met : List ℕ
-  pub marks : (k : ℕ) → isMet met k ≡ not (eqb (getD m k 0) 0)
-  pub same : q ≡ chainQuestions l met (unmet (recordCount l - 1) m) i
+  pub marks : (j : ℕ) → isMet met j ≡ not (eqb (getD m j 0) 0)
+  pub same : q ≡ chainQuestions l met (unmet (recordCount l - 1) m) (nextOf l k)
 
-pub unmet-head : {l m : List ℕ} → Unmet l m → OwnRecord l 0
-unmet-head u = record { own = omega (arith, u .link) }
-
-pub walking-start : {l m : List ℕ} {i : ℕ} → Unmet l m → i ≡ nextOf l 0 → Walking l (chainQuestions l [] (recordCount l - 1) (nextOf l 0)) m i
+pub walking-start : {l m : List ℕ} → Unmet l m → Walking l (chainQuestions l [] (recordCount l - 1) (nextOf l 0)) m 0
 unfolding isMet
-walking-start {l} {m} {i} u e = record {
+walking-start {l} {m} u = record {
   long = u .blank .long;
   few = u .few;
   own = omega (arith, u .link);
+  link = u .link;
   met = [];
-  marks = λ k. sym (ap not (eq-eqb (getD m k 0) 0 (u .blank .clear k)));
-  same = ap₂ (chainQuestions l []) (sym (unmet-all (recordCount l - 1) m (u .blank .clear))) (sym e);
+  marks = λ j. sym (ap not (eq-eqb (getD m j 0) 0 (u .blank .clear j)));
+  same = ap (λ (n : ℕ). chainQuestions l [] n (nextOf l 0)) (sym (unmet-all (recordCount l - 1) m (u .blank .clear)));
 }
 
-module _ {l m : List ℕ} {q : Outcome} {i : ℕ} (w : Walking l q m i) where
+pub walking-at : {l m : List ℕ} {q : Outcome} {k : ℕ} → Walking l q m k → OwnRecord l k
+walking-at w = record { own = w .own }
+
+-- record i is the one that is linked to
+module _ {l m : List ℕ} {q : Outcome} {k i : ℕ} (w : Walking l q m k) (ei : i ≡ nextOf l k) where
+  abbrev left : ℕ
+  left = unmet (recordCount l - 1) m
+
+  abbrev then-left : ℕ
+  then-left = unmet (recordCount l - 1) (set m i 1)
+
+  at-link : q ≡ chainQuestions l (w .met) left i
+  at-link = w .same ∙ ap (chainQuestions l (w .met) left) (sym ei)
+
   pub walking-own : OwnRecord l i
-  walking-own = record { own = w .own }
+  walking-own = record { own = omega (arith, w .link) }
 
   pub walking-room : i < length m
-  walking-room = omega (arith, w .long, w .few, w .own)
+  walking-room = omega (arith, w .long, w .few, w .link)
 
   pub walking-end : i ≡ 0 → Done ≡ q
-  walking-end h = sym (w .same ∙ chain-end l (w .met) (unmet (recordCount l - 1) m) i h)
+  walking-end h = sym (at-link ∙ chain-end l (w .met) left i h)
 
   pub walking-met : (i ≡ 0 → ⊥) → (getD m i 0 ≡ 0 → ⊥) → Refused (Loop i) ≡ q
-  walking-met h e =
-      sym (w .same ∙ chain-met l (w .met) (unmet (recordCount l - 1) m) i h (w .marks i ∙ ap not (ne-eqb (getD m i 0) 0 e)))
+  walking-met h e = sym (at-link ∙ chain-met l (w .met) left i h (w .marks i ∙ ap not (ne-eqb (getD m i 0) 0 e)))
 
   module _ (h : i ≡ 0 → ⊥) (e : getD m i 0 ≡ 0) where
-    fewer : unmet (recordCount l - 1) m ≡ suc (unmet (recordCount l - 1) (set m i 1))
-    fewer = at i refl
+    fewer : left ≡ suc then-left
+    fewer = by i refl
       where
-        at : (j : ℕ) → i ≡ j → unmet (recordCount l - 1) m ≡ suc (unmet (recordCount l - 1) (set m i 1))
-        at zero z = absurd (h z)
-        at (suc j) z =
-            unmet-mark (recordCount l - 1) m j (omega (arith, w .own)) (omega (arith, walking-room)) (ap (λ (k : ℕ). getD m k 0) (sym z) ∙ e)
-            ∙ ap (λ (k : ℕ). suc (unmet (recordCount l - 1) (set m k 1))) (sym z)
+        by : (j : ℕ) → i ≡ j → left ≡ suc then-left
+        by zero z = absurd (h z)
+        by (suc j) z =
+            unmet-mark (recordCount l - 1) m j (omega (arith, w .link)) (omega (arith, walking-room)) (ap (λ (x : ℕ). getD m x 0) (sym z) ∙ e)
+            ∙ ap (λ (x : ℕ). suc (unmet (recordCount l - 1) (set m x 1))) (sym z)
 
-    pub walking-less : unmet (recordCount l - 1) (set m i 1) < unmet (recordCount l - 1) m
+    pub walking-less : then-left < left
     walking-less = omega (arith, fewer)
 
-    next-is : q ≡ recordQuestions l i andThen chainQuestions l (i ∷ w .met) (unmet (recordCount l - 1) (set m i 1)) (nextOf l i)
-    next-is =
-        w .same ∙ ap (λ (n : ℕ). chainQuestions l (w .met) n i) fewer
-        ∙ chain-more l (w .met) (unmet (recordCount l - 1) (set m i 1)) i h (w .marks i ∙ ap not (eq-eqb (getD m i 0) 0 e))
+    asked-next : q ≡ recordQuestions l i andThen chainQuestions l (i ∷ w .met) then-left (nextOf l i)
+    asked-next =
+        at-link ∙ ap (λ (n : ℕ). chainQuestions l (w .met) n i) fewer
+        ∙ chain-more l (w .met) then-left i h (w .marks i ∙ ap not (eq-eqb (getD m i 0) 0 e))
 
     pub walking-refused : {r : Outcome} {x : Refusal} → r ≡ recordQuestions l i → r ≡ Refused x → r ≡ q
-    walking-refused er ex =
-        refused (chainQuestions l (i ∷ w .met) (unmet (recordCount l - 1) (set m i 1)) (nextOf l i)) er ex ∙ sym next-is
+    walking-refused er ex = refused (chainQuestions l (i ∷ w .met) then-left (nextOf l i)) er ex ∙ sym asked-next
 
-    pub walking-step : {r : Outcome} {n : ℕ} → r ≡ recordQuestions l i → r ≡ Done → n ≡ nextOf l i → Walking l q (set m i 1) n
+    pub walking-step : {r : Outcome} → r ≡ recordQuestions l i → r ≡ Done → Walking l q (set m i 1) i
     unfolding isMet
-    walking-step {r} {n} er ed en = record {
+    walking-step {r} er ed = record {
       long = length-set m i 1 ∙ w .long;
       few = w .few;
-      own = omega (arith, record-link l i (sym er ∙ ed));
+      own = walking-own .own;
+      link = record-link l i (sym er ∙ ed);
       met = i ∷ w .met;
-      marks = λ k. elim (ℕ-discrete k i) [
-        | yes d ↦ ap (λ b. b || isMet (w .met) k) (eq-eqb i k (sym d)) ∙ sym (ap (λ (x : ℕ). not (eqb x 0)) (ap (λ (j : ℕ). getD (set m i 1) j 0) d ∙ getD-set-same m i 1 0 walking-room))
-        | no d ↦ ap (λ b. b || isMet (w .met) k) (ne-eqb i k (λ z. d (sym z))) ∙ w .marks k
-            ∙ sym (ap (λ (x : ℕ). not (eqb x 0)) (getD-set-other m i k 1 0 d))
+      marks = λ j. elim (ℕ-discrete j i) [
+        | yes d ↦ ap (λ b. b || isMet (w .met) j) (eq-eqb i j (sym d))
+            ∙ sym (ap (λ (x : ℕ). not (eqb x 0)) (ap (λ (x : ℕ). getD (set m i 1) x 0) d ∙ getD-set-same m i 1 0 walking-room))
+        | no d ↦ ap (λ b. b || isMet (w .met) j) (ne-eqb i j (λ z. d (sym z))) ∙ w .marks j
+            ∙ sym (ap (λ (x : ℕ). not (eqb x 0)) (getD-set-other m i j 1 0 d))
       ];
-      same = next-is ∙ sym (passed er ed refl)
-          ∙ ap (chainQuestions l (i ∷ w .met) (unmet (recordCount l - 1) (set m i 1))) (sym en);
+      same = asked-next ∙ sym (passed er ed refl);
     }
 
 pub ruleset walks = (
-  unmet-head,
   walking-start,
+  walking-at,
   walking-own,
   walking-room,
   walking-end,

@@ -15,8 +15,13 @@ pub(crate) fn check_chain(list: &[u8], met: &mut [u8]) -> Outcome
     requires { ⌜ Unmet (now list) (now met) ⌝ }
     ensures { λ r. ⌜ r ≡ chainQuestions (now (list .entry)) [] (recordCount (now (list .entry)) - 1) (nextOf (now (list .entry)) 0) ⌝ }
 {
-    let mut i = next(list, 0);
-    while i != 0 {
+    // The record whose link is followed.
+    let mut at = 0;
+    loop {
+        let i = next(list, at);
+        if i == 0 {
+            return Outcome::Done;
+        }
         if met[i] != 0 {
             return Outcome::Refused(Refusal::Loop { record: i });
         }
@@ -25,7 +30,6 @@ pub(crate) fn check_chain(list: &[u8], met: &mut [u8]) -> Outcome
             return answer;
         };
         met[i] = 1;
-        i = next(list, i);
+        at = i;
     }
-    Outcome::Done
 }

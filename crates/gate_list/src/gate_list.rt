@@ -1,6 +1,8 @@
-// Gate lists: what is asked of them.
+// Gate lists: what is asked of them, and their run.
 ghost use mathlib.Core.Path.{_≡_};
 ghost use Rattle.gate_list.specs.ListQuestions.{listQuestions};
+ghost use lib.ListN.{length};
+ghost use Rattle.gate_list.specs.Runs.{RunAnswered, runAnswer, runRecord, stepCount};
 ghost use Rattle.gate_list.specs.Reading.{Blank, Unmarked, linksQuestion};
 use crate::chain::check_chain;
 use crate::questions::and_then;
@@ -8,7 +10,11 @@ use crate::questions::check_head;
 use crate::questions::check_link;
 use crate::questions::check_size;
 use crate::reading::width;
+use crate::running::record_length;
+use crate::running::write_run;
 use clifford::questions::check_width;
+use pauli::questions::check_room;
+use pauli::refusal::CountAnswer;
 use pauli::refusal::Outcome;
 
 // The head's link, and then the chain.
@@ -42,4 +48,27 @@ pub fn check_list(list: &[u8]) -> Outcome
 {
     let mut met = [0u8; 4096];
     check_list_with(list, &mut met)
+}
+
+// The questions of a run: those of the list, and room for the record last.
+fn run_answer(list: &[u8], room: usize) -> Outcome
+    ensures { λ r. ⌜ r ≡ runAnswer (now (list .entry)) room ⌝ }
+{
+    let admitted = check_list(list);
+    let enough = check_room(record_length(width(list)), room);
+    and_then(admitted, enough)
+}
+
+// The tableau of all gates on the chain, each composed on the left; the answer is their number.
+pub fn run(list: &[u8], dst: &mut [u8]) -> CountAnswer
+    ensures { λ r. ⌜ RunAnswered (runAnswer (now (list .entry)) (length (now (dst .entry)))) (stepCount (now (list .entry))) (runRecord (now (list .entry))) (now (dst .entry)) (now (dst .exit)) r ⌝ }
+{
+    let answer = run_answer(list, dst.len());
+    match answer {
+        Outcome::Done => {
+            let steps = write_run(list, dst);
+            CountAnswer::Count(steps)
+        }
+        Outcome::Refused(why) => CountAnswer::NoCount(why),
+    }
 }

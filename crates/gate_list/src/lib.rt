@@ -4,3 +4,4 @@ mod chain;
 pub mod gate_list;
 mod questions;
 mod reading;
+mod running;

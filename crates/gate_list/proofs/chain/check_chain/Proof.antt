@@ -8,10 +8,10 @@ use Rattle.gate_list.proofs.chain.check_chain.Statement.{statement}
 use Rattle.gate_list.proofs.chain.check_chain.Tie as tie
 
 abbrev Inv-loop : tie.InvT-loop
-Inv-loop list met₀ i₀ met i = Walking list (chainQuestions list [] (recordCount list - 1) (nextOf list 0)) met i
+Inv-loop list met₀ at₀ met at = Walking list (chainQuestions list [] (recordCount list - 1) (nextOf list 0)) met at
 
 abbrev μ-loop : tie.MeasureT-loop
-μ-loop list met₀ i₀ met i = unmet (recordCount list - 1) met
+μ-loop list met₀ at₀ met at = unmet (recordCount list - 1) met
 
 pub check-chain-spec : {M : Type 1} → statement M
 check-chain-spec =
@@ -20,4 +20,4 @@ check-chain-spec =
     Inv-loop μ-loop (λ c. search walks) (λ c. search walks) (λ c. search walks) (λ c. search walks)
     (λ c. search walks) (λ c. search walks) (λ c. search walks) (λ c. search walks) (λ c. search walks)
     (λ c. search walks) (λ c. search walks) (λ c. search walks) (λ c. search walks) (λ c. search walks)
-    (λ c. search walks) (λ c. search walks))
+    (λ c. search walks))
