@@ -4,3 +4,4 @@ pub mod ListAdmitted
 pub mod AdmittedChains
 pub mod RunLaws
 pub mod RunSteps
+pub mod RefusalTexts

@@ -1,6 +1,6 @@
 -- What the program writes (scope document, "Program"): "the `Display` text" of the run; "A refusal writes `refused N at D` and a
 -- newline, number and detail in decimal."
-use Prim.Native.Nat.{ℕ}
+use Prim.Native.Nat.{ℕ, _≤_}
 use mathlib.Core.List.{List, [], _∷_, _++_}
 use lib.ListN.{length}
 use Rattle.pauli.specs.declared.refusal.Refusal.{Refusal}
@@ -33,3 +33,22 @@ reportText l = textAfter (listQuestions l) (textOfTableau (runRecord l))
 -- any list has a report; only the room can be short
 unfoldable pub reportAnswer : List ℕ → ℕ → Outcome
 reportAnswer l room = roomQuestion (length (reportText l)) room
+
+-- ---- what the functions that write it may count on
+
+-- the line of a number and a detail
+unfoldable pub refusalLine : ℕ → ℕ → List ℕ
+refusalLine n d = refusedText ++ (decimal n ++ (atText ++ (decimal d ++ (newline ∷ []))))
+
+pub record LineNumbers (n d : ℕ) : Type 0 where
+  pub number : n ≤ 19
+  pub detail : d ≤ 4095
+
+-- a place in the line, and a detail
+pub record DetailPlace (k d : ℕ) : Type 0 where
+  pub place : k ≤ 100
+  pub detail : d ≤ 4095
+
+-- a refusal that a list can have
+pub record Listed (r : Refusal) : Type 0 where
+  pub detail : refusalDetail r ≤ 4095

@@ -4,4 +4,5 @@ mod chain;
 pub mod gate_list;
 mod questions;
 mod reading;
+mod reporting;
 mod running;
