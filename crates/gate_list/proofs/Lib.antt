@@ -5,3 +5,5 @@ pub mod AdmittedChains
 pub mod RunLaws
 pub mod RunSteps
 pub mod RefusalTexts
+pub mod ListRefusals
+pub mod RunReports

@@ -1,7 +1,9 @@
-// Gate lists: what is asked of them, and their run.
+// Gate lists: what is asked of them, their run, and what is written of it.
 ghost use mathlib.Core.Path.{_≡_};
 ghost use Rattle.gate_list.specs.ListQuestions.{listQuestions};
 ghost use lib.ListN.{length};
+ghost use Rattle.pauli.specs.Answers.{CountWritten};
+ghost use Rattle.gate_list.specs.Reports.{WorkRoom, reportAnswer, reportText};
 ghost use Rattle.gate_list.specs.Runs.{RunAnswered, runAnswer, runRecord, stepCount};
 ghost use Rattle.gate_list.specs.Reading.{Blank, Unmarked, linksQuestion};
 use crate::chain::check_chain;
@@ -10,6 +12,8 @@ use crate::questions::check_head;
 use crate::questions::check_link;
 use crate::questions::check_size;
 use crate::reading::width;
+use crate::reporting::report_refusal;
+use crate::reporting::report_run;
 use crate::running::record_length;
 use crate::running::write_run;
 use clifford::questions::check_width;
@@ -71,4 +75,23 @@ pub fn run(list: &[u8], dst: &mut [u8]) -> CountAnswer
         }
         Outcome::Refused(why) => CountAnswer::NoCount(why),
     }
+}
+
+fn report_with(list: &[u8], work: &mut [u8], out: &mut [u8]) -> CountAnswer
+    requires { ⌜ WorkRoom (now work) ⌝ }
+    ensures { λ r. ⌜ CountWritten (reportAnswer (now (list .entry)) (length (now (out .entry)))) (reportText (now (list .entry))) (now (out .entry)) (now (out .exit)) r ⌝ }
+{
+    let answer = check_list(list);
+    match answer {
+        Outcome::Done => report_run(list, work, out),
+        Outcome::Refused(why) => report_refusal(why, out),
+    }
+}
+
+// The display text of the run, or the text of the refusal; the answer is its length.
+pub fn report(list: &[u8], out: &mut [u8]) -> CountAnswer
+    ensures { λ r. ⌜ CountWritten (reportAnswer (now (list .entry)) (length (now (out .entry)))) (reportText (now (list .entry))) (now (out .entry)) (now (out .exit)) r ⌝ }
+{
+    let mut work = [0u8; 33025];
+    report_with(list, &mut work, out)
 }

@@ -4,12 +4,15 @@ ghost use mathlib.Core.Path.{_≡_};
 ghost use mathlib.Core.List.{_++_};
 ghost use Prim.Native.Nat.{_/_, _%_, _≤_};
 ghost use lib.ListN.{length};
-ghost use Rattle.pauli.specs.Answers.{CountWritten};
-ghost use Rattle.pauli.specs.Questions.{roomQuestion};
 ghost use Rattle.pauli.specs.SparseText.{decimal};
 ghost use Rattle.pauli.specs.TextWriting.{Stored, TextWritten};
-ghost use Rattle.clifford.specs.Display.{TextPlace, NumberPlace};
-ghost use Rattle.gate_list.specs.Reports.{refusalText, refusalLine, DetailPlace, LineNumbers, Listed};
+ghost use Rattle.clifford.specs.Display.{TextPlace, NumberPlace, textOfTableau};
+ghost use Rattle.gate_list.specs.Reports.{refusalText, refusalLine, DetailPlace, LineNumbers, Listed, ShowRoom, TextReported};
+ghost use Rattle.gate_list.specs.Runs.{runRecord};
+use crate::reading::width;
+use crate::running::record_length;
+use crate::running::write_run;
+use clifford::clifford_rep::display;
 use pauli::questions::check_room;
 use pauli::refusal::CountAnswer;
 use pauli::refusal::Outcome;
@@ -94,11 +97,21 @@ fn refusal_length(why: Refusal) -> usize
 // The text of a refusal of a list, where there is room for it.
 pub(crate) fn report_refusal(why: Refusal, out: &mut [u8]) -> CountAnswer
     requires { ⌜ Listed why ⌝ }
-    ensures { λ r. ⌜ CountWritten (roomQuestion (length (refusalText why)) (length (now (out .entry)))) (refusalText why) (now (out .entry)) (now (out .exit)) r ⌝ }
+    ensures { λ r. ⌜ TextReported (refusalText why) (now (out .entry)) (now (out .exit)) r ⌝ }
 {
     let answer = check_room(refusal_length(why), out.len());
     match answer {
         Outcome::Done => CountAnswer::Count(write_refusal(why, out)),
         Outcome::Refused(room) => CountAnswer::NoCount(room),
     }
+}
+
+// The display text of the run of an admitted list, where there is room for it. The work is room for the run's record.
+pub(crate) fn report_run(list: &[u8], work: &mut [u8], out: &mut [u8]) -> CountAnswer
+    requires { ⌜ ShowRoom (now list) (now work) ⌝ }
+    ensures { λ r. ⌜ TextReported (textOfTableau (runRecord (now (list .entry)))) (now (out .entry)) (now (out .exit)) r ⌝ }
+{
+    write_run(list, work);
+    let length = record_length(width(list));
+    display(&work[0..length], out)
 }
