@@ -1,0 +1,214 @@
+-- A list's questions one by one: what the tests of the code say of each.
+use mathlib.Core.Path.{_≡_, refl, sym, ap, ap₂, _∙_}
+use mathlib.Core.Bool.{Bool, true, false, cond, not, _&&_, _||_}
+use mathlib.Core.List.{List}
+use Prim.Native.Nat.{ℕ, _+_, _*_, _/_, _%_, _<_, _≤_}
+use native.Mathlib.Omega.{arith}
+use lib.Dec.{eqb, ltb, leb}
+use lib.ListN.{length, getD, List·getD-eq-default}
+use borrow.Author.Needs.{needs}
+use borrow.Author.Tests.{le-leb, lt-leb, lt-ltb, le-ltb, eq-eqb, ne-eqb}
+use Rattle.pauli.specs.declared.refusal.Refusal.the-variants.{Gate, Qubit, SameQubit, ListLength, ListRecord, Link}
+use Rattle.pauli.specs.declared.refusal.Refusal.{Refusal}
+use Rattle.pauli.specs.declared.refusal.Outcome.{Outcome}
+use Rattle.pauli.specs.declared.refusal.Outcome.the-variants.{Done, Refused}
+use Rattle.pauli.specs.Questions.{ask, _andThen_}
+use Rattle.pauli.proofs.Asking.{asked-yes, asked-no, refused, passed}
+use Rattle.gate_list.specs.Lists.{recordSize, recordCount, byteOf, listWidth, nextOf}
+use Rattle.gate_list.specs.ListQuestions.{sizeQuestion, headQuestion, linkQuestion, zerosQuestion, gateQuestion, qubitQuestion, secondQuestions, recordQuestions}
+use Rattle.gate_list.specs.Reading.{OwnRecord, OwnByte, ByteSized, zerosRight, differentQuestion, twoQuestions}
+
+-- ---- the bytes of a list
+pub count-is : (l : List ℕ) → length l / 6 ≡ recordCount l
+unfolding recordCount
+count-is l = refl
+
+byte-place : {l : List ℕ} {i k : ℕ} → OwnByte l i k → 6 * i + k < length l
+unfolding recordCount
+byte-place o = omega (arith, o .own, o .place)
+
+pub byte-read : {l : List ℕ} {i k : ℕ} → OwnByte l i k → 6 * i + k < length l
+byte-read o = byte-place o
+
+pub byte-is : (l : List ℕ) (i k : ℕ) → getD l (6 * i + k) 0 ≡ byteOf l i k
+unfolding byteOf
+byte-is l i k = refl
+
+pub own-byte : {l : List ℕ} {i k : ℕ} → OwnRecord l i → k < recordSize → OwnByte l i k
+own-byte o h = record { own = o .own; place = h }
+
+pub next-is : (l : List ℕ) (i : ℕ) {a b c d : ℕ} → a ≡ byteOf l i 4 → ByteSized a c → b ≡ byteOf l i 5 → ByteSized b d → c + 256 * d ≡ nextOf l i
+unfolding nextOf
+next-is l i ea ec eb ed = omega (arith, ea, ec .is, eb, ed .is)
+
+pub width-none : (l : List ℕ) → length l < 2 → ByteSized (listWidth l) 0
+unfolding listWidth byteOf
+width-none l h = record { is = sym (List·getD-eq-default l 0 {n = 1} (omega arith)); small = omega arith }
+
+pub width-is : (l : List ℕ) {n : ℕ} → ByteSized (getD l 1 0) n → ByteSized (listWidth l) n
+unfolding listWidth byteOf
+width-is l o = o
+
+pub ruleset list-bytes = (count-is, byte-read, byte-is, own-byte, next-is, width-none, width-is, needs)
+
+-- ---- the whole list: its length, its head
+right : {g h s t f k : ℕ} → g ≡ h → s ≡ t → f ≡ k → (eqb f 0 && (leb 24 g || eqb s 0)) ≡ (eqb k 0 && (leb 24 h || eqb t 0))
+right eg es ef = ap₂ (λ (x : ℕ) (y : Bool). eqb x 0 && y) ef (ap₂ (λ (x y : ℕ). leb 24 x || eqb y 0) eg es)
+
+module _ (l : List ℕ) where
+  sizes : {a b c x : Bool} → eqb (length l % recordSize) 0 ≡ a → leb recordSize (length l) ≡ b → leb (length l) 24576 ≡ c → (a && (b && c)) ≡ x
+      → (eqb (length l % recordSize) 0 && (leb recordSize (length l) && leb (length l) 24576)) ≡ x
+  sizes ea eb ec e = ap₂ (λ x y. x && y) ea (ap₂ (λ x y. x && y) eb ec) ∙ e
+
+  pub size-odd : (length l % 6 ≡ 0 → ⊥) → Refused ListLength ≡ sizeQuestion l
+  unfolding sizeQuestion
+  size-odd h = asked-no ListLength (sizes (ne-eqb _ 0 h) refl refl refl)
+
+  pub size-short : length l < 6 → Refused ListLength ≡ sizeQuestion l
+  unfolding sizeQuestion
+  size-short h = asked-no ListLength (sizes refl (lt-leb _ _ h) refl (and-false (eqb (length l % 6) 0)))
+    where
+      and-false : (a : Bool) → (a && false) ≡ false
+      and-false true = refl
+      and-false false = refl
+
+  pub size-long : length l % 6 ≡ 0 → 6 ≤ length l → 24576 < length l → Refused ListLength ≡ sizeQuestion l
+  unfolding sizeQuestion
+  size-long h k m = asked-no ListLength (sizes (eq-eqb _ 0 h) (le-leb _ _ k) (lt-leb _ _ m) refl)
+
+  pub size-good : length l % 6 ≡ 0 → 6 ≤ length l → length l ≤ 24576 → Done ≡ sizeQuestion l
+  unfolding sizeQuestion
+  size-good h k m = asked-yes ListLength (sizes (eq-eqb _ 0 h) (le-leb _ _ k) (le-leb _ _ m) refl)
+
+  heads : {a b c x : Bool} → eqb (byteOf l 0 0) 0 ≡ a → eqb (byteOf l 0 2) 0 ≡ b → eqb (byteOf l 0 3) 0 ≡ c → (a && (b && c)) ≡ x
+      → (eqb (byteOf l 0 0) 0 && (eqb (byteOf l 0 2) 0 && eqb (byteOf l 0 3) 0)) ≡ x
+  heads ea eb ec e = ap₂ (λ x y. x && y) ea (ap₂ (λ x y. x && y) eb ec) ∙ e
+
+  zero-byte : {b n : ℕ} → b ≡ n → b ≡ 0 → eqb n 0 ≡ true
+  zero-byte e h = eq-eqb _ 0 (sym e ∙ h)
+
+  some-byte : {b n : ℕ} → b ≡ n → (b ≡ 0 → ⊥) → eqb n 0 ≡ false
+  some-byte e h = ne-eqb _ 0 (λ z. h (e ∙ z))
+
+  pub head-gate : {a : ℕ} → a ≡ byteOf l 0 0 → (a ≡ 0 → ⊥) → Refused (ListRecord 0) ≡ headQuestion l
+  unfolding headQuestion
+  head-gate e h = asked-no (ListRecord 0) (heads (some-byte e h) refl refl refl)
+
+  pub head-second : {a b : ℕ} → a ≡ byteOf l 0 0 → a ≡ 0 → b ≡ byteOf l 0 2 → (b ≡ 0 → ⊥) → Refused (ListRecord 0) ≡ headQuestion l
+  unfolding headQuestion
+  head-second ea ha e h = asked-no (ListRecord 0) (heads (zero-byte ea ha) (some-byte e h) refl refl)
+
+  pub head-fixed : {a b c : ℕ} → a ≡ byteOf l 0 0 → a ≡ 0 → b ≡ byteOf l 0 2 → b ≡ 0 → c ≡ byteOf l 0 3 → (c ≡ 0 → ⊥) → Refused (ListRecord 0) ≡ headQuestion l
+  unfolding headQuestion
+  head-fixed ea ha eb hb e h = asked-no (ListRecord 0) (heads (zero-byte ea ha) (zero-byte eb hb) (some-byte e h) refl)
+
+  pub head-good : {a b c : ℕ} → a ≡ byteOf l 0 0 → a ≡ 0 → b ≡ byteOf l 0 2 → b ≡ 0 → c ≡ byteOf l 0 3 → c ≡ 0 → Done ≡ headQuestion l
+  unfolding headQuestion
+  head-good ea ha eb hb e h = asked-yes (ListRecord 0) (heads (zero-byte ea ha) (zero-byte eb hb) (zero-byte e h) refl)
+
+  -- ---- record i
+  module _ (i : ℕ) where
+    pub link-good : {n c : ℕ} → n ≡ nextOf l i → c ≡ recordCount l → n < c → Done ≡ linkQuestion l i
+    unfolding linkQuestion
+    link-good en ec h = asked-yes (Link i) (lt-ltb (nextOf l i) (recordCount l) (omega arith))
+
+    pub link-bad : {n c : ℕ} → n ≡ nextOf l i → c ≡ recordCount l → c ≤ n → Refused (Link i) ≡ linkQuestion l i
+    unfolding linkQuestion
+    link-bad en ec h = asked-no (Link i) (le-ltb (nextOf l i) (recordCount l) (omega arith))
+
+    pub zeros-good : {g s f : ℕ} {b : Bool} → g ≡ byteOf l i 0 → s ≡ byteOf l i 2 → f ≡ byteOf l i 3 → b ≡ zerosRight g s f → b ≡ true → Done ≡ zerosQuestion l i
+    unfolding zerosQuestion zerosRight
+    zeros-good eg es ef eb h = asked-yes (ListRecord i) (sym (right eg es ef) ∙ sym eb ∙ h)
+
+    pub zeros-bad : {g s f : ℕ} {b : Bool} → g ≡ byteOf l i 0 → s ≡ byteOf l i 2 → f ≡ byteOf l i 3 → b ≡ zerosRight g s f → b ≡ false
+        → Refused (ListRecord i) ≡ zerosQuestion l i
+    unfolding zerosQuestion zerosRight
+    zeros-bad eg es ef eb h = asked-no (ListRecord i) (sym (right eg es ef) ∙ sym eb ∙ h)
+
+    pub gate-good : {g : ℕ} → g ≡ byteOf l i 0 → g < 38 → Done ≡ gateQuestion l i
+    unfolding gateQuestion
+    gate-good e h = asked-yes (Gate i) (lt-ltb (byteOf l i 0) 38 (omega arith))
+
+    pub gate-bad : {g : ℕ} → g ≡ byteOf l i 0 → 38 ≤ g → Refused (Gate i) ≡ gateQuestion l i
+    unfolding gateQuestion
+    gate-bad e h = asked-no (Gate i) (le-ltb (byteOf l i 0) 38 (omega arith))
+
+    pub qubit-good : {q x w : ℕ} → ByteSized q x → ByteSized (listWidth l) w → x < w → Done ≡ qubitQuestion l i q
+    unfolding qubitQuestion
+    qubit-good {q} ex ew h = asked-yes (Qubit i) (lt-ltb q (listWidth l) (omega (arith, ex .is, ew .is)))
+
+    pub qubit-bad : {q x w : ℕ} → ByteSized q x → ByteSized (listWidth l) w → w ≤ x → Refused (Qubit i) ≡ qubitQuestion l i q
+    unfolding qubitQuestion
+    qubit-bad {q} ex ew h = asked-no (Qubit i) (le-ltb q (listWidth l) (omega (arith, ex .is, ew .is)))
+
+    pub two-out : {s : ℕ} {q : Outcome} {x : Refusal} → s ≡ byteOf l i 2 → q ≡ qubitQuestion l i s → q ≡ Refused x → q ≡ twoQuestions l i
+    unfolding twoQuestions
+    two-out es eq h = refused (differentQuestion i (byteOf l i 1) (byteOf l i 2)) (eq ∙ ap (qubitQuestion l i) es) h
+
+    pub two-in : {s t : ℕ} {q r : Outcome} → s ≡ byteOf l i 2 → q ≡ qubitQuestion l i s → q ≡ Done → t ≡ byteOf l i 1 → r ≡ differentQuestion i t s → r ≡ twoQuestions l i
+    unfolding twoQuestions
+    two-in es eq d et er = passed (eq ∙ ap (qubitQuestion l i) es) d (er ∙ ap₂ (differentQuestion i) et es)
+
+    abbrev second-case : Bool → Outcome
+    second-case b = cond b Done (twoQuestions l i)
+
+    pub second-none : {g : ℕ} → g ≡ byteOf l i 0 → g < 24 → Done ≡ secondQuestions l i
+    unfolding secondQuestions twoQuestions differentQuestion
+    second-none eg h = sym (ap second-case (lt-ltb (byteOf l i 0) 24 (omega arith)))
+
+    pub second-two : {g : ℕ} {q : Outcome} → g ≡ byteOf l i 0 → 24 ≤ g → q ≡ twoQuestions l i → q ≡ secondQuestions l i
+    unfolding secondQuestions twoQuestions differentQuestion
+    second-two eg h e = e ∙ sym (ap second-case (le-ltb (byteOf l i 0) 24 (omega arith)))
+
+    pub first-read : {t : ℕ} {q : Outcome} → t ≡ byteOf l i 1 → q ≡ qubitQuestion l i t → q ≡ qubitQuestion l i (byteOf l i 1)
+    first-read et e = e ∙ ap (qubitQuestion l i) et
+
+pub different-not : (i q r : ℕ) → q ≡ r → Refused (SameQubit i) ≡ differentQuestion i q r
+unfolding differentQuestion
+different-not i q r h = asked-no (SameQubit i) (ap not (eq-eqb q r h))
+
+pub different-good : (i q r : ℕ) → (q ≡ r → ⊥) → Done ≡ differentQuestion i q r
+unfolding differentQuestion
+different-good i q r h = asked-yes (SameQubit i) (ap not (ne-eqb q r h))
+
+pub right-fixed : (g s f : ℕ) → (f ≡ 0 → ⊥) → false ≡ zerosRight g s f
+unfolding zerosRight
+right-fixed g s f h = sym (ap (λ a. a && (leb 24 g || eqb s 0)) (ne-eqb f 0 h))
+
+pub right-two : (g s f : ℕ) → f ≡ 0 → 24 ≤ g → true ≡ zerosRight g s f
+unfolding zerosRight
+right-two g s f h k = sym (ap₂ (λ a b. a && (b || eqb s 0)) (eq-eqb f 0 h) (le-leb 24 g k))
+
+pub right-one : (g s f : ℕ) → f ≡ 0 → g < 24 → eqb s 0 ≡ zerosRight g s f
+unfolding zerosRight
+right-one g s f h k = sym (ap₂ (λ a b. a && (b || eqb s 0)) (eq-eqb f 0 h) (lt-leb 24 g k))
+
+-- ---- all of a record's questions in their order
+pub record-asked : (l : List ℕ) (i : ℕ) {z g f s k a b c d : Outcome} → z ≡ zerosQuestion l i → g ≡ gateQuestion l i → f ≡ qubitQuestion l i (byteOf l i 1)
+    → s ≡ secondQuestions l i → k ≡ linkQuestion l i → a ≡ s andThen k → b ≡ f andThen a → c ≡ g andThen b → d ≡ z andThen c → d ≡ recordQuestions l i
+unfolding recordQuestions
+record-asked l i ez eg ef es ek ea eb ec ed =
+    ed ∙ ap₂ _andThen_ ez (ec ∙ ap₂ _andThen_ eg (eb ∙ ap₂ _andThen_ ef (ea ∙ ap₂ _andThen_ es ek)))
+
+pub first-then : {q r : Outcome} → q ≡ Done → r ≡ q andThen r
+unfolding _andThen_
+first-then {r = r} e = sym (ap (λ x. x andThen r) e)
+
+pub first-only : {q : Outcome} {x : Refusal} (r : Outcome) → q ≡ Refused x → q ≡ q andThen r
+first-only r e = refused r refl e
+
+pub ruleset orders = (first-then, first-only, needs)
+
+pub ruleset record-asks = (record-asked, needs)
+
+pub ruleset size-asks = (size-odd, size-short, size-long, size-good, needs)
+
+pub ruleset head-asks = (head-gate, head-second, head-fixed, head-good, own-byte, needs)
+
+pub ruleset link-asks = (link-good, link-bad, needs)
+
+pub ruleset zeros-asks = (zeros-good, zeros-bad, right-fixed, right-two, right-one, own-byte, needs)
+
+pub ruleset play-asks = (gate-good, gate-bad, qubit-good, qubit-bad, first-read, own-byte, needs)
+
+pub ruleset second-asks = (different-not, different-good, two-out, two-in, second-none, second-two, own-byte, needs)

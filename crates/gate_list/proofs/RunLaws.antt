@@ -1,0 +1,91 @@
+-- The tableau of a run: it is valid, and it has the list's width.
+use mathlib.Core.Path.{_≡_, refl, sym, ap, _∙_, subst}
+use mathlib.Core.Bool.{true}
+use mathlib.Core.List.{List, [], _∷_}
+use Prim.Native.Nat.{ℕ, _<_, _≤_}
+use native.Mathlib.Decide.{decLt}
+use native.Mathlib.Omega.{arith}
+use lib.ListN.{length}
+use Rattle.pauli_group.specs.PauliString.{qubits}
+use Rattle.clifford_group.specs.Tableau.{Clifford}
+use Rattle.clifford_group.proofs.Same.{isValid-same}
+use Rattle.clifford_gates.specs.GateNumbers.{gateTableau}
+use Rattle.clifford_gates.proofs.GateNames.{gate-clifford}
+use Rattle.pauli.specs.declared.refusal.Outcome.the-variants.{Done}
+use Rattle.clifford.specs.Layout.{recordLength, widthOf, tableauOf}
+use Rattle.clifford.specs.GateAnswers.{gateRecord}
+use Rattle.clifford.specs.Tableaux.{recordValid, identityRecord, composeRecord}
+use Rattle.clifford.specs.WayBack.{productFrom, productOf}
+use Rattle.clifford.proofs.PlayedGates.{played-is, width-played}
+use Rattle.clifford.proofs.RecordLaws.{Good, identity-width, identity-good, compose-good}
+use Rattle.clifford.proofs.TableauRecords.{record-back, record-formed, record-small}
+use Rattle.gate_list.specs.Lists.{Play, listWidth, gatesOf}
+use Rattle.gate_list.specs.ListQuestions.{listQuestions}
+use Rattle.gate_list.specs.OrderedLists.{PlayFits, PlaysFit, none, more}
+use Rattle.gate_list.specs.Runs.{tableauxOf, runRecord}
+use Rattle.gate_list.proofs.AdmittedChains.{admitted-plays, admitted-narrow}
+
+-- ---- one gate
+module _ {w : ℕ} {p : Play} (small : w ≤ qubits) (f : PlayFits w p) where
+  second-small : p .second < qubits
+  second-small = elim (decLt (p .gate) 24) [
+    | yes l ↦ omega (arith, f .unused l, f .first)
+    | no l ↦ omega (arith, f .second (omega arith))
+  ]
+
+  gate-good : Good (gateRecord (p .gate) (p .first) (p .second))
+  unfolding gateRecord
+  gate-good =
+      let T = gateTableau (p .gate) (p .first) (p .second) in
+      let c : Clifford T = gate-clifford (p .gate) (p .first) (p .second) (f .gate) (omega (arith, f .first)) second-small (f .different) in
+      record { formed = record-formed T (c .proper .narrow); valid = isValid-same (tableauOf _) T (record-back T (c .proper)) ∙ c .valid }
+
+  module _ {t : List ℕ} (g : Good t) (e : widthOf t ≡ w) where
+    then-good : Good (composeRecord (gateRecord (p .gate) (p .first) (p .second)) t)
+    then-good = compose-good gate-good g
+
+    then-width : widthOf (composeRecord (gateRecord (p .gate) (p .first) (p .second)) t) ≡ w
+    then-width =
+        ap widthOf (sym (played-is (p .gate) (p .first) (p .second) t (g .formed) (f .gate) (omega (arith, f .first)) (λ h. omega (arith, f .second h)) (f .different)))
+        ∙ width-played (p .gate) (p .first) (p .second) t ∙ e
+
+-- ---- gates, one after another
+pub record ValidOf (w : ℕ) (t : List ℕ) : Type 0 where
+  pub good : Good t
+  pub width : widthOf t ≡ w
+
+product-valid : {w : ℕ} {ps : List Play} {t : List ℕ} → w ≤ qubits → PlaysFit w ps → ValidOf w t → ValidOf w (productFrom t (tableauxOf ps))
+unfolding productFrom tableauxOf
+product-valid small none v = v
+product-valid small (more f rest) v =
+    product-valid small rest (record { good = then-good small f (v .good) (v .width); width = then-width small f (v .good) (v .width) })
+
+module _ (l : List ℕ) (e : listQuestions l ≡ Done) where
+  small : listWidth l ≤ qubits
+  small = unfold qubits in admitted-narrow l e
+
+  run-valid-of : ValidOf (listWidth l) (runRecord l)
+  unfolding runRecord productOf
+  run-valid-of =
+      product-valid small (admitted-plays l e) (record { good = identity-good (listWidth l) small; width = identity-width (listWidth l) })
+
+  pub run-good : Good (runRecord l)
+  run-good = run-valid-of .good
+
+  pub run-valid : recordValid (runRecord l) ≡ true
+  unfolding recordValid
+  run-valid = run-good .valid
+
+  pub run-width : widthOf (runRecord l) ≡ listWidth l
+  run-width = run-valid-of .width
+
+  pub run-length : length (runRecord l) ≡ recordLength (listWidth l)
+  run-length = run-good .formed .long ∙ ap recordLength run-width
+
+  pub run-small : length (runRecord l) ≤ 33025
+  run-small = omega (arith, run-length, record-small (listWidth l) (admitted-narrow l e))
+
+-- the run is, as it stands, demand 3's product of the gates' own tableaux
+pub run-product : (l : List ℕ) → runRecord l ≡ productOf (listWidth l) (tableauxOf (gatesOf l))
+unfolding runRecord
+run-product l = refl

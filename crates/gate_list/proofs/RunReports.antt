@@ -1,0 +1,78 @@
+-- What is written of a run: the display text of its record, or the text of the refusal.
+use mathlib.Core.Path.{_≡_, refl, sym, ap, ap₂, _∙_, subst}
+use mathlib.Core.List.{List, [], _++_}
+use Prim.Native.Nat.{ℕ, _-_, _≤_}
+use native.Mathlib.Omega.{arith}
+use lib.ListN.{length, take, drop}
+use lib.Seq.{take-at}
+use borrow.Author.Needs.{needs}
+use Rattle.pauli.specs.declared.refusal.Refusal.{Refusal}
+use Rattle.pauli.specs.declared.refusal.Outcome.{Outcome}
+use Rattle.pauli.specs.declared.refusal.Outcome.the-variants.{Done, Refused}
+use Rattle.pauli.specs.declared.refusal.CountAnswer.{CountAnswer}
+use Rattle.pauli.specs.Answers.{written, CountWritten}
+use Rattle.pauli.specs.Questions.{_andThen_, roomQuestion}
+use Rattle.pauli.proofs.Asking.{passed}
+use Rattle.clifford.specs.Display.{textOfTableau, displayAnswer}
+use Rattle.clifford.specs.Layout.{recordLength}
+use Rattle.clifford.specs.Questions.{tableauQuestions}
+use Rattle.clifford.proofs.TableauAsking.{formed-good}
+use Rattle.clifford.proofs.TableauRecords.{record-small}
+use Rattle.gate_list.specs.Lists.{listWidth}
+use Rattle.gate_list.specs.ListQuestions.{listQuestions}
+use Rattle.gate_list.specs.Reading.{ByteSized}
+use Rattle.gate_list.specs.Reports.{refusalText, textAfter, reportText, reportAnswer, Listed, WorkRoom, ShowRoom, TextReported}
+use Rattle.gate_list.specs.Runs.{runRecord, RunRoom, RunWritten}
+use Rattle.gate_list.proofs.AdmittedChains.{admitted-narrow}
+use Rattle.gate_list.proofs.ListRefusals.{refusal-listed}
+use Rattle.gate_list.proofs.RunLaws.{run-good, run-length}
+use Rattle.gate_list.proofs.RunSteps.{run-same, width-byte}
+
+-- ---- the run shown
+pub show-runs : {l t : List ℕ} → ShowRoom l t → RunRoom l t
+show-runs {l} o = record { asked = o .asked; room = omega (arith, o .long, record-small (listWidth l) (admitted-narrow l (o .asked))) }
+
+pub show-same : {l t e : List ℕ} {n : ℕ} → ShowRoom l t → RunWritten l t e n → length e ≡ length t
+show-same o w = run-same (show-runs o) w
+
+module _ {l t e : List ℕ} {n m k : ℕ} (o : ShowRoom l t) (w : RunWritten l t e n) (b : ByteSized (listWidth l) m) (ek : k ≡ recordLength m) where
+  long : k ≡ length (runRecord l)
+  long = ek ∙ ap recordLength (b .is) ∙ sym (run-length l (o .asked))
+
+  pub show-part : k ≤ length e
+  show-part = omega (arith, run-same (show-runs o) w, show-runs o .room, long, run-length l (o .asked))
+
+  part-is : take (k - 0) e ≡ runRecord l
+  unfolding written
+  part-is = ap (take (k - 0)) (w .bytes) ∙ take-at (runRecord l) (drop (length (runRecord l)) t) (k - 0) (omega (arith, long))
+
+  pub run-shown : {d f : List ℕ} {r : CountAnswer}
+      → CountWritten (displayAnswer (take (k - 0) e) (length d)) (textOfTableau (take (k - 0) e)) d f r → TextReported (textOfTableau (runRecord l)) d f r
+  run-shown {d} {f} {r} x = subst (λ q. CountWritten q (textOfTableau (runRecord l)) d f r) (sym room) (subst (λ (y : List ℕ). CountWritten (displayAnswer y (length d)) (textOfTableau y) d f r) part-is x)
+    where
+      room : roomQuestion (length (textOfTableau (runRecord l))) (length d) ≡ displayAnswer (runRecord l) (length d)
+      room = unfold displayAnswer in passed (sym (formed-good (runRecord l) (run-good l (o .asked) .formed))) refl refl
+
+pub ruleset shows = (show-runs, show-same, show-part, run-shown, width-byte, needs)
+
+-- ---- the report
+module _ (l : List ℕ) {q : Outcome} (e : q ≡ listQuestions l) where
+  pub report-shows : {t : List ℕ} → q ≡ Done → WorkRoom t → ShowRoom l t
+  report-shows h o = record { asked = sym e ∙ h; long = o .long }
+
+  pub report-listed : {x : Refusal} → q ≡ Refused x → Listed x
+  report-listed h = refusal-listed l (sym e ∙ h)
+
+  reported : {text d f : List ℕ} {r : CountAnswer} → text ≡ reportText l → TextReported text d f r → CountWritten (reportAnswer l (length d)) (reportText l) d f r
+  unfolding reportAnswer
+  reported {d = d} {f} {r} z x = subst (λ (y : List ℕ). CountWritten (roomQuestion (length y) (length d)) y d f r) z x
+
+  pub report-run : {d f : List ℕ} {r : CountAnswer} → q ≡ Done → TextReported (textOfTableau (runRecord l)) d f r → CountWritten (reportAnswer l (length d)) (reportText l) d f r
+  unfolding reportText textAfter
+  report-run h x = reported (ap (λ y. textAfter y (textOfTableau (runRecord l))) (sym h ∙ e)) x
+
+  pub report-refusal : {x : Refusal} {d f : List ℕ} {r : CountAnswer} → q ≡ Refused x → TextReported (refusalText x) d f r → CountWritten (reportAnswer l (length d)) (reportText l) d f r
+  unfolding reportText textAfter
+  report-refusal h x = reported (ap (λ y. textAfter y (textOfTableau (runRecord l))) (sym h ∙ e)) x
+
+pub ruleset reports = (report-shows, report-listed, report-run, report-refusal, needs)

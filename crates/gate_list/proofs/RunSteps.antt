@@ -1,0 +1,296 @@
+-- The run: after each gate the record is the product so far, and the gates that are left stand on the rest of the chain.
+use mathlib.Core.Path.{_≡_, refl, sym, ap, ap₂, _∙_, subst}
+use mathlib.Core.List.{List, [], _∷_, _++_, append-nil}
+use Prim.Native.Nat.{ℕ, zero, suc, max, _+_, _*_, _-_, _<_, _≤_}
+use native.Mathlib.Nat.{mul-le-mul-right}
+use native.Mathlib.Omega.{arith}
+use lib.ListN.{length, take, drop, length-append, length-take, length-drop, drop-of-length-le}
+use lib.Seq.{take-length}
+use mir.Val.{Fits}
+use mir.Syntax.{w64}
+use borrow.Author.Needs.{needs}
+use borrow.Rule.Slice.PartMut.{putMid}
+use Rattle.pauli_group.specs.PauliString.{qubits}
+use Rattle.pauli.specs.declared.refusal.Refusal.{Refusal}
+use Rattle.pauli.specs.declared.refusal.Outcome.{Outcome}
+use Rattle.pauli.specs.declared.refusal.Outcome.the-variants.{Done, Refused}
+use Rattle.pauli.specs.declared.refusal.CountAnswer.the-variants.{Count, NoCount}
+use Rattle.pauli.specs.Answers.{written, Written, countAnswer, countReply, replyTo}
+use Rattle.pauli.specs.Questions.{_andThen_, roomQuestion}
+use Rattle.pauli.proofs.Asking.{passed, has-room, done-first, done-second, room-is}
+use Rattle.clifford.specs.Layout.{recordLength, rowLength, widthOf, FormedTableau}
+use Rattle.clifford.specs.GateAnswers.{gateRecord}
+use Rattle.clifford.specs.Playing.{played}
+use Rattle.clifford.specs.Questions.{widthQuestion, identityAnswer}
+use Rattle.clifford.specs.Tableaux.{identityRecord, composeRecord}
+use Rattle.clifford.specs.WayBack.{productFrom, productOf}
+use Rattle.clifford.proofs.TableauAsking.{width-narrow}
+use Rattle.clifford.proofs.PlayedGates.{played-is, played-formed, length-played, width-played}
+use Rattle.clifford.proofs.RecordLaws.{identity-width, identity-good}
+use Rattle.gate_list.specs.Lists.{Play, recordCount, byteOf, listWidth, nextOf, playOf, chainOf, playsOf, gatesOf}
+use Rattle.gate_list.specs.ListQuestions.{listQuestions}
+use Rattle.gate_list.specs.OrderedLists.{PlayFits, PlaysFit, none, more, Chain, ends, links}
+use Rattle.gate_list.specs.Reading.{OwnRecord, ByteSized}
+use Rattle.gate_list.specs.Runs.{tableauxOf, runRecord, stepCount, runAnswer, RunAnswered, RecordRoom, Begins, Ran, RunRoom, RunWritten}
+use Rattle.gate_list.proofs.AdmittedChains.{admitted-chain, admitted-plays, admitted-narrow, admitted-sized, step-count, steps-few}
+use Rattle.gate_list.proofs.RunLaws.{run-length}
+use Rattle.gate_list.proofs.ListAdmitted.{sized-some}
+use Rattle.gate_list.proofs.ListAsking.{own-byte}
+
+-- ---- the chain from record i on, taken apart
+record NextOn (l : List ℕ) (i : ℕ) (rest : List ℕ) : Type 0 where
+  after : List ℕ
+  is : rest ≡ i ∷ after
+  own : i < recordCount l
+  chain : Chain l (nextOf l i) after
+
+next-on : {l : List ℕ} {i : ℕ} {rest : List ℕ} → Chain l i rest → (i ≡ 0 → ⊥) → NextOn l i rest
+next-on ends h = absurd (h refl)
+next-on (links {rest = rest} z o c) h = record { after = rest; is = refl; own = o; chain = c }
+
+chain-over : {l : List ℕ} {i : ℕ} {rest : List ℕ} → Chain l i rest → i ≡ 0 → rest ≡ []
+chain-over ends h = refl
+chain-over (links z o c) h = absurd (z h)
+
+first-fits : {w : ℕ} {p : Play} {rest : List Play} → PlaysFit w (p ∷ rest) → PlayFits w p
+first-fits (more f g) = f
+
+rest-fits : {w : ℕ} {p : Play} {rest : List Play} → PlaysFit w (p ∷ rest) → PlaysFit w rest
+rest-fits (more f g) = g
+
+-- ---- the record after n gates, where record i is next
+pub record Running (l t : List ℕ) (n i : ℕ) : Type 0 where
+  pub rest : List ℕ
+  pub chain : Chain l i rest
+  pub plays : PlaysFit (listWidth l) (playsOf l rest)
+  pub formed : FormedTableau t
+  pub wide : widthOf t ≡ listWidth l
+  pub product : productFrom t (tableauxOf (playsOf l rest)) ≡ runRecord l
+  pub steps : n + length rest ≡ stepCount l
+  pub few : stepCount l ≤ 4095
+
+begins-formed : {l t : List ℕ} → Begins l t → FormedTableau t
+unfolding qubits
+begins-formed {l} b = subst FormedTableau (sym (b .bytes)) (identity-good (listWidth l) (admitted-narrow l (b .asked)) .formed)
+
+begins-wide : {l t : List ℕ} → Begins l t → widthOf t ≡ listWidth l
+begins-wide {l} b = ap widthOf (b .bytes) ∙ identity-width (listWidth l)
+
+pub running-head : {l t : List ℕ} → Begins l t → OwnRecord l 0
+running-head {l} b = record { own = sized-some (admitted-sized l (b .asked)) }
+
+pub running-start : {l t : List ℕ} {i : ℕ} → Begins l t → i ≡ nextOf l 0 → Running l t 0 i
+unfolding runRecord productOf gatesOf
+running-start {l} {t} {i} b e = record {
+  rest = chainOf l;
+  chain = subst (λ (j : ℕ). Chain l j (chainOf l)) (sym e) (admitted-chain l (b .asked));
+  plays = admitted-plays l (b .asked);
+  formed = begins-formed b;
+  wide = begins-wide b;
+  product = ap (λ (x : List ℕ). productFrom x (tableauxOf (playsOf l (chainOf l)))) (b .bytes);
+  steps = omega (arith, step-count l);
+  few = steps-few l (b .asked);
+}
+
+running-long : {l t : List ℕ} {n i : ℕ} → Running l t n i → length t ≡ recordLength (listWidth l)
+running-long r = r .formed .long ∙ ap recordLength (r .wide)
+
+pub running-same : {l t e : List ℕ} {n i : ℕ} → Begins l t → Running l e n i → length e ≡ length t
+running-same b r = running-long r ∙ sym (begins-formed b .long ∙ ap recordLength (begins-wide b))
+
+pub running-end : {l t : List ℕ} {n i : ℕ} → Running l t n i → i ≡ 0 → Ran l t n
+unfolding tableauxOf playsOf productFrom
+running-end {l} {t} {n} r h =
+    let over = chain-over (r .chain) h in
+    record {
+      bytes = sym (ap (λ (x : List ℕ). productFrom t (tableauxOf (playsOf l x))) over) ∙ r .product;
+      steps = omega (arith, ap length over, r .steps);
+    }
+
+module _ {l t : List ℕ} {n i : ℕ} (r : Running l t n i) (h : i ≡ 0 → ⊥) where
+  here : NextOn l i (r .rest)
+  here = next-on (r .chain) h
+
+  pub running-own : OwnRecord l i
+  running-own = record { own = here .own }
+
+  left : n + suc (length (here .after)) ≡ stepCount l
+  left = omega (arith, r .steps, ap length (here .is))
+
+  pub running-fits : Fits w64 (n + 1)
+  running-fits = record { fits = omega (arith, left, r .few) }
+
+  pub running-less : stepCount l - (n + 1) < stepCount l - n
+  running-less = omega (arith, left)
+
+  all-fit : PlaysFit (listWidth l) (playOf l i ∷ playsOf l (here .after))
+  unfolding playsOf
+  all-fit = subst (λ (x : List ℕ). PlaysFit (listWidth l) (playsOf l x)) (here .is) (r .plays)
+
+  fits : PlayFits (listWidth l) (playOf l i)
+  fits = first-fits all-fit
+
+  module _ {e : List ℕ} (ee : e ≡ played (byteOf l i 0) (byteOf l i 1) (byteOf l i 2) t) where
+    in-width : byteOf l i 1 < widthOf t
+    unfolding playOf
+    in-width = omega (arith, fits .first, r .wide)
+
+    second-in : 24 ≤ byteOf l i 0 → byteOf l i 2 < widthOf t
+    unfolding playOf
+    second-in k = omega (arith, fits .second k, r .wide)
+
+    composed : e ≡ composeRecord (gateRecord (byteOf l i 0) (byteOf l i 1) (byteOf l i 2)) t
+    unfolding playOf
+    composed = ee ∙ played-is _ _ _ t (r .formed) (fits .gate) in-width second-in (fits .different)
+
+    made : FormedTableau e
+    unfolding playOf
+    made = subst FormedTableau (sym ee) (played-formed _ _ _ t (r .formed) (fits .gate) in-width second-in (fits .different))
+
+    pub running-step : {k : ℕ} → k ≡ nextOf l i → Running l e (n + 1) k
+    unfolding tableauxOf playsOf playOf productFrom
+    running-step {k} ek = record {
+      rest = here .after;
+      chain = subst (λ (j : ℕ). Chain l j (here .after)) (sym ek) (here .chain);
+      plays = rest-fits all-fit;
+      formed = made;
+      wide = ap widthOf ee ∙ width-played _ _ _ t ∙ r .wide;
+      product = ap (λ (x : List ℕ). productFrom x (tableauxOf (playsOf l (here .after)))) composed
+          ∙ sym (ap (λ (x : List ℕ). productFrom t (tableauxOf (playsOf l x))) (here .is)) ∙ r .product;
+      steps = omega (arith, left);
+      few = r .few;
+    }
+
+pub ruleset runs = (
+  running-head,
+  running-start,
+  running-same,
+  running-end,
+  running-own,
+  running-fits,
+  running-less,
+  running-step,
+  needs,
+)
+
+-- ---- one gate
+pub record-played : (l : List ℕ) (i : ℕ) {a b g x y : ℕ} (t : List ℕ) {e : List ℕ} → a ≡ byteOf l i 1 → ByteSized a x → b ≡ byteOf l i 2 → ByteSized b y → g ≡ byteOf l i 0
+    → e ≡ played g x y t → e ≡ played (byteOf l i 0) (byteOf l i 1) (byteOf l i 2) t
+record-played l i {x = x} {y = y} t ea ex eb ey eg ee =
+    ee ∙ ap (λ (k : ℕ). played k x y t) eg ∙ ap₂ (λ (j k : ℕ). played (byteOf l i 0) j k t) (ex .is ∙ ea) (ey .is ∙ eb)
+
+pub played-same : (g q r : ℕ) (t : List ℕ) {e : List ℕ} → e ≡ played g q r t → length e ≡ length t
+played-same g q r t h = ap length h ∙ length-played g q r t
+
+pub ruleset record-plays = (own-byte, record-played, played-same, needs)
+
+-- ---- the length of a record
+length-small : (w : ℕ) → w < 256 → 2 * w * (w + 1) ≤ 2 * 255 * 256
+length-small w h = omega (arith, mul-le-mul-right {m = w} {n = 255} (w + 1) (omega arith))
+
+pub length-fits : (w : ℕ) → w < 256 → Fits w64 (2 * w * (w + 1))
+length-fits w h = record { fits = omega (arith, length-small w h) }
+
+pub length-one-fits : (w : ℕ) → w < 256 → Fits w64 (1 + 2 * w * (w + 1))
+length-one-fits w h = record { fits = omega (arith, length-small w h) }
+
+pub length-is : (w : ℕ) → 1 + 2 * w * (w + 1) ≡ recordLength w
+length-is w = unfold recordLength rowLength in omega arith
+
+pub ruleset lengths = (length-fits, length-one-fits, length-is, needs)
+
+-- ---- the answer
+pub run-asked : (l : List ℕ) (room : ℕ) {n k : ℕ} {q r a : Outcome} → q ≡ listQuestions l → ByteSized (listWidth l) n → k ≡ recordLength n → r ≡ roomQuestion k room → a ≡ q andThen r
+    → a ≡ runAnswer l room
+unfolding runAnswer
+run-asked l room eq en ek er ea =
+    ea ∙ ap₂ _andThen_ eq (er ∙ ap (λ (j : ℕ). roomQuestion j room) (ek ∙ ap recordLength (en .is)))
+
+pub width-byte : {w n : ℕ} → ByteSized w n → n < 256
+width-byte o = o .small
+
+pub ruleset run-asks = (run-asked, width-byte, needs)
+
+-- ---- the identity in a record's own bytes
+pub run-begins : {l t e : List ℕ} {n : ℕ} {r : Outcome} → RecordRoom l t → ByteSized (listWidth l) n → Written (identityAnswer n (length t)) (identityRecord n) t e r → Begins l e
+unfolding identityAnswer written
+run-begins {l} {t} {e} {n} o b w =
+    let narrow : n ≤ 128 = omega (arith, admitted-narrow l (o .asked), b .is) in
+    let long : length t ≡ recordLength n = o .long ∙ ap recordLength (sym (b .is)) in
+    let own : length (identityRecord n) ≡ recordLength n = identity-length n narrow in
+    let done : Done ≡ identityAnswer n (length t) = passed (width-narrow narrow) refl (has-room (recordLength n) (length t) (omega arith)) in
+    let bytes : e ≡ identityRecord n ++ drop (length (identityRecord n)) t = w .bytes ∙ ap (λ q. written q (identityRecord n) t) (sym done) in
+    let none : drop (length (identityRecord n)) t ≡ [] = drop-of-length-le t {i = length (identityRecord n)} (omega arith) in
+    record {
+      asked = o .asked;
+      bytes = bytes ∙ ap (λ (x : List ℕ). identityRecord n ++ x) none ∙ append-nil (identityRecord n) ∙ ap identityRecord (b .is);
+    }
+  where
+    identity-length : (n : ℕ) → n ≤ 128 → length (identityRecord n) ≡ recordLength n
+    identity-length n h = identity-good n (unfold qubits in h) .formed .long ∙ ap recordLength (identity-width n)
+
+pub begins-same : {l t e : List ℕ} → RecordRoom l t → Begins l e → length e ≡ length t
+begins-same o b = begins-formed b .long ∙ ap recordLength (begins-wide b) ∙ sym (o .long)
+
+pub ruleset run-starts = (run-begins, begins-same, needs)
+
+-- ---- the record in the front of a destination
+ran-long : {l e : List ℕ} {r : ℕ} → listQuestions l ≡ Done → Ran l e r → length e ≡ recordLength (listWidth l)
+ran-long {l} h r = ap length (r .bytes) ∙ run-length l h
+
+pub run-room : {l d : List ℕ} {n k : ℕ} → RunRoom l d → ByteSized (listWidth l) n → k ≡ recordLength n → k ≤ length d
+run-room o b e = omega (arith, o .room, e, ap recordLength (b .is))
+
+module _ {l d : List ℕ} {n k : ℕ} (o : RunRoom l d) (b : ByteSized (listWidth l) n) (e : k ≡ recordLength n) where
+  own : k ≡ recordLength (listWidth l)
+  own = e ∙ ap recordLength (b .is)
+
+  pub run-part : RecordRoom l (take (k - 0) d)
+  run-part = record { asked = o .asked; long = length-take (k - 0) d ∙ omega (arith, own, o .room) }
+
+  pub run-put : {ys : List ℕ} {r : ℕ} → Ran l ys r → RunWritten l d (putMid 0 (k - 0) d ys) r
+  unfolding written
+  run-put {ys} x =
+      let long : k - 0 ≡ length (runRecord l) = omega (arith, own, run-length l (o .asked)) in
+      record { bytes = ap₂ (λ (a : List ℕ) (j : ℕ). a ++ drop j d) (x .bytes) long; steps = x .steps }
+
+  pub run-put-same : {ys : List ℕ} {r : ℕ} → Ran l ys r → length (putMid 0 (k - 0) d ys) ≡ length d
+  run-put-same {ys} x =
+      length-append ys (drop (k - 0) d) ∙ omega (arith, ap length (x .bytes), run-length l (o .asked), own, o .room, length-drop (k - 0) d)
+
+  pub run-ran-same : {ys : List ℕ} {r : ℕ} → Ran l ys r → length ys ≡ length (take (k - 0) d)
+  run-ran-same x = omega (arith, ap length (x .bytes), run-length l (o .asked), own, o .room, length-take (k - 0) d)
+
+pub ruleset run-writes = (run-room, run-part, run-put, run-put-same, run-ran-same, width-byte, needs)
+
+-- ---- the public answer
+pub run-admits : {l d : List ℕ} {q : Outcome} → q ≡ runAnswer l (length d) → q ≡ Done → RunRoom l d
+unfolding runAnswer
+run-admits {l} {d} e h =
+    let all = sym e ∙ h in
+    record { asked = done-first _ _ all; room = room-is _ (length d) (done-second (listQuestions l) _ all) }
+
+count-told : (q : Outcome) (n : ℕ) → countReply (countAnswer q n) ≡ replyTo q n
+unfolding countReply countAnswer replyTo
+count-told Done n = refl
+count-told (Refused r) n = refl
+
+pub run-done : {l d e : List ℕ} {q r : Outcome} {n : ℕ} → r ≡ q → r ≡ Done → RunWritten l d e n → RunAnswered q (stepCount l) (runRecord l) d e (Count n)
+unfolding countAnswer
+run-done {l} {d} {q = q} p h w =
+    let answer = ap Count (w .steps) ∙ ap (λ x. countAnswer x (stepCount l)) (sym h ∙ p) in
+    record { answer = answer; told = ap countReply answer ∙ count-told q (stepCount l); bytes = w .bytes ∙ ap (λ x. written x (runRecord l) d) (sym h ∙ p) }
+
+pub run-not : {q r : Outcome} {x : Refusal} (n : ℕ) (out d : List ℕ) → r ≡ q → r ≡ Refused x → RunAnswered q n out d d (NoCount x)
+unfolding countAnswer written
+run-not {q} n out d p h =
+    let answer = ap (λ x. countAnswer x n) (sym h ∙ p) in
+    record { answer = answer; told = ap countReply answer ∙ count-told q n; bytes = ap (λ x. written x out d) (sym h ∙ p) }
+
+pub run-same : {l d e : List ℕ} {n : ℕ} → RunRoom l d → RunWritten l d e n → length e ≡ length d
+unfolding written
+run-same {l} {d} o w =
+    ap length (w .bytes) ∙ length-append (runRecord l) (drop (length (runRecord l)) d)
+    ∙ omega (arith, run-length l (o .asked), o .room, length-drop (length (runRecord l)) d)
+
+pub ruleset run-answers = (run-admits, run-done, run-not, run-same, needs)

@@ -1,0 +1,12 @@
+-- `reporting::report_refusal` meets its contract.
+use Rattle.gate_list.proofs.RefusalTexts.{text-reports}
+use Rattle.gate_list.proofs.reporting.report_refusal.Statement.{statement}
+use Rattle.gate_list.proofs.reporting.report_refusal.Tie as tie
+
+pub report-refusal-spec : {M : Type 1} → statement M
+report-refusal-spec =
+    tie.close
+    (tie.spec
+    (λ c κs. search text-reports) (λ c κs. search text-reports) (λ c. search text-reports)
+    (λ c κs. search text-reports) (λ c. search text-reports) (λ c. search text-reports)
+    (λ c. search text-reports) (λ c. search text-reports))

@@ -1,0 +1,35 @@
+// The walk along the chain of a list.
+ghost use mathlib.Core.Path.{_≡_};
+ghost use mathlib.Core.List.{[]};
+ghost use Prim.Native.Nat.{_-_};
+ghost use Rattle.gate_list.specs.Lists.{recordCount, nextOf};
+ghost use Rattle.gate_list.specs.ListQuestions.{chainQuestions};
+ghost use Rattle.gate_list.specs.Reading.{Unmet};
+use crate::questions::check_record;
+use crate::reading::next;
+use pauli::refusal::Outcome;
+use pauli::refusal::Refusal;
+
+// The records from the head's link on, each marked when it is met.
+pub(crate) fn check_chain(list: &[u8], met: &mut [u8]) -> Outcome
+    requires { ⌜ Unmet (now list) (now met) ⌝ }
+    ensures { λ r. ⌜ r ≡ chainQuestions (now (list .entry)) [] (recordCount (now (list .entry)) - 1) (nextOf (now (list .entry)) 0) ⌝ }
+{
+    // The record whose link is followed.
+    let mut at = 0;
+    loop {
+        let i = next(list, at);
+        if i == 0 {
+            return Outcome::Done;
+        }
+        if met[i] != 0 {
+            return Outcome::Refused(Refusal::Loop { record: i });
+        }
+        let answer = check_record(list, i);
+        let Outcome::Done = answer else {
+            return answer;
+        };
+        met[i] = 1;
+        at = i;
+    }
+}
