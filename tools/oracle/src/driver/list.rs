@@ -1,6 +1,6 @@
 //! Gate lists: the same `compose` calls made in the Rust.
 
-use super::answer::Answer;
+use super::answer::{Answer, counted};
 use super::gates::{GATES, gate_of, qubits_of};
 use super::line::Call;
 use super::records::{QUBITS, write_tableau};
@@ -47,16 +47,31 @@ fn steps_of(list: &[u8]) -> Option<(usize, Vec<Step>)> {
     Some((width, steps))
 }
 
-fn run(call: &Call) -> Option<Answer> {
-    let (width, steps) = steps_of(&call.b1)?;
+/// The run of a well-formed list, and its steps.
+fn played(list: &[u8]) -> Option<(CliffordRep, usize)> {
+    let (width, steps) = steps_of(list)?;
     let mut record = CliffordRep::identity(width);
     for (gate, q0, q1) in &steps {
         record = gate.on_qubits(*q0, *q1).compose(&record);
     }
-    Some(Answer::Written(steps.len() as u64, write_tableau(&record)?))
+    Some((record, steps.len()))
+}
+
+fn run(call: &Call) -> Option<Answer> {
+    let (record, steps) = played(&call.b1)?;
+    Some(Answer::Written(steps as u64, write_tableau(&record)?))
+}
+
+fn report(call: &Call) -> Option<Answer> {
+    let (record, _) = played(&call.b1)?;
+    Some(counted(record.to_string().into_bytes()))
 }
 
 /// Outer nothing: no name of this file. Inner nothing: outside the compared domain.
 pub fn answer(call: &Call) -> Option<Option<Answer>> {
-    (call.name == "run").then(|| run(call))
+    match call.name.as_str() {
+        "run" => Some(run(call)),
+        "report" => Some(report(call)),
+        _ => None,
+    }
 }

@@ -72,8 +72,11 @@ fn list(width: u8, gates: &[(Clifford, usize, usize)], places: &[usize], records
     }
 }
 
+/// The run of a list, and what the program writes of it.
 fn run(book: &mut Book, list: &[[u8; 6]], more: usize) {
-    book.add_sized(&Call::new("run").b1(list.as_flattened()), more);
+    for name in ["run", "report"] {
+        book.add_sized(&Call::new(name).b1(list.as_flattened()), more);
+    }
 }
 
 pub fn fill_lists(book: &mut Book) {
@@ -99,6 +102,7 @@ pub fn fill_lists(book: &mut Book) {
         run(book, records, 0);
     }
     random_lists(book, random);
+    wide_lists(book, random);
     long_lists(book, random);
 }
 
@@ -119,6 +123,14 @@ fn random_lists(book: &mut Book, random: &mut Random) {
         let (width, count, spare) = (1 + turn % 6, 1 + random.below(30), random.below(5));
         let records = random_list(random, width, count, spare);
         run(book, &records, turn % 3);
+    }
+}
+
+fn wide_lists(book: &mut Book, random: &mut Random) {
+    book.comment("Wide lists: the letters stay few, so that the lines are short.");
+    for width in [8, 20, 33, 64, 100, 127, 128] {
+        let records = random_list(random, width, 12, 2);
+        run(book, &records, 1);
     }
 }
 
