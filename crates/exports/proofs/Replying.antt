@@ -16,6 +16,7 @@ use Rattle.pauli.specs.Answers.{outcomeReply, productReply, byteReply, flagRepl
 use Rattle.clifford.specs.declared.clifford.GateAnswer.{GateAnswer}
 use Rattle.clifford.specs.Answers.{CountAnswered}
 use Rattle.clifford.specs.GateAnswers.{gateReply, GateAnswered, NameAnswered}
+use Rattle.gate_list.specs.Runs.{RunAnswered}
 use Rattle.exports.specs.Replies.{Replied, RepliedWith, nameOr255}
 
 pub byte-replied : {q : Outcome} {b : ℕ} {x : ByteAnswer} {r : Reply} → ByteAnswered q b x → r ≡ byteReply x → Replied q b r
@@ -46,6 +47,9 @@ product-replied h e = record { reply = e ∙ h .told; bytes = h .bytes }
 pub count-replied : {q : Outcome} {out d e : List ℕ} {x : CountAnswer} {r : Reply} → CountWritten q out d e x → r ≡ countReply x → RepliedWith q (length out) out d e r
 count-replied h e = record { reply = e ∙ h .told; bytes = h .bytes }
 
+pub run-replied : {q : Outcome} {n : ℕ} {out d e : List ℕ} {x : CountAnswer} {r : Reply} → RunAnswered q n out d e x → r ≡ countReply x → RepliedWith q n out d e r
+run-replied h e = record { reply = e ∙ h .told; bytes = h .bytes }
+
 pub ruleset replies = (
   byte-replied,
   flag-replied,
@@ -56,5 +60,6 @@ pub ruleset replies = (
   written-replied,
   product-replied,
   count-replied,
+  run-replied,
   needs,
 )

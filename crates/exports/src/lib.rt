@@ -18,9 +18,12 @@ ghost use Rattle.clifford.specs.Questions.{tableauQuestions, imageQuestions, se
 ghost use Rattle.clifford.specs.Tableaux.{recordValid, setXRecord, setZRecord, identityRecord, applyRecord, composeRecord, extendRecord, inverseRecord, pauliRecord, supportBytes};
 ghost use Rattle.clifford.specs.GateQuestions.{gateQuestion, onQubitsAnswer, onQubitAnswer, composeGateQuestions};
 ghost use Rattle.clifford.specs.GateAnswers.{gateRecord, oneQubitRecord, productRecord, recordName};
+ghost use Rattle.gate_list.specs.Runs.{runAnswer, runRecord, stepCount};
+ghost use Rattle.gate_list.specs.Reports.{reportAnswer, reportText};
 ghost use Rattle.exports.specs.Replies.{Replied, RepliedWith, mulRecord, nameOr255};
 use clifford::clifford as gates;
 use clifford::clifford_rep;
+use gate_list::gate_list as lists;
 use pauli::algebra;
 use pauli::pauli_string;
 use pauli::quarter_phase;
@@ -257,4 +260,20 @@ pub extern "C" fn rc_from_clifford_rep(t: &[u8]) -> Reply
     ensures { λ r. ⌜ Replied (tableauQuestions (now (t .entry))) (nameOr255 (recordName (now (t .entry)))) r ⌝ }
 {
     gates::gate_reply(gates::from_clifford_rep(t))
+}
+
+// ---- lists
+
+#[no_mangle]
+pub extern "C" fn rc_run(list: &[u8], dst: &mut [u8]) -> Reply
+    ensures { λ r. ⌜ RepliedWith (runAnswer (now (list .entry)) (length (now (dst .entry)))) (stepCount (now (list .entry))) (runRecord (now (list .entry))) (now (dst .entry)) (now (dst .exit)) r ⌝ }
+{
+    refusal::count_reply(lists::run(list, dst))
+}
+
+#[no_mangle]
+pub extern "C" fn rc_report(list: &[u8], out: &mut [u8]) -> Reply
+    ensures { λ r. ⌜ RepliedWith (reportAnswer (now (list .entry)) (length (now (out .entry)))) (length (reportText (now (list .entry)))) (reportText (now (list .entry))) (now (out .entry)) (now (out .exit)) r ⌝ }
+{
+    refusal::count_reply(lists::report(list, out))
 }
