@@ -1,7 +1,7 @@
 -- The questions put to tableaux: what is let by, and what an answer says of the bytes.
 use mathlib.Core.Path.{_≡_, refl, sym, ap, _∙_}
 use mathlib.Core.List.{List, [], _∷_}
-use Prim.Native.Nat.{ℕ, zero, suc, _+_, _*_, _-_, _<_, _≤_}
+use Prim.Native.Nat.{ℕ, zero, suc, min, _+_, _*_, _-_, _<_, _≤_}
 use native.Mathlib.Nat.{not-suc-le-zero}
 use native.Mathlib.Omega.{arith}
 use lib.Dec.{ltb, leb, eqb}
@@ -200,3 +200,7 @@ admitted-tableaux b e = sym (record-there (tableau-formed b e))
 
 pub admitted-proper : (b : List ℕ) → tableauQuestions b ≡ Done → Proper (tableauOf b)
 admitted-proper b e = proper-of (tableau-formed b e)
+
+-- ---- the size of a record
+pub size-capped : (w : ℕ) {k n : ℕ} → k ≡ min w 128 → Sized (recordLength k) n → n ≡ recordLength (min w 128)
+size-capped w e s = s .is ∙ ap recordLength e

@@ -1,13 +1,16 @@
 // The questions on entry that are put to tableaux. Each answers Done, or the refusal.
 ghost use mathlib.Core.Path.{_≡_};
+ghost use Prim.Native.Nat.{min};
 ghost use lib.ListN.{drop};
 ghost use Rattle.pauli.specs.Questions.{bytesQuestion};
+ghost use Rattle.clifford.specs.Layout.{recordLength};
 ghost use Rattle.clifford.specs.Questions.{widthQuestion, slotQuestion, tableauQuestions, composeQuestions};
 use crate::layout::record_length;
 use crate::layout::width;
 use pauli::refusal::Outcome;
 use pauli::refusal::Refusal;
 use pauli::rows::first_bad;
+use pauli::rows::smaller;
 
 pub fn check_width(width: usize) -> Outcome
     ensures { λ r. ⌜ r ≡ widthQuestion width ⌝ }
@@ -16,6 +19,13 @@ pub fn check_width(width: usize) -> Outcome
         return Outcome::Refused(Refusal::Width);
     }
     Outcome::Done
+}
+
+// The bytes of a tableau record of this width; a width above 128 has no record and is taken as 128.
+pub fn record_size(width: usize) -> usize
+    ensures { λ r. ⌜ r ≡ recordLength (min width 128) ⌝ }
+{
+    record_length(smaller(width, 128))
 }
 
 // A qubit of a tableau whose image is meant.
