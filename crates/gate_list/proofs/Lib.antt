@@ -9,3 +9,4 @@ pub mod RunAnswers
 pub mod RefusalTexts
 pub mod ListRefusals
 pub mod RunReports
+pub mod OrderedChains
