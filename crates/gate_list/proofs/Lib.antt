@@ -10,3 +10,4 @@ pub mod RefusalTexts
 pub mod ListRefusals
 pub mod RunReports
 pub mod OrderedChains
+pub mod ListReadings
