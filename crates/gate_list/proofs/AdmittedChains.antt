@@ -62,12 +62,12 @@ module _ (l : List ℕ) (i : ℕ) (e : recordQuestions l i ≡ Done) where
   }
 
 -- ---- the chain
-chain-none : (l : List ℕ) (n i : ℕ) → i ≡ 0 → chainFrom l n i ≡ []
+pub chain-none : (l : List ℕ) (n i : ℕ) → i ≡ 0 → chainFrom l n i ≡ []
 unfolding chainFrom
 chain-none l zero i h = refl
 chain-none l (suc n) i h = ap (λ b. cond b [] (i ∷ chainFrom l n (nextOf l i))) (eq-eqb i 0 h)
 
-chain-one : (l : List ℕ) (n i : ℕ) → (i ≡ 0 → ⊥) → chainFrom l (suc n) i ≡ i ∷ chainFrom l n (nextOf l i)
+pub chain-one : (l : List ℕ) (n i : ℕ) → (i ≡ 0 → ⊥) → chainFrom l (suc n) i ≡ i ∷ chainFrom l n (nextOf l i)
 unfolding chainFrom
 chain-one l n i h = ap (λ b. cond b [] (i ∷ chainFrom l n (nextOf l i))) (ne-eqb i 0 h)
 

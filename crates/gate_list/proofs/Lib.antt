@@ -2,8 +2,12 @@ pub mod ListAsking
 pub mod Chains
 pub mod ListAdmitted
 pub mod AdmittedChains
-pub mod RunLaws
+pub mod GateOrder
 pub mod RunSteps
+pub mod RunTableaux
+pub mod RunAnswers
 pub mod RefusalTexts
 pub mod ListRefusals
 pub mod RunReports
+pub mod OrderedChains
+pub mod ListReadings

@@ -25,8 +25,8 @@ use Rattle.gate_list.specs.Reports.{refusalText, textAfter, reportText, 
 use Rattle.gate_list.specs.Runs.{runRecord, RunRoom, RunWritten}
 use Rattle.gate_list.proofs.AdmittedChains.{admitted-narrow}
 use Rattle.gate_list.proofs.ListRefusals.{refusal-listed}
-use Rattle.gate_list.proofs.RunLaws.{run-good, run-length}
-use Rattle.gate_list.proofs.RunSteps.{run-same, width-byte}
+use Rattle.gate_list.proofs.RunTableaux.{run-good, run-length}
+use Rattle.gate_list.proofs.RunAnswers.{run-same, width-byte}
 
 -- ---- the run shown
 pub show-runs : {l t : List ℕ} → ShowRoom l t → RunRoom l t

@@ -32,8 +32,8 @@ use Rattle.gate_list.specs.ListQuestions.{listQuestions}
 use Rattle.gate_list.specs.OrderedLists.{PlayFits, PlaysFit, none, more, Chain, ends, links}
 use Rattle.gate_list.specs.Reading.{OwnRecord, ByteSized}
 use Rattle.gate_list.specs.Runs.{tableauxOf, runRecord, stepCount, runAnswer, RunAnswered, RecordRoom, Begins, Ran, RunRoom, RunWritten}
+use Rattle.gate_list.proofs.GateOrder.{product-first}
 use Rattle.gate_list.proofs.AdmittedChains.{admitted-chain, admitted-plays, admitted-narrow, admitted-sized, step-count, steps-few}
-use Rattle.gate_list.proofs.RunLaws.{run-length}
 use Rattle.gate_list.proofs.ListAdmitted.{sized-some}
 use Rattle.gate_list.proofs.ListAsking.{own-byte}
 
@@ -148,14 +148,14 @@ module _ {l t : List ℕ} {n i : ℕ} (r : Running l t n i) (h : i ≡ 0 → ⊥
     made = subst FormedTableau (sym ee) (played-formed _ _ _ t (r .formed) (fits .gate) in-width second-in (fits .different))
 
     pub running-step : {k : ℕ} → k ≡ nextOf l i → Running l e (n + 1) k
-    unfolding tableauxOf playsOf playOf productFrom
+    unfolding playsOf playOf
     running-step {k} ek = record {
       rest = here .after;
       chain = subst (λ (j : ℕ). Chain l j (here .after)) (sym ek) (here .chain);
       plays = rest-fits all-fit;
       formed = made;
       wide = ap widthOf ee ∙ width-played _ _ _ t ∙ r .wide;
-      product = ap (λ (x : List ℕ). productFrom x (tableauxOf (playsOf l (here .after)))) composed
+      product = ap (λ (x : List ℕ). productFrom x (tableauxOf (playsOf l (here .after)))) composed ∙ sym (product-first t (playOf l i) (playsOf l (here .after)))
           ∙ sym (ap (λ (x : List ℕ). productFrom t (tableauxOf (playsOf l x))) (here .is)) ∙ r .product;
       steps = omega (arith, left);
       few = r .few;
@@ -199,18 +199,6 @@ length-is w = unfold recordLength rowLength in omega arith
 
 pub ruleset lengths = (length-fits, length-one-fits, length-is, needs)
 
--- ---- the answer
-pub run-asked : (l : List ℕ) (room : ℕ) {n k : ℕ} {q r a : Outcome} → q ≡ listQuestions l → ByteSized (listWidth l) n → k ≡ recordLength n → r ≡ roomQuestion k room → a ≡ q andThen r
-    → a ≡ runAnswer l room
-unfolding runAnswer
-run-asked l room eq en ek er ea =
-    ea ∙ ap₂ _andThen_ eq (er ∙ ap (λ (j : ℕ). roomQuestion j room) (ek ∙ ap recordLength (en .is)))
-
-pub width-byte : {w n : ℕ} → ByteSized w n → n < 256
-width-byte o = o .small
-
-pub ruleset run-asks = (run-asked, width-byte, needs)
-
 -- ---- the identity in a record's own bytes
 pub run-begins : {l t e : List ℕ} {n : ℕ} {r : Outcome} → RecordRoom l t → ByteSized (listWidth l) n → Written (identityAnswer n (length t)) (identityRecord n) t e r → Begins l e
 unfolding identityAnswer written
@@ -233,64 +221,3 @@ pub begins-same : {l t e : List ℕ} → RecordRoom l t → Begins l e → lengt
 begins-same o b = begins-formed b .long ∙ ap recordLength (begins-wide b) ∙ sym (o .long)
 
 pub ruleset run-starts = (run-begins, begins-same, needs)
-
--- ---- the record in the front of a destination
-ran-long : {l e : List ℕ} {r : ℕ} → listQuestions l ≡ Done → Ran l e r → length e ≡ recordLength (listWidth l)
-ran-long {l} h r = ap length (r .bytes) ∙ run-length l h
-
-pub run-room : {l d : List ℕ} {n k : ℕ} → RunRoom l d → ByteSized (listWidth l) n → k ≡ recordLength n → k ≤ length d
-run-room o b e = omega (arith, o .room, e, ap recordLength (b .is))
-
-module _ {l d : List ℕ} {n k : ℕ} (o : RunRoom l d) (b : ByteSized (listWidth l) n) (e : k ≡ recordLength n) where
-  own : k ≡ recordLength (listWidth l)
-  own = e ∙ ap recordLength (b .is)
-
-  pub run-part : RecordRoom l (take (k - 0) d)
-  run-part = record { asked = o .asked; long = length-take (k - 0) d ∙ omega (arith, own, o .room) }
-
-  pub run-put : {ys : List ℕ} {r : ℕ} → Ran l ys r → RunWritten l d (putMid 0 (k - 0) d ys) r
-  unfolding written
-  run-put {ys} x =
-      let long : k - 0 ≡ length (runRecord l) = omega (arith, own, run-length l (o .asked)) in
-      record { bytes = ap₂ (λ (a : List ℕ) (j : ℕ). a ++ drop j d) (x .bytes) long; steps = x .steps }
-
-  pub run-put-same : {ys : List ℕ} {r : ℕ} → Ran l ys r → length (putMid 0 (k - 0) d ys) ≡ length d
-  run-put-same {ys} x =
-      length-append ys (drop (k - 0) d) ∙ omega (arith, ap length (x .bytes), run-length l (o .asked), own, o .room, length-drop (k - 0) d)
-
-  pub run-ran-same : {ys : List ℕ} {r : ℕ} → Ran l ys r → length ys ≡ length (take (k - 0) d)
-  run-ran-same x = omega (arith, ap length (x .bytes), run-length l (o .asked), own, o .room, length-take (k - 0) d)
-
-pub ruleset run-writes = (run-room, run-part, run-put, run-put-same, run-ran-same, width-byte, needs)
-
--- ---- the public answer
-pub run-admits : {l d : List ℕ} {q : Outcome} → q ≡ runAnswer l (length d) → q ≡ Done → RunRoom l d
-unfolding runAnswer
-run-admits {l} {d} e h =
-    let all = sym e ∙ h in
-    record { asked = done-first _ _ all; room = room-is _ (length d) (done-second (listQuestions l) _ all) }
-
-count-told : (q : Outcome) (n : ℕ) → countReply (countAnswer q n) ≡ replyTo q n
-unfolding countReply countAnswer replyTo
-count-told Done n = refl
-count-told (Refused r) n = refl
-
-pub run-done : {l d e : List ℕ} {q r : Outcome} {n : ℕ} → r ≡ q → r ≡ Done → RunWritten l d e n → RunAnswered q (stepCount l) (runRecord l) d e (Count n)
-unfolding countAnswer
-run-done {l} {d} {q = q} p h w =
-    let answer = ap Count (w .steps) ∙ ap (λ x. countAnswer x (stepCount l)) (sym h ∙ p) in
-    record { answer = answer; told = ap countReply answer ∙ count-told q (stepCount l); bytes = w .bytes ∙ ap (λ x. written x (runRecord l) d) (sym h ∙ p) }
-
-pub run-not : {q r : Outcome} {x : Refusal} (n : ℕ) (out d : List ℕ) → r ≡ q → r ≡ Refused x → RunAnswered q n out d d (NoCount x)
-unfolding countAnswer written
-run-not {q} n out d p h =
-    let answer = ap (λ x. countAnswer x n) (sym h ∙ p) in
-    record { answer = answer; told = ap countReply answer ∙ count-told q n; bytes = ap (λ x. written x out d) (sym h ∙ p) }
-
-pub run-same : {l d e : List ℕ} {n : ℕ} → RunRoom l d → RunWritten l d e n → length e ≡ length d
-unfolding written
-run-same {l} {d} o w =
-    ap length (w .bytes) ∙ length-append (runRecord l) (drop (length (runRecord l)) d)
-    ∙ omega (arith, run-length l (o .asked), o .room, length-drop (length (runRecord l)) d)
-
-pub ruleset run-answers = (run-admits, run-done, run-not, run-same, needs)

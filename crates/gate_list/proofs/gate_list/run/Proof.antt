@@ -1,5 +1,5 @@
 -- `gate_list::run` meets its contract: the questions, and the run where they let it by.
-use Rattle.gate_list.proofs.RunSteps.{run-answers}
+use Rattle.gate_list.proofs.RunAnswers.{run-answers}
 use Rattle.gate_list.proofs.gate_list.run.Statement.{statement}
 use Rattle.gate_list.proofs.gate_list.run.Tie as tie
 

@@ -1,5 +1,5 @@
 -- `gate_list::run_answer` meets its contract: the questions in their order.
-use Rattle.gate_list.proofs.RunSteps.{run-asks}
+use Rattle.gate_list.proofs.RunAnswers.{run-asks}
 use Rattle.gate_list.proofs.gate_list.run_answer.Statement.{statement}
 use Rattle.gate_list.proofs.gate_list.run_answer.Tie as tie
 

@@ -1,5 +1,5 @@
 -- `running::write_run` meets its contract.
-use Rattle.gate_list.proofs.RunSteps.{run-writes}
+use Rattle.gate_list.proofs.RunAnswers.{run-writes}
 use Rattle.gate_list.proofs.running.write_run.Statement.{statement}
 use Rattle.gate_list.proofs.running.write_run.Tie as tie
 

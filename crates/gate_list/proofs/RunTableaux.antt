@@ -23,6 +23,7 @@ use Rattle.gate_list.specs.Lists.{Play, listWidth, gatesOf}
 use Rattle.gate_list.specs.ListQuestions.{listQuestions}
 use Rattle.gate_list.specs.OrderedLists.{PlayFits, PlaysFit, none, more}
 use Rattle.gate_list.specs.Runs.{tableauxOf, runRecord}
+use Rattle.gate_list.proofs.GateOrder.{product-first}
 use Rattle.gate_list.proofs.AdmittedChains.{admitted-plays, admitted-narrow}
 
 -- ---- one gate
@@ -57,8 +58,9 @@ pub record ValidOf (w : ℕ) (t : List ℕ) : Type 0 where
 product-valid : {w : ℕ} {ps : List Play} {t : List ℕ} → w ≤ qubits → PlaysFit w ps → ValidOf w t → ValidOf w (productFrom t (tableauxOf ps))
 unfolding productFrom tableauxOf
 product-valid small none v = v
-product-valid small (more f rest) v =
-    product-valid small rest (record { good = then-good small f (v .good) (v .width); width = then-width small f (v .good) (v .width) })
+product-valid {w} {t = t} small (more {p} {rest} f g) v =
+    subst (ValidOf w) (sym (product-first t p rest))
+    (product-valid small g (record { good = then-good small f (v .good) (v .width); width = then-width small f (v .good) (v .width) }))
 
 module _ (l : List ℕ) (e : listQuestions l ≡ Done) where
   small : listWidth l ≤ qubits

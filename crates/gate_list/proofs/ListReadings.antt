@@ -1,0 +1,94 @@
+-- Lists on which two readings of the questions could differ, with the answer of their run. The definitions are computed on them.
+use mathlib.Core.Path.{_≡_, refl, ap₂}
+use mathlib.Core.Bool.{Bool, true, false, _&&_}
+use mathlib.Core.List.{List, [], _∷_}
+use Prim.Native.Nat.{ℕ}
+use lib.Dec.{eqb}
+use lib.ListN.{length}
+use borrow.Author.Tests.{eqb-true}
+use Rattle.pauli_group.specs.PauliString.{qubits}
+use Rattle.pauli.specs.declared.refusal.Reply.{Reply}
+use Rattle.pauli.specs.Answers.{refusalNumber, refusalDetail, reply, refusalReply, outcomeReply}
+use Rattle.pauli.specs.Questions.{ask, _andThen_, roomQuestion}
+use Rattle.clifford.specs.Layout.{rowLength, recordLength}
+use Rattle.clifford.specs.Questions.{widthQuestion}
+use Rattle.gate_list.specs.Lists.{Play, recordCount, byteOf, listWidth, nextOf, playOf, chainFrom, chainOf, playsOf, gatesOf}
+use Rattle.gate_list.specs.ListQuestions.{sizeQuestion, headQuestion, linkQuestion, zerosQuestion, gateQuestion, qubitQuestion, secondQuestions, recordQuestions, isMet, chainQuestions, listQuestions}
+use Rattle.gate_list.specs.Runs.{runAnswer}
+use Rattle.gate_list.proofs.ListAdmitted.{and-first, and-second}
+
+-- number 0 is for a list that runs
+pub record Reading : Type 0 where
+  pub list : List ℕ
+  pub room : ℕ
+  pub number : ℕ
+  pub detail : ℕ
+
+abbrev pub reading : List ℕ → ℕ → ℕ → ℕ → Reading
+reading l room n d = record { list = l; room = room; number = n; detail = d }
+
+-- H on 0, CX 0 to 1
+abbrev pub example : List ℕ
+example = 0 ∷ 2 ∷ 0 ∷ 0 ∷ 1 ∷ 0 ∷ 4 ∷ 0 ∷ 0 ∷ 0 ∷ 2 ∷ 0 ∷ 24 ∷ 0 ∷ 1 ∷ 0 ∷ 0 ∷ 0 ∷ []
+
+-- a head of width 2, and one record
+abbrev one : ℕ → ℕ → ℕ → ℕ → ℕ → List ℕ
+one g q r z n = 0 ∷ 2 ∷ 0 ∷ 0 ∷ 1 ∷ 0 ∷ g ∷ q ∷ r ∷ z ∷ n ∷ 0 ∷ []
+
+abbrev pub readings : List Reading
+readings =
+    reading example 13 0 0
+    ∷ reading example 12 7 0
+    ∷ reading [] 0 16 0
+    ∷ reading (0 ∷ 129 ∷ 0 ∷ 0 ∷ 0 ∷ 0 ∷ 0 ∷ []) 0 16 0
+    ∷ reading (1 ∷ 129 ∷ 0 ∷ 0 ∷ 0 ∷ 0 ∷ []) 0 1 0
+    ∷ reading (1 ∷ 0 ∷ 0 ∷ 0 ∷ 9 ∷ 0 ∷ []) 0 17 0
+    ∷ reading (0 ∷ 0 ∷ 0 ∷ 0 ∷ 9 ∷ 0 ∷ []) 0 18 0
+    ∷ reading (0 ∷ 2 ∷ 0 ∷ 0 ∷ 1 ∷ 0 ∷ 4 ∷ 0 ∷ 0 ∷ 0 ∷ 2 ∷ 0 ∷ 24 ∷ 0 ∷ 1 ∷ 0 ∷ 1 ∷ 0 ∷ []) 0 19 1
+    ∷ reading (one 4 0 0 0 1) 0 19 1
+    ∷ reading (one 38 0 1 0 0) 0 4 1
+    ∷ reading (one 38 0 1 1 0) 0 17 1
+    ∷ reading (one 23 200 1 0 0) 0 17 1
+    ∷ reading (one 4 2 0 0 9) 0 5 1
+    ∷ reading (one 24 2 2 0 9) 0 5 1
+    ∷ reading (one 24 0 2 0 9) 0 5 1
+    ∷ reading (one 24 1 1 0 9) 0 6 1
+    ∷ reading (one 24 1 0 0 9) 0 18 1
+    ∷ reading (one 24 1 0 0 0) 0 7 0
+    -- a record off the chain
+    ∷ reading (0 ∷ 0 ∷ 0 ∷ 0 ∷ 0 ∷ 0 ∷ 255 ∷ 255 ∷ 255 ∷ 255 ∷ 255 ∷ 255 ∷ []) 1 0 0
+    ∷ []
+
+pub data Every (P : Reading → Type 0) : List Reading → Type 0 where
+  none : Every P []
+  and : {r : Reading} {rest : List Reading} → P r → Every P rest → Every P (r ∷ rest)
+
+right : Reading → Bool
+right r =
+    let told = outcomeReply (runAnswer (r .list) (r .room)) in
+    eqb (told .number) (r .number) && eqb (told .value) (r .detail)
+
+all-right : List Reading → Bool
+all-right [] = true
+all-right (r ∷ rest) = right r && all-right rest
+
+abbrev Reads : Reading → Type 0
+Reads r = outcomeReply (runAnswer (r .list) (r .room)) ≡ reply (r .number) (r .detail)
+
+reads : (r : Reading) → right r ≡ true → Reads r
+unfolding right
+reads r e = ap₂ reply (eqb-true _ _ (and-first _ _ e)) (eqb-true _ _ (and-second (eqb (outcomeReply (runAnswer (r .list) (r .room)) .number) (r .number)) _ e))
+
+every : (rs : List Reading) → all-right rs ≡ true → Every Reads rs
+unfolding all-right
+every [] e = none
+every (r ∷ rest) e = and (reads r (and-first _ _ e)) (every rest (and-second (right r) _ e))
+
+pub readings-hold : Every Reads readings
+unfolding all-right right outcomeReply refusalReply refusalNumber refusalDetail ask _andThen_ roomQuestion rowLength recordLength widthQuestion qubits recordCount byteOf listWidth nextOf sizeQuestion headQuestion linkQuestion zerosQuestion gateQuestion qubitQuestion secondQuestions recordQuestions isMet chainQuestions listQuestions runAnswer
+readings-hold = every readings refl
+
+-- the gates of the example
+pub example-gates : gatesOf example ≡ record { gate = 4; first = 0; second = 0 } ∷ record { gate = 24; first = 0; second = 1 } ∷ []
+unfolding gatesOf playsOf playOf chainOf chainFrom recordCount byteOf nextOf
+example-gates = refl
