@@ -123,25 +123,43 @@ fn one_qubit(number: u8) -> [u8; 5] {
     [1, number / 64, number / 16 % 4, number / 4 % 4, number % 4]
 }
 
-// The number of a record of width 1.
-fn number_of(record: &[u8]) -> u8 {
-    if record.len() < 5 {
-        return 0;
-    }
-    record[1] % 4 * 64 + record[2] % 4 * 16 + record[3] % 4 * 4 + record[4] % 4
+// The number of a record of width 1; bytes that are no such record have none.
+enum Numbered {
+    Number(u8),
+    NoRecord,
 }
 
-fn compose_one(a: &[u8], number: u8) -> u8 {
+fn number_of(record: &[u8]) -> Numbered {
+    if record.len() != 5 {
+        return Numbered::NoRecord;
+    }
+    if record[0] != 1 {
+        return Numbered::NoRecord;
+    }
+    if 3 < record[1] | record[2] | record[3] | record[4] {
+        return Numbered::NoRecord;
+    }
+    Numbered::Number(record[1] % 4 * 64 + record[2] % 4 * 16 + record[3] % 4 * 4 + record[4] % 4)
+}
+
+fn compose_one(a: &[u8], number: u8) -> Numbered {
     let mut out = [0u8; 5];
-    clifford_rep::compose(a, &one_qubit(number), &mut out);
+    let answer = clifford_rep::compose(a, &one_qubit(number), &mut out);
+    let refusal::Outcome::Done = answer else {
+        return Numbered::NoRecord;
+    };
     number_of(&out)
 }
 
-// a composed with each record of width 1 in turn.
+// a composed with each record of width 1 in turn. A call that is refused, or that writes no record, is no match.
 fn compose_each(a: &[u8], d: &mut [u8]) -> Reply {
     let mut i = 0;
     while i < d.len() {
-        d[i] = compose_one(a, (i % 256) as u8);
+        let made = compose_one(a, (i % 256) as u8);
+        let Numbered::Number(number) = made else {
+            return Reply::Unknown;
+        };
+        d[i] = number;
         i += 1;
     }
     Reply::Of(0, 0)
