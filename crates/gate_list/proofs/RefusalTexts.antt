@@ -42,7 +42,7 @@ short n h = elim (decLt n 10) [
   ]
 ]
 
-detail-short : (n : ℕ) → n ≤ 4095 → length (decimal n) ≤ 9
+pub detail-short : (n : ℕ) → n ≤ 4095 → length (decimal n) ≤ 9
 detail-short n h = elim (decLt n 100) [
   | yes l ↦ omega (arith, short n (omega arith))
   | no l ↦
@@ -134,6 +134,9 @@ number-small ListLength = omega arith
 number-small (ListRecord at) = omega arith
 number-small (Link at) = omega arith
 number-small (Loop at) = omega arith
+
+pub number-short : (r : Refusal) → length (decimal (refusalNumber r)) ≤ 3
+number-short r = short (refusalNumber r) (omega (arith, number-small r))
 
 module _ (r : Refusal) {n m : ℕ} (en : n ≡ refusalNumber r) (em : m ≡ refusalDetail r) where
   pub refusal-numbers : Listed r → LineNumbers n m
