@@ -1,5 +1,5 @@
 -- The text of a refusal, written piece by piece.
-use mathlib.Core.Path.{_≡_, refl, sym, ap, ap₂, _∙_}
+use mathlib.Core.Path.{_≡_, sym, ap, ap₂, _∙_}
 use mathlib.Core.List.{List, [], _∷_, _++_, append-assoc}
 use Prim.Native.Nat.{ℕ, _+_, _/_, _%_, _<_, _≤_}
 use native.Mathlib.Decide.{decLt}
@@ -13,7 +13,7 @@ use Rattle.pauli.specs.declared.refusal.Outcome.the-variants.{Done, Refused}
 use Rattle.pauli.specs.declared.refusal.CountAnswer.the-variants.{Count, NoCount}
 use Rattle.pauli.specs.Answers.{refusalNumber, refusalDetail, CountWritten}
 use Rattle.pauli.specs.Questions.{roomQuestion}
-use Rattle.pauli.specs.SparseText.{digitText, decimal}
+use Rattle.pauli.specs.SparseText.{decimal}
 use Rattle.pauli.specs.TextWriting.{Stored, TextWritten}
 use Rattle.pauli.proofs.Answers.{count-done, count-not}
 use Rattle.pauli.proofs.Asking.{room-is}

@@ -1,5 +1,5 @@
 -- What is written of a run: the display text of its record, or the text of the refusal.
-use mathlib.Core.Path.{_≡_, refl, sym, ap, ap₂, _∙_, subst}
+use mathlib.Core.Path.{_≡_, refl, sym, ap, _∙_, subst}
 use mathlib.Core.List.{List, [], _∷_, _++_}
 use Prim.Native.Nat.{ℕ, _-_, _<_, _≤_}
 use native.Mathlib.Omega.{arith}
@@ -11,12 +11,11 @@ use Rattle.pauli.specs.declared.refusal.Outcome.{Outcome}
 use Rattle.pauli.specs.declared.refusal.Outcome.the-variants.{Done, Refused}
 use Rattle.pauli.specs.declared.refusal.CountAnswer.{CountAnswer}
 use Rattle.pauli.specs.Answers.{refusalNumber, refusalDetail, written, CountWritten}
-use Rattle.pauli.specs.Questions.{_andThen_, roomQuestion}
+use Rattle.pauli.specs.Questions.{roomQuestion}
 use Rattle.pauli.specs.SparseText.{decimal}
 use Rattle.pauli.proofs.Asking.{passed, has-room}
 use Rattle.clifford.specs.Display.{textOfTableau, displayAnswer, newline}
 use Rattle.clifford.specs.Layout.{recordLength, tableauOf}
-use Rattle.clifford.specs.Questions.{tableauQuestions}
 use Rattle.clifford.proofs.Displays.{display-short}
 use Rattle.clifford.proofs.TableauAsking.{formed-good}
 use Rattle.clifford.proofs.TableauRecords.{record-small, width-of}

@@ -1,7 +1,7 @@
 -- The tableau of a run: it is valid, and it has the list's width.
 use mathlib.Core.Path.{_≡_, refl, sym, ap, _∙_, subst}
 use mathlib.Core.Bool.{true}
-use mathlib.Core.List.{List, [], _∷_}
+use mathlib.Core.List.{List}
 use Prim.Native.Nat.{ℕ, _<_, _≤_}
 use native.Mathlib.Decide.{decLt}
 use native.Mathlib.Omega.{arith}
@@ -14,7 +14,7 @@ use Rattle.clifford_gates.proofs.GateNames.{gate-clifford}
 use Rattle.pauli.specs.declared.refusal.Outcome.the-variants.{Done}
 use Rattle.clifford.specs.Layout.{recordLength, widthOf, tableauOf}
 use Rattle.clifford.specs.GateAnswers.{gateRecord}
-use Rattle.clifford.specs.Tableaux.{recordValid, identityRecord, composeRecord}
+use Rattle.clifford.specs.Tableaux.{recordValid, composeRecord}
 use Rattle.clifford.specs.WayBack.{productFrom, productOf}
 use Rattle.clifford.proofs.PlayedGates.{played-is, width-played}
 use Rattle.clifford.proofs.RecordLaws.{Good, identity-width, identity-good, compose-good}
