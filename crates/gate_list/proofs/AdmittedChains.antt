@@ -1,27 +1,26 @@
 -- The chain of an admitted list: it ends, and each record on it says a gate that can be played.
-use mathlib.Core.Path.{_≡_, refl, sym, ap, ap₂, _∙_, subst}
-use mathlib.Core.Bool.{Bool, true, false, cond, not, _&&_, _||_}
+use mathlib.Core.Path.{_≡_, refl, sym, ap, _∙_, subst}
+use mathlib.Core.Bool.{Bool, true, false, cond, not, _||_}
 use mathlib.Core.List.{List, [], _∷_}
-use Prim.Native.Nat.{ℕ, zero, suc, _+_, _*_, _-_, _<_, _≤_}
+use Prim.Native.Nat.{ℕ, zero, suc, _-_, _<_, _≤_}
 use native.Mathlib.Decide.{ℕ-discrete}
 use native.Mathlib.Omega.{arith}
-use lib.Dec.{eqb, ltb, leb}
-use lib.ListN.{length, getD}
+use lib.Dec.{eqb}
+use lib.ListN.{length}
 use borrow.Author.Tests.{eqb-true, eqb-false, leb-true, ltb-true, lt-leb, le-ltb, eq-eqb, ne-eqb, not-true}
 use Rattle.pauli_group.specs.PauliString.{qubits}
 use Rattle.pauli.specs.declared.refusal.Refusal.{Refusal}
 use Rattle.pauli.specs.declared.refusal.Refusal.the-variants.{Width, Gate, Qubit, SameQubit, ListRecord, Loop}
-use Rattle.pauli.specs.declared.refusal.Outcome.{Outcome}
 use Rattle.pauli.specs.declared.refusal.Outcome.the-variants.{Done, Refused}
 use Rattle.pauli.specs.Questions.{ask, _andThen_}
 use Rattle.pauli.proofs.Asking.{ask-done, done-first, done-second}
 use Rattle.clifford.specs.Questions.{widthQuestion}
-use Rattle.gate_list.specs.Lists.{Play, recordCount, byteOf, listWidth, nextOf, playOf, chainFrom, chainOf, playsOf, gatesOf}
+use Rattle.gate_list.specs.Lists.{recordCount, byteOf, listWidth, nextOf, playOf, chainFrom, chainOf, playsOf, gatesOf}
 use Rattle.gate_list.specs.ListQuestions.{sizeQuestion, headQuestion, linkQuestion, zerosQuestion, gateQuestion, qubitQuestion, secondQuestions, recordQuestions, isMet, chainQuestions, listQuestions}
 use Rattle.gate_list.specs.OrderedLists.{PlayFits, PlaysFit, none, more, Chain, ends, links}
 use Rattle.gate_list.specs.Runs.{stepCount}
-use Rattle.gate_list.proofs.Chains.{chain-end, chain-met, chain-more, record-link}
-use Rattle.gate_list.proofs.ListAdmitted.{and-first, and-second, link-done, Sized, size-done, sized-few}
+use Rattle.gate_list.proofs.Chains.{chain-met, chain-more, record-link}
+use Rattle.gate_list.proofs.ListAdmitted.{and-second, link-done, Sized, size-done, sized-few}
 
 -- ---- one record
 module _ (l : List ℕ) (i : ℕ) (e : recordQuestions l i ≡ Done) where

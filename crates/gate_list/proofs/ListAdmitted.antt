@@ -1,11 +1,11 @@
 -- What the questions of a list that come to Done say of its bytes.
 use mathlib.Core.Path.{_≡_, refl, sym, ap, ap₂, _∙_}
-use mathlib.Core.Bool.{Bool, true, false, cond, not, _&&_, _||_}
-use mathlib.Core.List.{List, [], _∷_}
-use Prim.Native.Nat.{ℕ, zero, suc, _+_, _*_, _-_, _/_, _%_, _<_, _≤_}
+use mathlib.Core.Bool.{Bool, true, false, _&&_}
+use mathlib.Core.List.{List}
+use Prim.Native.Nat.{ℕ, _-_, _%_, _<_, _≤_}
 use native.Mathlib.Decide.{decLt}
 use native.Mathlib.Omega.{arith}
-use lib.Dec.{eqb, ltb, leb}
+use lib.Dec.{eqb, leb}
 use lib.ListN.{length, getD, replicate, length-replicate, getD-replicate, List·getD-eq-default}
 use borrow.Author.Needs.{needs}
 use borrow.Author.Tests.{eqb-true, leb-true, ltb-true}
@@ -13,11 +13,11 @@ use Rattle.pauli.specs.declared.refusal.Refusal.{Refusal}
 use Rattle.pauli.specs.declared.refusal.Refusal.the-variants.{ListLength, Link}
 use Rattle.pauli.specs.declared.refusal.Outcome.{Outcome}
 use Rattle.pauli.specs.declared.refusal.Outcome.the-variants.{Done, Refused}
-use Rattle.pauli.specs.Questions.{ask, _andThen_}
-use Rattle.pauli.proofs.Asking.{asked-yes, ask-done, refused, passed, done-first, done-second}
+use Rattle.pauli.specs.Questions.{_andThen_}
+use Rattle.pauli.proofs.Asking.{ask-done, refused, passed}
 use Rattle.clifford.specs.Questions.{widthQuestion}
-use Rattle.gate_list.specs.Lists.{recordSize, recordCount, byteOf, listWidth, nextOf}
-use Rattle.gate_list.specs.ListQuestions.{sizeQuestion, headQuestion, linkQuestion, chainQuestions, listQuestions}
+use Rattle.gate_list.specs.Lists.{recordCount, listWidth, nextOf}
+use Rattle.gate_list.specs.ListQuestions.{sizeQuestion, headQuestion, linkQuestion, listQuestions}
 use Rattle.gate_list.specs.Reading.{OwnRecord, ByteSized, Blank, Unmarked, Unmet, linksQuestion}
 
 -- ---- a list of records: at least the head, and at most 4,096

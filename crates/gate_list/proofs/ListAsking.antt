@@ -4,7 +4,7 @@ use mathlib.Core.Bool.{Bool, true, false, cond, not, _&&_, _||_}
 use mathlib.Core.List.{List}
 use Prim.Native.Nat.{ℕ, _+_, _*_, _/_, _%_, _<_, _≤_}
 use native.Mathlib.Omega.{arith}
-use lib.Dec.{eqb, ltb, leb}
+use lib.Dec.{eqb, leb}
 use lib.ListN.{length, getD, List·getD-eq-default}
 use borrow.Author.Needs.{needs}
 use borrow.Author.Tests.{le-leb, lt-leb, lt-ltb, le-ltb, eq-eqb, ne-eqb}
@@ -12,7 +12,7 @@ use Rattle.pauli.specs.declared.refusal.Refusal.the-variants.{Gate, Qubit, Same
 use Rattle.pauli.specs.declared.refusal.Refusal.{Refusal}
 use Rattle.pauli.specs.declared.refusal.Outcome.{Outcome}
 use Rattle.pauli.specs.declared.refusal.Outcome.the-variants.{Done, Refused}
-use Rattle.pauli.specs.Questions.{ask, _andThen_}
+use Rattle.pauli.specs.Questions.{_andThen_}
 use Rattle.pauli.proofs.Asking.{asked-yes, asked-no, refused, passed}
 use Rattle.gate_list.specs.Lists.{recordSize, recordCount, byteOf, listWidth, nextOf}
 use Rattle.gate_list.specs.ListQuestions.{sizeQuestion, headQuestion, linkQuestion, zerosQuestion, gateQuestion, qubitQuestion, secondQuestions, recordQuestions}

@@ -1,18 +1,16 @@
 -- Lists on which two readings of the questions could differ, with the answer of their run. The definitions are computed on them.
 use mathlib.Core.Path.{_≡_, refl, ap₂}
-use mathlib.Core.Bool.{Bool, true, false, _&&_}
+use mathlib.Core.Bool.{Bool, true, _&&_}
 use mathlib.Core.List.{List, [], _∷_}
 use Prim.Native.Nat.{ℕ}
 use lib.Dec.{eqb}
-use lib.ListN.{length}
 use borrow.Author.Tests.{eqb-true}
 use Rattle.pauli_group.specs.PauliString.{qubits}
-use Rattle.pauli.specs.declared.refusal.Reply.{Reply}
 use Rattle.pauli.specs.Answers.{refusalNumber, refusalDetail, reply, refusalReply, outcomeReply}
 use Rattle.pauli.specs.Questions.{ask, _andThen_, roomQuestion}
 use Rattle.clifford.specs.Layout.{rowLength, recordLength}
 use Rattle.clifford.specs.Questions.{widthQuestion}
-use Rattle.gate_list.specs.Lists.{Play, recordCount, byteOf, listWidth, nextOf, playOf, chainFrom, chainOf, playsOf, gatesOf}
+use Rattle.gate_list.specs.Lists.{recordCount, byteOf, listWidth, nextOf, playOf, chainFrom, chainOf, playsOf, gatesOf}
 use Rattle.gate_list.specs.ListQuestions.{sizeQuestion, headQuestion, linkQuestion, zerosQuestion, gateQuestion, qubitQuestion, secondQuestions, recordQuestions, isMet, chainQuestions, listQuestions}
 use Rattle.gate_list.specs.Runs.{runAnswer}
 use Rattle.gate_list.proofs.ListAdmitted.{and-first, and-second}

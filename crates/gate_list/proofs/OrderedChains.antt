@@ -1,18 +1,15 @@
 -- Lists whose records stand in the order of their chain: they are admitted, and hold their gates.
 use mathlib.Core.Path.{_≡_, refl, sym, ap, ap₂, _∙_, subst}
-use mathlib.Core.Bool.{Bool, true, false, cond, not, _||_}
+use mathlib.Core.Bool.{false, _||_}
 use mathlib.Core.List.{List, [], _∷_, _++_, append-assoc}
-use Prim.Native.Nat.{ℕ, zero, suc, _+_, _*_, _-_, _/_, _%_, _<_, _≤_}
+use Prim.Native.Nat.{ℕ, suc, _+_, _*_, _-_, _<_, _≤_}
 use native.Mathlib.Decide.{decLt}
 use native.Mathlib.Omega.{arith}
-use lib.Dec.{eqb, ltb, leb}
 use lib.ListN.{length, getD, length-append}
 use lib.Seq.{getD-append-add}
 use borrow.Author.Tests.{lt-ltb, eq-eqb, ne-eqb}
 use Rattle.pauli.specs.declared.refusal.Refusal.the-variants.{Gate, Qubit}
-use Rattle.pauli.specs.declared.refusal.Outcome.{Outcome}
 use Rattle.pauli.specs.declared.refusal.Outcome.the-variants.{Done}
-use Rattle.pauli.specs.Questions.{_andThen_}
 use Rattle.pauli.proofs.Asking.{asked-yes, passed}
 use Rattle.clifford.specs.WayBack.{productOf}
 use Rattle.clifford.proofs.TableauAsking.{width-narrow}

@@ -1,5 +1,5 @@
 -- The text of a refusal, written piece by piece.
-use mathlib.Core.Path.{_≡_, refl, sym, ap, ap₂, _∙_}
+use mathlib.Core.Path.{_≡_, sym, ap, ap₂, _∙_}
 use mathlib.Core.List.{List, [], _∷_, _++_, append-assoc}
 use Prim.Native.Nat.{ℕ, _+_, _/_, _%_, _<_, _≤_}
 use native.Mathlib.Decide.{decLt}
@@ -13,7 +13,7 @@ use Rattle.pauli.specs.declared.refusal.Outcome.the-variants.{Done, Refused}
 use Rattle.pauli.specs.declared.refusal.CountAnswer.the-variants.{Count, NoCount}
 use Rattle.pauli.specs.Answers.{refusalNumber, refusalDetail, CountWritten}
 use Rattle.pauli.specs.Questions.{roomQuestion}
-use Rattle.pauli.specs.SparseText.{digitText, decimal}
+use Rattle.pauli.specs.SparseText.{decimal}
 use Rattle.pauli.specs.TextWriting.{Stored, TextWritten}
 use Rattle.pauli.proofs.Answers.{count-done, count-not}
 use Rattle.pauli.proofs.Asking.{room-is}
@@ -42,7 +42,7 @@ short n h = elim (decLt n 10) [
   ]
 ]
 
-detail-short : (n : ℕ) → n ≤ 4095 → length (decimal n) ≤ 9
+pub detail-short : (n : ℕ) → n ≤ 4095 → length (decimal n) ≤ 9
 detail-short n h = elim (decLt n 100) [
   | yes l ↦ omega (arith, short n (omega arith))
   | no l ↦
@@ -134,6 +134,9 @@ number-small ListLength = omega arith
 number-small (ListRecord at) = omega arith
 number-small (Link at) = omega arith
 number-small (Loop at) = omega arith
+
+pub number-short : (r : Refusal) → length (decimal (refusalNumber r)) ≤ 3
+number-short r = short (refusalNumber r) (omega (arith, number-small r))
 
 module _ (r : Refusal) {n m : ℕ} (en : n ≡ refusalNumber r) (em : m ≡ refusalDetail r) where
   pub refusal-numbers : Listed r → LineNumbers n m

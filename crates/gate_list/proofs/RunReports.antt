@@ -1,31 +1,33 @@
 -- What is written of a run: the display text of its record, or the text of the refusal.
-use mathlib.Core.Path.{_≡_, refl, sym, ap, ap₂, _∙_, subst}
-use mathlib.Core.List.{List, [], _++_}
-use Prim.Native.Nat.{ℕ, _-_, _≤_}
+use mathlib.Core.Path.{_≡_, refl, sym, ap, _∙_, subst}
+use mathlib.Core.List.{List, [], _∷_, _++_}
+use Prim.Native.Nat.{ℕ, _-_, _<_, _≤_}
 use native.Mathlib.Omega.{arith}
-use lib.ListN.{length, take, drop}
+use lib.ListN.{length, take, drop, length-append}
 use lib.Seq.{take-at}
 use borrow.Author.Needs.{needs}
 use Rattle.pauli.specs.declared.refusal.Refusal.{Refusal}
 use Rattle.pauli.specs.declared.refusal.Outcome.{Outcome}
 use Rattle.pauli.specs.declared.refusal.Outcome.the-variants.{Done, Refused}
 use Rattle.pauli.specs.declared.refusal.CountAnswer.{CountAnswer}
-use Rattle.pauli.specs.Answers.{written, CountWritten}
-use Rattle.pauli.specs.Questions.{_andThen_, roomQuestion}
-use Rattle.pauli.proofs.Asking.{passed}
-use Rattle.clifford.specs.Display.{textOfTableau, displayAnswer}
-use Rattle.clifford.specs.Layout.{recordLength}
-use Rattle.clifford.specs.Questions.{tableauQuestions}
+use Rattle.pauli.specs.Answers.{refusalNumber, refusalDetail, written, CountWritten}
+use Rattle.pauli.specs.Questions.{roomQuestion}
+use Rattle.pauli.specs.SparseText.{decimal}
+use Rattle.pauli.proofs.Asking.{passed, has-room}
+use Rattle.clifford.specs.Display.{textOfTableau, displayAnswer, newline}
+use Rattle.clifford.specs.Layout.{recordLength, tableauOf}
+use Rattle.clifford.proofs.Displays.{display-short}
 use Rattle.clifford.proofs.TableauAsking.{formed-good}
-use Rattle.clifford.proofs.TableauRecords.{record-small}
+use Rattle.clifford.proofs.TableauRecords.{record-small, width-of}
 use Rattle.gate_list.specs.Lists.{listWidth}
 use Rattle.gate_list.specs.ListQuestions.{listQuestions}
 use Rattle.gate_list.specs.Reading.{ByteSized}
-use Rattle.gate_list.specs.Reports.{refusalText, textAfter, reportText, reportAnswer, Listed, WorkRoom, ShowRoom, TextReported}
+use Rattle.gate_list.specs.Reports.{atText, refusalText, textAfter, reportText, reportAnswer, Listed, WorkRoom, ShowRoom, TextReported}
 use Rattle.gate_list.specs.Runs.{runRecord, RunRoom, RunWritten}
 use Rattle.gate_list.proofs.AdmittedChains.{admitted-narrow}
 use Rattle.gate_list.proofs.ListRefusals.{refusal-listed}
-use Rattle.gate_list.proofs.RunTableaux.{run-good, run-length}
+use Rattle.gate_list.proofs.RefusalTexts.{detail-short, number-short}
+use Rattle.gate_list.proofs.RunTableaux.{run-good, run-width, run-length}
 use Rattle.gate_list.proofs.RunAnswers.{run-same, width-byte}
 
 -- ---- the run shown
@@ -76,3 +78,23 @@ module _ (l : List ℕ) {q : Outcome} (e : q ≡ listQuestions l) where
   report-refusal h x = reported (ap (λ y. textAfter y (textOfTableau (runRecord l))) (sym h ∙ e)) x
 
 pub ruleset reports = (report-shows, report-listed, report-run, report-refusal, needs)
+
+-- ---- its length: 140,000 bytes are room for any report
+refusal-short : (r : Refusal) → Listed r → length (refusalText r) < 140000
+unfolding refusalText
+refusal-short r o =
+    let n = decimal (refusalNumber r) in
+    let d = decimal (refusalDetail r) in
+    omega (arith, length-append n (atText ++ (d ++ (newline ∷ []))), length-append d (newline ∷ []), number-short r, detail-short (refusalDetail r) (o .detail))
+
+pub report-short : (l : List ℕ) → length (reportText l) < 140000
+unfolding reportText textAfter textOfTableau
+report-short l = by (listQuestions l) refl
+  where
+    by : (q : Outcome) → listQuestions l ≡ q → length (textAfter q (textOfTableau (runRecord l))) < 140000
+    by Done e = display-short (tableauOf (runRecord l)) (omega (arith, width-of (runRecord l), run-width l e, admitted-narrow l e))
+    by (Refused r) e = refusal-short r (refusal-listed l e)
+
+pub report-done : (l : List ℕ) (room : ℕ) → 140000 ≤ room → reportAnswer l room ≡ Done
+unfolding reportAnswer
+report-done l room h = sym (has-room (length (reportText l)) room (omega (arith, report-short l)))

@@ -1,37 +1,31 @@
 -- The run: after each gate the record is the product so far, and the gates that are left stand on the rest of the chain.
 use mathlib.Core.Path.{_≡_, refl, sym, ap, ap₂, _∙_, subst}
 use mathlib.Core.List.{List, [], _∷_, _++_, append-nil}
-use Prim.Native.Nat.{ℕ, zero, suc, max, _+_, _*_, _-_, _<_, _≤_}
+use Prim.Native.Nat.{ℕ, suc, _+_, _*_, _-_, _<_, _≤_}
 use native.Mathlib.Nat.{mul-le-mul-right}
 use native.Mathlib.Omega.{arith}
-use lib.ListN.{length, take, drop, length-append, length-take, length-drop, drop-of-length-le}
-use lib.Seq.{take-length}
+use lib.ListN.{length, drop, drop-of-length-le}
 use mir.Val.{Fits}
 use mir.Syntax.{w64}
 use borrow.Author.Needs.{needs}
-use borrow.Rule.Slice.PartMut.{putMid}
 use Rattle.pauli_group.specs.PauliString.{qubits}
-use Rattle.pauli.specs.declared.refusal.Refusal.{Refusal}
 use Rattle.pauli.specs.declared.refusal.Outcome.{Outcome}
-use Rattle.pauli.specs.declared.refusal.Outcome.the-variants.{Done, Refused}
-use Rattle.pauli.specs.declared.refusal.CountAnswer.the-variants.{Count, NoCount}
-use Rattle.pauli.specs.Answers.{written, Written, countAnswer, countReply, replyTo}
-use Rattle.pauli.specs.Questions.{_andThen_, roomQuestion}
-use Rattle.pauli.proofs.Asking.{passed, has-room, done-first, done-second, room-is}
+use Rattle.pauli.specs.declared.refusal.Outcome.the-variants.{Done}
+use Rattle.pauli.specs.Answers.{written, Written}
+use Rattle.pauli.proofs.Asking.{passed, has-room}
 use Rattle.clifford.specs.Layout.{recordLength, rowLength, widthOf, FormedTableau}
 use Rattle.clifford.specs.GateAnswers.{gateRecord}
 use Rattle.clifford.specs.Playing.{played}
-use Rattle.clifford.specs.Questions.{widthQuestion, identityAnswer}
+use Rattle.clifford.specs.Questions.{identityAnswer}
 use Rattle.clifford.specs.Tableaux.{identityRecord, composeRecord}
 use Rattle.clifford.specs.WayBack.{productFrom, productOf}
 use Rattle.clifford.proofs.TableauAsking.{width-narrow}
 use Rattle.clifford.proofs.PlayedGates.{played-is, played-formed, length-played, width-played}
 use Rattle.clifford.proofs.RecordLaws.{identity-width, identity-good}
 use Rattle.gate_list.specs.Lists.{Play, recordCount, byteOf, listWidth, nextOf, playOf, chainOf, playsOf, gatesOf}
-use Rattle.gate_list.specs.ListQuestions.{listQuestions}
 use Rattle.gate_list.specs.OrderedLists.{PlayFits, PlaysFit, none, more, Chain, ends, links}
 use Rattle.gate_list.specs.Reading.{OwnRecord, ByteSized}
-use Rattle.gate_list.specs.Runs.{tableauxOf, runRecord, stepCount, runAnswer, RunAnswered, RecordRoom, Begins, Ran, RunRoom, RunWritten}
+use Rattle.gate_list.specs.Runs.{tableauxOf, runRecord, stepCount, RecordRoom, Begins, Ran}
 use Rattle.gate_list.proofs.GateOrder.{product-first}
 use Rattle.gate_list.proofs.AdmittedChains.{admitted-chain, admitted-plays, admitted-narrow, admitted-sized, step-count, steps-few}
 use Rattle.gate_list.proofs.ListAdmitted.{sized-some}

@@ -1,7 +1,7 @@
 -- The tableau of a run: it is valid, and it has the list's width.
 use mathlib.Core.Path.{_≡_, refl, sym, ap, _∙_, subst}
 use mathlib.Core.Bool.{true}
-use mathlib.Core.List.{List, [], _∷_}
+use mathlib.Core.List.{List}
 use Prim.Native.Nat.{ℕ, _<_, _≤_}
 use native.Mathlib.Decide.{decLt}
 use native.Mathlib.Omega.{arith}
@@ -15,9 +15,10 @@ use Rattle.pauli.specs.declared.refusal.Outcome.the-variants.{Done}
 use Rattle.clifford.specs.Layout.{recordLength, widthOf, tableauOf}
 use Rattle.clifford.specs.GateAnswers.{gateRecord}
 use Rattle.clifford.specs.Tableaux.{recordValid, identityRecord, composeRecord}
-use Rattle.clifford.specs.WayBack.{productFrom, productOf}
+use Rattle.clifford.specs.WayBack.{Steps, productFrom, productOf}
+use Rattle.clifford.specs.WayBack as back
 use Rattle.clifford.proofs.PlayedGates.{played-is, width-played}
-use Rattle.clifford.proofs.RecordLaws.{Good, identity-width, identity-good, compose-good}
+use Rattle.clifford.proofs.RecordLaws.{Good, identity-width, identity-good, compose-good, compose-width}
 use Rattle.clifford.proofs.TableauRecords.{record-back, record-formed, record-small}
 use Rattle.gate_list.specs.Lists.{Play, listWidth, gatesOf}
 use Rattle.gate_list.specs.ListQuestions.{listQuestions}
@@ -50,6 +51,10 @@ module _ {w : ℕ} {p : Play} (small : w ≤ qubits) (f : PlayFits w p) where
         ap widthOf (sym (played-is (p .gate) (p .first) (p .second) t (g .formed) (f .gate) (omega (arith, f .first)) (λ h. omega (arith, f .second h)) (f .different)))
         ∙ width-played (p .gate) (p .first) (p .second) t ∙ e
 
+  gate-narrow : widthOf (gateRecord (p .gate) (p .first) (p .second)) ≤ w
+  gate-narrow =
+      omega (arith, compose-width (gateRecord (p .gate) (p .first) (p .second)) (identityRecord w), then-width (identity-good w small) (identity-width w), identity-width w)
+
 -- ---- gates, one after another
 pub record ValidOf (w : ℕ) (t : List ℕ) : Type 0 where
   pub good : Good t
@@ -62,6 +67,11 @@ product-valid {w} {t = t} small (more {p} {rest} f g) v =
     subst (ValidOf w) (sym (product-first t p rest))
     (product-valid small g (record { good = then-good small f (v .good) (v .width); width = then-width small f (v .good) (v .width) }))
 
+gates-steps : {w : ℕ} {ps : List Play} → w ≤ qubits → PlaysFit w ps → Steps w (tableauxOf ps)
+unfolding tableauxOf recordValid
+gates-steps small none = back.none
+gates-steps small (more f g) = back.step (record { valid = gate-good small f .valid; narrow = gate-narrow small f }) (gates-steps small g)
+
 module _ (l : List ℕ) (e : listQuestions l ≡ Done) where
   small : listWidth l ≤ qubits
   small = unfold qubits in admitted-narrow l e
@@ -70,6 +80,10 @@ module _ (l : List ℕ) (e : listQuestions l ≡ Done) where
   unfolding runRecord productOf
   run-valid-of =
       product-valid small (admitted-plays l e) (record { good = identity-good (listWidth l) small; width = identity-width (listWidth l) })
+
+  -- the gates' tableaux are steps of clifford's WayBack: valid, and no wider than the list
+  pub run-steps : Steps (listWidth l) (tableauxOf (gatesOf l))
+  run-steps = gates-steps small (admitted-plays l e)
 
   pub run-good : Good (runRecord l)
   run-good = run-valid-of .good
@@ -87,7 +101,7 @@ module _ (l : List ℕ) (e : listQuestions l ≡ Done) where
   pub run-small : length (runRecord l) ≤ 33025
   run-small = omega (arith, run-length, record-small (listWidth l) (admitted-narrow l e))
 
--- the run is, as it stands, demand 3's product of the gates' own tableaux
+-- the run is, as it stands, the product of the gates' own tableaux that WayBack defines
 pub run-product : (l : List ℕ) → runRecord l ≡ productOf (listWidth l) (tableauxOf (gatesOf l))
 unfolding runRecord
 run-product l = refl
