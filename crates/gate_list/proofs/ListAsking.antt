@@ -190,15 +190,6 @@ unfolding recordQuestions
 record-asked l i ez eg ef es ek ea eb ec ed =
     ed ∙ ap₂ _andThen_ ez (ec ∙ ap₂ _andThen_ eg (eb ∙ ap₂ _andThen_ ef (ea ∙ ap₂ _andThen_ es ek)))
 
-pub first-then : {q r : Outcome} → q ≡ Done → r ≡ q andThen r
-unfolding _andThen_
-first-then {r = r} e = sym (ap (λ x. x andThen r) e)
-
-pub first-only : {q : Outcome} {x : Refusal} (r : Outcome) → q ≡ Refused x → q ≡ q andThen r
-first-only r e = refused r refl e
-
-pub ruleset orders = (first-then, first-only, needs)
-
 pub ruleset record-asks = (record-asked, needs)
 
 pub ruleset size-asks = (size-odd, size-short, size-long, size-good, needs)

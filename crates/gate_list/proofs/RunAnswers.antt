@@ -1,7 +1,7 @@
 -- The answer of a run: its questions, and the record written to the front of the destination.
 use mathlib.Core.Path.{_≡_, refl, sym, ap, ap₂, _∙_}
 use mathlib.Core.List.{List, _++_}
-use Prim.Native.Nat.{ℕ, _-_, _<_, _≤_}
+use Prim.Native.Nat.{ℕ, min, _-_, _≤_}
 use native.Mathlib.Omega.{arith}
 use lib.ListN.{length, take, drop, length-append, length-take, length-drop}
 use borrow.Author.Needs.{needs}
@@ -12,33 +12,41 @@ use Rattle.pauli.specs.declared.refusal.Outcome.the-variants.{Done, Refused}
 use Rattle.pauli.specs.declared.refusal.CountAnswer.the-variants.{Count, NoCount}
 use Rattle.pauli.specs.Answers.{written, countAnswer, countReply, replyTo}
 use Rattle.pauli.specs.Questions.{_andThen_, roomQuestion}
-use Rattle.pauli.proofs.Asking.{done-first, done-second, room-is}
+use Rattle.pauli.proofs.Asking.{refused, done-first, done-second, room-is}
 use Rattle.clifford.specs.Layout.{recordLength}
 use Rattle.gate_list.specs.Lists.{listWidth}
 use Rattle.gate_list.specs.ListQuestions.{listQuestions}
 use Rattle.gate_list.specs.Reading.{ByteSized}
 use Rattle.gate_list.specs.Runs.{runRecord, stepCount, runAnswer, RunAnswered, RecordRoom, Ran, RunRoom, RunWritten}
+use Rattle.gate_list.proofs.AdmittedChains.{admitted-narrow}
 use Rattle.gate_list.proofs.RunTableaux.{run-length}
 
 -- ---- the questions
-pub run-asked : (l : List ℕ) (room : ℕ) {n k : ℕ} {q r a : Outcome} → q ≡ listQuestions l → ByteSized (listWidth l) n → k ≡ recordLength n → r ≡ roomQuestion k room → a ≡ q andThen r
+-- an admitted list's record has the size that its width has
+pub own-size : (l : List ℕ) {n k : ℕ} → listQuestions l ≡ Done → ByteSized (listWidth l) n → k ≡ recordLength (min n 128) → k ≡ recordLength (listWidth l)
+own-size l {n} done en ek =
+    let same : min n 128 ≡ listWidth l = omega (arith, en .is, admitted-narrow l done) in
+    ek ∙ ap recordLength same
+
+-- so the room is asked for after the list alone
+pub run-asked : (l : List ℕ) (room : ℕ) {n k : ℕ} {q r a : Outcome} → q ≡ listQuestions l → ByteSized (listWidth l) n → k ≡ recordLength (min n 128) → r ≡ roomQuestion k room → a ≡ q andThen r
     → a ≡ runAnswer l room
 unfolding runAnswer
-run-asked l room eq en ek er ea =
-    ea ∙ ap₂ _andThen_ eq (er ∙ ap (λ (j : ℕ). roomQuestion j room) (ek ∙ ap recordLength (en .is)))
+run-asked l room {n} {k} {q} {r} eq en ek er ea = ea ∙ ap (λ x. x andThen r) eq ∙ by (listQuestions l) refl
+  where
+    by : (x : Outcome) → listQuestions l ≡ x → listQuestions l andThen r ≡ listQuestions l andThen roomQuestion (recordLength (listWidth l)) room
+    by Done h = ap (λ y. listQuestions l andThen y) (er ∙ ap (λ (j : ℕ). roomQuestion j room) (own-size l h en ek))
+    by (Refused y) h = sym (refused r refl h) ∙ refused _ refl h
 
-pub width-byte : {w n : ℕ} → ByteSized w n → n < 256
-width-byte o = o .small
-
-pub ruleset run-asks = (run-asked, width-byte, needs)
+pub ruleset run-asks = (run-asked, needs)
 
 -- ---- the record in the front of a destination
-pub run-room : {l d : List ℕ} {n k : ℕ} → RunRoom l d → ByteSized (listWidth l) n → k ≡ recordLength n → k ≤ length d
-run-room o b e = omega (arith, o .room, e, ap recordLength (b .is))
+pub run-room : {l d : List ℕ} {n k : ℕ} → RunRoom l d → ByteSized (listWidth l) n → k ≡ recordLength (min n 128) → k ≤ length d
+run-room {l} o b e = omega (arith, o .room, own-size l (o .asked) b e)
 
-module _ {l d : List ℕ} {n k : ℕ} (o : RunRoom l d) (b : ByteSized (listWidth l) n) (e : k ≡ recordLength n) where
+module _ {l d : List ℕ} {n k : ℕ} (o : RunRoom l d) (b : ByteSized (listWidth l) n) (e : k ≡ recordLength (min n 128)) where
   own : k ≡ recordLength (listWidth l)
-  own = e ∙ ap recordLength (b .is)
+  own = own-size l (o .asked) b e
 
   pub run-part : RecordRoom l (take (k - 0) d)
   run-part = record { asked = o .asked; long = length-take (k - 0) d ∙ omega (arith, own, o .room) }
@@ -56,7 +64,7 @@ module _ {l d : List ℕ} {n k : ℕ} (o : RunRoom l d) (b : ByteSized (listWidt
   pub run-ran-same : {ys : List ℕ} {r : ℕ} → Ran l ys r → length ys ≡ length (take (k - 0) d)
   run-ran-same x = omega (arith, ap length (x .bytes), run-length l (o .asked), own, o .room, length-take (k - 0) d)
 
-pub ruleset run-writes = (run-room, run-part, run-put, run-put-same, run-ran-same, width-byte, needs)
+pub ruleset run-writes = (run-room, run-part, run-put, run-put-same, run-ran-same, needs)
 
 -- ---- the public answer
 pub run-admits : {l d : List ℕ} {q : Outcome} → q ≡ runAnswer l (length d) → q ≡ Done → RunRoom l d

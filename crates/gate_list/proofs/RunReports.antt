@@ -1,7 +1,7 @@
 -- What is written of a run: the display text of its record, or the text of the refusal.
 use mathlib.Core.Path.{_≡_, refl, sym, ap, _∙_, subst}
 use mathlib.Core.List.{List, [], _∷_, _++_}
-use Prim.Native.Nat.{ℕ, _-_, _<_, _≤_}
+use Prim.Native.Nat.{ℕ, min, _-_, _<_, _≤_}
 use native.Mathlib.Omega.{arith}
 use lib.ListN.{length, take, drop, length-append}
 use lib.Seq.{take-at}
@@ -28,7 +28,7 @@ use Rattle.gate_list.proofs.AdmittedChains.{admitted-narrow}
 use Rattle.gate_list.proofs.ListRefusals.{refusal-listed}
 use Rattle.gate_list.proofs.RefusalTexts.{detail-short, number-short}
 use Rattle.gate_list.proofs.RunTableaux.{run-good, run-width, run-length}
-use Rattle.gate_list.proofs.RunAnswers.{run-same, width-byte}
+use Rattle.gate_list.proofs.RunAnswers.{own-size, run-same}
 
 -- ---- the run shown
 pub show-runs : {l t : List ℕ} → ShowRoom l t → RunRoom l t
@@ -37,9 +37,9 @@ show-runs {l} o = record { asked = o .asked; room = omega (arith, o .long, recor
 pub show-same : {l t e : List ℕ} {n : ℕ} → ShowRoom l t → RunWritten l t e n → length e ≡ length t
 show-same o w = run-same (show-runs o) w
 
-module _ {l t e : List ℕ} {n m k : ℕ} (o : ShowRoom l t) (w : RunWritten l t e n) (b : ByteSized (listWidth l) m) (ek : k ≡ recordLength m) where
+module _ {l t e : List ℕ} {n m k : ℕ} (o : ShowRoom l t) (w : RunWritten l t e n) (b : ByteSized (listWidth l) m) (ek : k ≡ recordLength (min m 128)) where
   long : k ≡ length (runRecord l)
-  long = ek ∙ ap recordLength (b .is) ∙ sym (run-length l (o .asked))
+  long = own-size l (o .asked) b ek ∙ sym (run-length l (o .asked))
 
   pub show-part : k ≤ length e
   show-part = omega (arith, run-same (show-runs o) w, show-runs o .room, long, run-length l (o .asked))
@@ -55,7 +55,7 @@ module _ {l t e : List ℕ} {n m k : ℕ} (o : ShowRoom l t) (w : RunWritten l t
       room : roomQuestion (length (textOfTableau (runRecord l))) (length d) ≡ displayAnswer (runRecord l) (length d)
       room = unfold displayAnswer in passed (sym (formed-good (runRecord l) (run-good l (o .asked) .formed))) refl refl
 
-pub ruleset shows = (show-runs, show-same, show-part, run-shown, width-byte, needs)
+pub ruleset shows = (show-runs, show-same, show-part, run-shown, needs)
 
 -- ---- the report
 module _ (l : List ℕ) {q : Outcome} (e : q ≡ listQuestions l) where

@@ -178,21 +178,6 @@ played-same g q r t h = ap length h ∙ length-played g q r t
 
 pub ruleset record-plays = (own-byte, record-played, played-same, needs)
 
--- ---- the length of a record
-length-small : (w : ℕ) → w < 256 → 2 * w * (w + 1) ≤ 2 * 255 * 256
-length-small w h = omega (arith, mul-le-mul-right {m = w} {n = 255} (w + 1) (omega arith))
-
-pub length-fits : (w : ℕ) → w < 256 → Fits w64 (2 * w * (w + 1))
-length-fits w h = record { fits = omega (arith, length-small w h) }
-
-pub length-one-fits : (w : ℕ) → w < 256 → Fits w64 (1 + 2 * w * (w + 1))
-length-one-fits w h = record { fits = omega (arith, length-small w h) }
-
-pub length-is : (w : ℕ) → 1 + 2 * w * (w + 1) ≡ recordLength w
-length-is w = unfold recordLength rowLength in omega arith
-
-pub ruleset lengths = (length-fits, length-one-fits, length-is, needs)
-
 -- ---- the identity in a record's own bytes
 pub run-begins : {l t e : List ℕ} {n : ℕ} {r : Outcome} → RecordRoom l t → ByteSized (listWidth l) n → Written (identityAnswer n (length t)) (identityRecord n) t e r → Begins l e
 unfolding identityAnswer written

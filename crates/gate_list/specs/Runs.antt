@@ -21,7 +21,7 @@ unfoldable pub tableauxOf : List Play → List (List ℕ)
 tableauxOf [] = []
 tableauxOf (p ∷ rest) = gateRecord (p .gate) (p .first) (p .second) ∷ tableauxOf rest
 
--- each composed on the left, from the identity: the product of demand 3
+-- each composed on the left, from the identity: the product of the steps on the way back
 unfoldable pub runRecord : List ℕ → List ℕ
 runRecord l = productOf (listWidth l) (tableauxOf (gatesOf l))
 

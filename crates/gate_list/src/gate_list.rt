@@ -7,16 +7,16 @@ ghost use Rattle.gate_list.specs.Reports.{WorkRoom, reportAnswer, report
 ghost use Rattle.gate_list.specs.Runs.{RunAnswered, runAnswer, runRecord, stepCount};
 ghost use Rattle.gate_list.specs.Reading.{Blank, Unmarked, linksQuestion};
 use crate::chain::check_chain;
-use crate::questions::and_then;
 use crate::questions::check_head;
 use crate::questions::check_link;
 use crate::questions::check_size;
 use crate::reading::width;
 use crate::reporting::report_refusal;
 use crate::reporting::report_run;
-use crate::running::record_length;
 use crate::running::write_run;
 use clifford::questions::check_width;
+use clifford::questions::record_size;
+use pauli::questions::and_then;
 use pauli::questions::check_room;
 use pauli::refusal::CountAnswer;
 use pauli::refusal::Outcome;
@@ -59,7 +59,7 @@ fn run_answer(list: &[u8], room: usize) -> Outcome
     ensures { λ r. ⌜ r ≡ runAnswer (now (list .entry)) room ⌝ }
 {
     let admitted = check_list(list);
-    let enough = check_room(record_length(width(list)), room);
+    let enough = check_room(record_size(width(list)), room);
     and_then(admitted, enough)
 }
 

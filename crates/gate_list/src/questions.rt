@@ -9,18 +9,9 @@ use crate::reading::next;
 use crate::reading::record_count;
 use crate::reading::wide;
 use crate::reading::width;
+use pauli::questions::and_then;
 use pauli::refusal::Outcome;
 use pauli::refusal::Refusal;
-
-// The second answer where the first lets by: a question comes before all that are put after it.
-pub(crate) fn and_then(first: Outcome, second: Outcome) -> Outcome
-    ensures { λ r. ⌜ r ≡ first andThen second ⌝ }
-{
-    if let Outcome::Done = first {
-        return second;
-    }
-    first
-}
 
 pub(crate) fn check_size(list: &[u8]) -> Outcome
     ensures { λ r. ⌜ r ≡ sizeQuestion (now (list .entry)) ⌝ }

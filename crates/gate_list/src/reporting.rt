@@ -10,9 +10,9 @@ ghost use Rattle.clifford.specs.Display.{TextPlace, NumberPlace, textOfTableau}
 ghost use Rattle.gate_list.specs.Reports.{refusalText, refusalLine, DetailPlace, LineNumbers, Listed, ShowRoom, TextReported};
 ghost use Rattle.gate_list.specs.Runs.{runRecord};
 use crate::reading::width;
-use crate::running::record_length;
 use crate::running::write_run;
 use clifford::clifford_rep::display;
+use clifford::questions::record_size;
 use pauli::questions::check_room;
 use pauli::refusal::CountAnswer;
 use pauli::refusal::Outcome;
@@ -112,6 +112,6 @@ pub(crate) fn report_run(list: &[u8], work: &mut [u8], out: &mut [u8]) -> CountA
     ensures { λ r. ⌜ TextReported (textOfTableau (runRecord (now (list .entry)))) (now (out .entry)) (now (out .exit)) r ⌝ }
 {
     write_run(list, work);
-    let length = record_length(width(list));
+    let length = record_size(width(list));
     display(&work[0..length], out)
 }

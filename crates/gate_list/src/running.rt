@@ -1,7 +1,5 @@
 // The run of an admitted list: each gate on the chain composed on the left of a record, in place.
 ghost use mathlib.Core.Path.{_≡_};
-ghost use Prim.Native.Nat.{_<_};
-ghost use Rattle.clifford.specs.Layout.{recordLength};
 ghost use Rattle.clifford.specs.Playing.{played};
 ghost use Rattle.gate_list.specs.Lists.{byteOf};
 ghost use Rattle.gate_list.specs.Reading.{OwnRecord};
@@ -12,14 +10,7 @@ use crate::reading::wide;
 use crate::reading::width;
 use clifford::clifford_rep::identity;
 use clifford::playing::play;
-
-// The length of a tableau record.
-pub(crate) fn record_length(width: usize) -> usize
-    requires { ⌜ width < 256 ⌝ }
-    ensures { λ r. ⌜ r ≡ recordLength width ⌝ }
-{
-    1 + 2 * width * (width + 1)
-}
+use clifford::questions::record_size;
 
 // The gate of record i.
 fn play_record(list: &[u8], i: usize, t: &mut [u8])
@@ -61,6 +52,6 @@ pub(crate) fn write_run(list: &[u8], dst: &mut [u8]) -> usize
     requires { ⌜ RunRoom (now list) (now dst) ⌝ }
     ensures { λ r. ⌜ RunWritten (now (list .entry)) (now (dst .entry)) (now (dst .exit)) r ⌝ }
 {
-    let length = record_length(width(list));
+    let length = record_size(width(list));
     run_record(list, &mut dst[0..length])
 }
