@@ -1,12 +1,27 @@
-// Replays vectors from standard input on the functions of `clifford::clifford_rep`. From `run` on the
-// program is that of `replay_sample`.
+// Replays vectors from standard input on the functions of `clifford` and of `gate_list`. From `run_in` on
+// the program is that of `replay_sample`.
+use clifford::clifford as gates;
 use clifford::clifford_rep;
+use gate_list::gate_list as lists;
 use pauli::refusal;
 use vectors::Case;
 use vectors::Expected;
 use vectors::Outcome;
 use vectors::Reply;
 use vectors::Tally;
+
+// A number of a line as a byte.
+enum Byte {
+    Of(u8),
+    Wide,
+}
+
+fn narrow(n: u64) -> Byte {
+    if 255 < n {
+        return Byte::Wide;
+    }
+    Byte::Of(n as u8)
+}
 
 // The library's reply, as the reader has it.
 fn told(r: refusal::Reply) -> Reply {
@@ -15,6 +30,54 @@ fn told(r: refusal::Reply) -> Reply {
 
 fn done(r: refusal::Outcome) -> Reply {
     told(refusal::outcome_reply(r))
+}
+
+fn named(r: gates::GateAnswer) -> Reply {
+    told(gates::gate_reply(r))
+}
+
+fn gate_compose(g: u8, n2: u64) -> Reply {
+    let Byte::Of(h) = narrow(n2) else {
+        return Reply::Unknown;
+    };
+    named(gates::compose(g, h))
+}
+
+// The functions of a gate.
+fn call_gate(line: &[u8], case: Case, d: &mut [u8]) -> Reply {
+    let Byte::Of(g) = narrow(case.n1) else {
+        return Reply::Unknown;
+    };
+    if vectors::is_named(line, b"gate_compose") {
+        return gate_compose(g, case.n2);
+    }
+    if vectors::is_named(line, b"gate_inverse") {
+        return named(gates::inverse(g));
+    }
+    if vectors::is_named(line, b"on_qubit") {
+        return done(gates::on_qubit(g, case.n2 as usize, d));
+    }
+    if vectors::is_named(line, b"on_qubits") {
+        return done(gates::on_qubits(g, case.n2 as usize, case.n3 as usize, d));
+    }
+    Reply::Unknown
+}
+
+// The functions of gates, of their names and of lists.
+fn call_gates(line: &[u8], case: Case, a: &[u8], d: &mut [u8]) -> Reply {
+    if vectors::is_named(line, b"from_clifford_rep") {
+        return named(gates::from_clifford_rep(a));
+    }
+    if vectors::is_named(line, b"single_qubit_clifford") {
+        return done(gates::single_qubit_clifford(case.n1 as usize, case.n2 as usize, d));
+    }
+    if vectors::is_named(line, b"run") {
+        return told(refusal::count_reply(lists::run(a, d)));
+    }
+    if vectors::is_named(line, b"report") {
+        return told(refusal::count_reply(lists::report(a, d)));
+    }
+    call_gate(line, case, d)
 }
 
 // Whether the part is the row of the record that starts at this offset.
@@ -49,7 +112,7 @@ fn image(case: Case, t: &[u8], answer: refusal::Outcome, part: &[u8]) -> Reply {
     Reply::Unknown
 }
 
-fn call_image(line: &[u8], case: Case, t: &[u8]) -> Reply {
+fn call_image(line: &[u8], case: Case, t: &[u8], d: &mut [u8]) -> Reply {
     let slot = case.n1 as usize;
     if vectors::is_named(line, b"x_image") {
         return image(
@@ -67,7 +130,7 @@ fn call_image(line: &[u8], case: Case, t: &[u8]) -> Reply {
             clifford_rep::z_image(t, slot),
         );
     }
-    Reply::Unknown
+    call_gates(line, case, t, d)
 }
 
 // A text that is written starts as every such text does.
@@ -98,7 +161,7 @@ fn call_one(line: &[u8], case: Case, t: &[u8], d: &mut [u8]) -> Reply {
     if vectors::is_named(line, b"display") {
         return display(t, d);
     }
-    call_image(line, case, t)
+    call_image(line, case, t, d)
 }
 
 // Those of a string, or of a width.

@@ -65,8 +65,8 @@ fn with_phase_and_paulis(n1: u64, entries: &[u8], d: &mut [u8]) -> Reply {
     told(refusal::outcome_reply(pauli_string::with_phase_and_paulis(phase, entries, d)))
 }
 
-// Calls the function that the line names.
-fn call(line: &[u8], case: Case, a: &[u8], b: &[u8], d: &mut [u8]) -> Reply {
+// The functions of records, and those of bytes.
+fn call_string(line: &[u8], case: Case, a: &[u8], b: &[u8], d: &mut [u8]) -> Reply {
     if vectors::is_named(line, b"phase") {
         return told(refusal::byte_reply(pauli_string::phase(a)));
     }
@@ -83,6 +83,23 @@ fn call(line: &[u8], case: Case, a: &[u8], b: &[u8], d: &mut [u8]) -> Reply {
         return with_phase_and_paulis(case.n1, a, d);
     }
     call_bytes(line, case.n1, case.n2)
+}
+
+// Calls the function that the line names.
+fn call(line: &[u8], case: Case, a: &[u8], b: &[u8], d: &mut [u8]) -> Reply {
+    if vectors::is_named(line, b"from_sparse_str") {
+        return told(refusal::outcome_reply(pauli_string::from_sparse_str(a, d)));
+    }
+    if vectors::is_named(line, b"from_dense_str") {
+        return told(refusal::outcome_reply(pauli_string::from_dense_str(a, d)));
+    }
+    if vectors::is_named(line, b"from_str") {
+        return told(refusal::outcome_reply(pauli_string::from_str(a, d)));
+    }
+    if vectors::is_named(line, b"to_sparse_str") {
+        return told(refusal::count_reply(pauli_string::to_sparse_str(a, d)));
+    }
+    call_string(line, case, a, b, d)
 }
 
 // Runs one line, with room for its bytes.

@@ -1,8 +1,8 @@
 use Prim.Native.Nat.{_-_}
 use lib.ListN.{length}
 use borrow.Author.Needs.{needs}
-use Rattle.replay_gates.proofs.replay.Statement.{statement}
-use Rattle.replay_gates.proofs.replay.Tie as tie
+use Rattle.replay_strings.proofs.replay.Statement.{statement}
+use Rattle.replay_strings.proofs.replay.Tie as tie
 
 abbrev Inv-loop : tie.InvT-loop
 Inv-loop text tally₀ at₀ tally at = Unit {0}
