@@ -25,4 +25,5 @@ pub mod GateWriting
 pub mod GateAsking
 pub mod GateNaming
 pub mod GateAnswers
+pub mod GateRecords
 pub mod Readings

@@ -8,18 +8,17 @@ use native.Mathlib.Omega.{arith}
 use lib.ListN.{length}
 use Rattle.pauli_group.specs.PauliString.{qubits}
 use Rattle.clifford_group.specs.Tableau.{Clifford}
-use Rattle.clifford_group.proofs.Same.{isValid-same}
 use Rattle.clifford_gates.specs.GateNumbers.{gateTableau}
-use Rattle.clifford_gates.proofs.GateNames.{gate-clifford}
 use Rattle.pauli.specs.declared.refusal.Outcome.the-variants.{Done}
 use Rattle.clifford.specs.Layout.{recordLength, widthOf, tableauOf}
 use Rattle.clifford.specs.GateAnswers.{gateRecord}
 use Rattle.clifford.specs.Tableaux.{recordValid, identityRecord, composeRecord}
 use Rattle.clifford.specs.WayBack.{Steps, productFrom, productOf}
 use Rattle.clifford.specs.WayBack as back
+use Rattle.clifford.proofs.GateRecords.{gate-good}
 use Rattle.clifford.proofs.PlayedGates.{played-is, width-played}
 use Rattle.clifford.proofs.RecordLaws.{Good, identity-width, identity-good, compose-good, compose-width}
-use Rattle.clifford.proofs.TableauRecords.{record-back, record-formed, record-small}
+use Rattle.clifford.proofs.TableauRecords.{record-small}
 use Rattle.gate_list.specs.Lists.{Play, listWidth, gatesOf}
 use Rattle.gate_list.specs.ListQuestions.{listQuestions}
 use Rattle.gate_list.specs.OrderedLists.{PlayFits, PlaysFit, none, more}
@@ -35,16 +34,12 @@ module _ {w : ℕ} {p : Play} (small : w ≤ qubits) (f : PlayFits w p) where
     | no l ↦ omega (arith, f .second (omega arith))
   ]
 
-  gate-good : Good (gateRecord (p .gate) (p .first) (p .second))
-  unfolding gateRecord
-  gate-good =
-      let T = gateTableau (p .gate) (p .first) (p .second) in
-      let c : Clifford T = gate-clifford (p .gate) (p .first) (p .second) (f .gate) (omega (arith, f .first)) second-small (f .different) in
-      record { formed = record-formed T (c .proper .narrow); valid = isValid-same (tableauOf _) T (record-back T (c .proper)) ∙ c .valid }
+  own-good : Good (gateRecord (p .gate) (p .first) (p .second))
+  own-good = gate-good (p .gate) (p .first) (p .second) (f .gate) (omega (arith, f .first)) second-small (f .different)
 
   module _ {t : List ℕ} (g : Good t) (e : widthOf t ≡ w) where
     then-good : Good (composeRecord (gateRecord (p .gate) (p .first) (p .second)) t)
-    then-good = compose-good gate-good g
+    then-good = compose-good own-good g
 
     then-width : widthOf (composeRecord (gateRecord (p .gate) (p .first) (p .second)) t) ≡ w
     then-width =
@@ -70,7 +65,7 @@ product-valid {w} {t = t} small (more {p} {rest} f g) v =
 gates-steps : {w : ℕ} {ps : List Play} → w ≤ qubits → PlaysFit w ps → Steps w (tableauxOf ps)
 unfolding tableauxOf recordValid
 gates-steps small none = back.none
-gates-steps small (more f g) = back.step (record { valid = gate-good small f .valid; narrow = gate-narrow small f }) (gates-steps small g)
+gates-steps small (more f g) = back.step (record { valid = own-good small f .valid; narrow = gate-narrow small f }) (gates-steps small g)
 
 module _ (l : List ℕ) (e : listQuestions l ≡ Done) where
   small : listWidth l ≤ qubits
