@@ -66,7 +66,7 @@ struct rc_reply {
 #define RC_TABLEAU_MOST 33025
 #define RC_SPARSE_MOST 531
 #define RC_DISPLAY_MOST 138813
-#define RC_REPORT_MOST 138813
+#define RC_REPORT_MOST 138557
 /* The value of rc_from_clifford_rep where no gate has the tableau. */
 #define RC_NO_GATE 255
 

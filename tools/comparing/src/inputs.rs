@@ -156,17 +156,16 @@ pub fn bad_string(random: &mut Random) -> Vec<u8> {
     }
 }
 
-/// A tableau that is refused, for its width, its length or a byte; now and then a good one where nothing can be spoiled.
-pub fn bad_tableau(random: &mut Random, record: &[u8]) -> Vec<u8> {
-    match random.below(6) {
-        0 => longer(record),
-        1 => shorter(record),
-        2 => other_width(random, record),
-        3 => spoiled(random, &longer(record), 1),
-        4 => {
-            let once = spoiled(random, record, 1);
-            spoiled(random, &once, 1)
-        }
-        _ => spoiled(random, record, 1),
-    }
+/// Copies that are refused, for their width, their length or a byte; of width 0 some are not, having no byte to spoil.
+pub fn bad_tableaux(random: &mut Random, record: &[u8]) -> Vec<Vec<u8>> {
+    let once = spoiled(random, record, 1);
+    vec![
+        Vec::new(),
+        longer(record),
+        shorter(record),
+        other_width(random, record),
+        spoiled(random, &longer(record), 1),
+        spoiled(random, &once, 1),
+        once,
+    ]
 }

@@ -2,7 +2,8 @@
 
 use crate::comparison::Comparison;
 use crate::inputs::{
-    EDGES, any_string, bad_string, bad_tableau, damaged, identity, string, valid_tableau, width_one,
+    EDGES, any_string, bad_string, bad_tableaux, damaged, identity, string, valid_tableau,
+    width_one,
 };
 use crate::model::{QUBITS, tableau_length};
 use oracle::driver::Call;
@@ -183,7 +184,7 @@ fn of_width(compare: &mut Comparison, width: usize) {
     let valid = valid_tableau(random, width, count);
     let other = damaged(random, &valid);
     let any = random.any_tableau(width);
-    let bad: Vec<Vec<u8>> = (0..4).map(|_| bad_tableau(random, &valid)).collect();
+    let bad = bad_tableaux(random, &valid);
     let light = if width > 48 {
         &[]
     } else {
@@ -195,7 +196,7 @@ fn of_width(compare: &mut Comparison, width: usize) {
         applying(compare, record);
         hard(compare, record);
     }
-    for record in bad.iter().chain([&Vec::new()]) {
+    for record in &bad {
         easy(compare, record);
         setting(compare, record);
         applying(compare, record);
@@ -208,6 +209,8 @@ fn of_width(compare: &mut Comparison, width: usize) {
         compare.each_room(&Call::new(name).b1(&valid));
     }
     compare.each_room(&Call::new("extended_to").b1(&other).n(&[width as u64]));
+    let image = any_string(&mut compare.random, width);
+    compare.each_room(&Call::new("apply").b1(&other).b2(&image));
 }
 
 /// Products of every two small widths, valid and not, and of a small one with each larger one.
@@ -252,8 +255,8 @@ fn full(compare: &mut Comparison) {
         };
         compare.each_room_but_once(&Call::new("compose").b1(left).b2(right));
         compare.each_room_but_once(&Call::new("inverse").b1(left));
-        compare.case(&Call::new("is_valid").b1(&valid));
         for record in [&valid, &any] {
+            compare.case(&Call::new("is_valid").b1(record));
             easy(compare, record);
             setting(compare, record);
             applying(compare, record);
