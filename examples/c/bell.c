@@ -1,0 +1,73 @@
+/* A Bell pair: H on qubit 0, then CX from 0 to 1. Composes the two, shows the tableau, and undoes it. */
+#include "renetcleat.h"
+
+#include <stdio.h>
+#include <stdlib.h>
+#include <string.h>
+
+enum { H = 4, CX = 24, WIDTH = 2, LENGTH = RC_TABLEAU_LENGTH(WIDTH) };
+
+static const char EXPECTED[] = "CliffordRep(2 qubits):\n"
+                               "  X_0 -> +Z0\n"
+                               "  Z_0 -> +X0 X1\n"
+                               "  X_1 -> +X1\n"
+                               "  Z_1 -> +Z0 Z1\n";
+
+/* The value of a reply; a refusal ends the program. */
+static uint64_t value(const char *what, struct rc_reply reply) {
+    if (reply.number != 0) {
+        fprintf(stderr, "%s: refused %llu at %llu\n", what, (unsigned long long)reply.number, (unsigned long long)reply.value);
+        exit(1);
+    }
+    return reply.value;
+}
+
+static void expect(const char *what, int held) {
+    if (!held) {
+        fprintf(stderr, "%s: not as expected\n", what);
+        exit(1);
+    }
+}
+
+/* The pair's tableau. The gate that acts first stands on the right. */
+static void bell(uint8_t pair[LENGTH]) {
+    uint8_t h[RC_TABLEAU_LENGTH(1)], cx[LENGTH];
+    value("on_qubit", rc_on_qubit(H, 0, h, sizeof h));
+    value("on_qubits", rc_on_qubits(CX, 0, 1, cx, sizeof cx));
+    value("compose", rc_compose(cx, sizeof cx, h, sizeof h, pair, LENGTH));
+}
+
+static void show(const uint8_t pair[LENGTH]) {
+    uint8_t text[200];
+    size_t length = value("display", rc_display(pair, LENGTH, text, sizeof text));
+    fwrite(text, 1, length, stdout);
+    expect("text", length == strlen(EXPECTED) && memcmp(text, EXPECTED, length) == 0);
+}
+
+/* The inverse, composed with the pair, is the identity. */
+static void undo(const uint8_t pair[LENGTH]) {
+    uint8_t back[LENGTH], both[LENGTH], one[LENGTH];
+    value("inverse", rc_inverse(pair, LENGTH, back, sizeof back));
+    value("compose", rc_compose(back, sizeof back, pair, LENGTH, both, sizeof both));
+    value("identity", rc_identity(WIDTH, one, sizeof one));
+    expect("inverse", memcmp(both, one, LENGTH) == 0);
+}
+
+/* A destination short by one byte is refused, and keeps its bytes. */
+static void refused(const uint8_t pair[LENGTH]) {
+    uint8_t small[LENGTH - 1], before[LENGTH - 1];
+    memset(small, 0xaa, sizeof small);
+    memcpy(before, small, sizeof before);
+    struct rc_reply reply = rc_inverse(pair, LENGTH, small, sizeof small);
+    expect("refusal", reply.number == 7 && reply.value == 0 && memcmp(small, before, sizeof small) == 0);
+}
+
+int main(void) {
+    uint8_t pair[LENGTH];
+    bell(pair);
+    expect("valid", value("is_valid", rc_is_valid(pair, sizeof pair)) == 1);
+    show(pair);
+    undo(pair);
+    refused(pair);
+    return 0;
+}

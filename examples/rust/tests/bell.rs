@@ -1,0 +1,79 @@
+use renetcleat::*;
+
+const H: u8 = 4;
+const CX: u8 = 24;
+const BELL: &str =
+    "CliffordRep(2 qubits):\n  X_0 -> +Z0\n  Z_0 -> +X0 X1\n  X_1 -> +X1\n  Z_1 -> +Z0 Z1\n";
+
+fn bell() -> [u8; tableau_length(2)] {
+    let (mut h, mut cx) = ([0; tableau_length(1)], [0; tableau_length(2)]);
+    let mut pair = [0; tableau_length(2)];
+    on_qubit(H, 0, &mut h).unwrap();
+    on_qubits(CX, 0, 1, &mut cx).unwrap();
+    compose(&cx, &h, &mut pair).unwrap();
+    pair
+}
+
+#[test]
+fn a_bell_pair_is_shown() {
+    let mut text = [0; 200];
+    let length = display(&bell(), &mut text).unwrap() as usize;
+    assert_eq!(std::str::from_utf8(&text[..length]), Ok(BELL));
+}
+
+#[test]
+fn a_bell_pair_is_undone() {
+    let (pair, mut back) = (bell(), [0; tableau_length(2)]);
+    let (mut both, mut one) = (back, back);
+    inverse(&pair, &mut back).unwrap();
+    compose(&back, &pair, &mut both).unwrap();
+    identity(2, &mut one).unwrap();
+    assert_eq!(both, one);
+    assert_eq!(is_valid(&back), Ok(1));
+}
+
+#[test]
+fn strings_are_read_multiplied_and_written() {
+    let (mut s, mut t) = ([0; STRING_LENGTH], [0; STRING_LENGTH]);
+    let (mut product, mut text) = ([0; STRING_LENGTH], [0; 20]);
+    from_str(b"X0 Z1", &mut s).unwrap();
+    from_str(b"ZX", &mut t).unwrap();
+    mul(&s, &t, &mut product).unwrap();
+    let length = to_sparse_str(&product, &mut text).unwrap() as usize;
+    assert_eq!(&text[..length], b"+Y0 Y1");
+    assert_eq!(commutes_with(&s, &t), Ok(1));
+}
+
+#[test]
+fn a_refusal_has_its_number_and_writes_nothing() {
+    let refused = |number, detail| Err(Refusal { number, detail });
+    let mut dst = [0xaa; STRING_LENGTH];
+    assert_eq!(from_str(b"X128", &mut dst), refused(13, 1));
+    assert_eq!(from_str(b"X5 X5 X3 X3", &mut dst), refused(12, 3));
+    assert_eq!(identity(129, &mut dst), refused(1, 0));
+    assert_eq!(inverse(&[], &mut dst), refused(2, 0));
+    assert_eq!(mul(&[], &[], &mut []), refused(2, 0));
+    assert_eq!(dst, [0xaa; STRING_LENGTH]);
+    let shown = from_sparse_str(b"+I", &mut dst).unwrap_err().to_string();
+    assert_eq!(shown, "refused 9 at 1");
+}
+
+#[test]
+fn no_gate_is_an_answer() {
+    let mut one = [0; 1];
+    identity(0, &mut one).unwrap();
+    assert_eq!(from_clifford_rep(&one), Ok(NO_GATE));
+}
+
+#[cfg(feature = "lists")]
+#[test]
+fn a_list_is_run_and_reported() {
+    let list = [0, 2, 0, 0, 1, 0, H, 0, 0, 0, 2, 0, CX, 0, 1, 0, 0, 0];
+    let (mut dst, mut text) = ([0; tableau_length(2)], [0; 200]);
+    assert_eq!(run(&list, &mut dst), Ok(2));
+    assert_eq!(dst, bell());
+    let length = report(&list, &mut text).unwrap() as usize;
+    assert_eq!(std::str::from_utf8(&text[..length]), Ok(BELL));
+    let length = report(&[], &mut text).unwrap() as usize;
+    assert_eq!(&text[..length], b"refused 16 at 0\n");
+}

@@ -1,0 +1,160 @@
+/* Pauli strings and Clifford tableaux over byte records: the C interface.
+ *
+ * Link with target/staticlib/libexports.a, which `rt staticlib exports` writes: x86-64 Linux, calls by the System V convention. It
+ * needs memcpy and memset, of any C library, and nothing else: no heap, no input or output, no writable data of its own.
+ *
+ * Records
+ *   phase byte    0 is +1, 1 is -1, 2 is +i, 3 is -i
+ *   letter byte   0 I, 1 X, 2 Z, 3 Y
+ *   string        129 bytes: a phase, then the letters of qubits 0 to 127
+ *   tableau       1 + 2 n (n + 1) bytes: the width n (0 to 128), n X rows, n Z rows; a row is a phase and n letters
+ *   entries       pairs of bytes: letter, qubit
+ *   gate list     1 to 4096 records of six bytes: gate, qubit, second qubit (0 for a one-qubit gate), 0, next index low, high;
+ *                 record 0 is the head: 0, width, 0, 0, next low, high; next 0 ends the chain
+ *   gate          0 to 23 act on one qubit, 24 to 37 on two
+ *
+ * Replies
+ *   Every function takes any bytes of any length and replies with two numbers: 0 and a value, or a refusal's number and its detail.
+ *   A refusal writes nothing. An answer writes its own bytes at the start of the destination and leaves what lies behind them.
+ *
+ *   number  question                                                       detail
+ *    0      (none: value is the answer, 0 where bytes are written)
+ *    1      is the width at most 128?                                      0
+ *    2      is the length exact?                                           0
+ *    3      is every phase and letter at most 3?                           the first bad offset
+ *    4      is the gate at most 37, or 23 where one qubit is meant?        0; in a list the record
+ *    5      is each qubit below 128, or below the list's width?            the qubit; in a list the record
+ *    6      are two qubits different?                                      the qubit; in a list the record
+ *    7      is the destination long enough for this answer?                0
+ *    8      is every byte of the text below 128?                           its offset
+ *    9      is it a known letter?                                          its offset
+ *   10      is there an index?                                             the letter's offset
+ *   11      is it a numeral below 2^64?                                    the numeral's offset
+ *   12      is each qubit named once?                                      the smallest duplicated qubit
+ *   13      is the qubit of a non-I letter below 128?                      the offset of numeral or letter
+ *   14      is the image inside the width?                                 its lowest qubit outside
+ *   15      is the slot below the width?                                   the slot
+ *   16      is the list a multiple of 6 bytes, from 6 to 24576?            0
+ *   17      are the head and the fixed zeros right?                        the record
+ *   18      is the next index below the record count?                      the record holding it
+ *   19      does the chain end?                                            the record met again
+ *
+ * The one thing trusted
+ *   A pointer is valid for its length: to be read, and to be written where it is not const. A destination overlaps no other buffer of
+ *   the call; buffers that are only read may overlap. Where a length is 0 nothing is read or written through its pointer: pass the
+ *   address of anything, but no null pointer.
+ */
+#ifndef RENETCLEAT_H
+#define RENETCLEAT_H
+
+#include <stddef.h>
+#include <stdint.h>
+
+#ifdef __cplusplus
+extern "C" {
+#endif
+
+struct rc_reply {
+    uint64_t number;
+    uint64_t value;
+};
+
+/* Lengths in bytes. */
+#define RC_STRING_LENGTH 129
+#define RC_TABLEAU_LENGTH(n) (1 + 2 * (size_t)(n) * ((size_t)(n) + 1))
+/* The most that is ever written: a tableau, sparse text, display text, the program's text. */
+#define RC_TABLEAU_MOST 33025
+#define RC_SPARSE_MOST 531
+#define RC_DISPLAY_MOST 138813
+#define RC_REPORT_MOST 138557
+/* The value of rc_from_clifford_rep where no gate has the tableau. */
+#define RC_NO_GATE 255
+
+/* ---- phases and letters */
+
+/* The product of two phases. */
+struct rc_reply rc_phase_product(uint8_t a, uint8_t b);
+/* The phase with +i and -i exchanged. */
+struct rc_reply rc_phase_conjugate(uint8_t phase);
+/* 1 where the phase is +1 or -1, otherwise 0. */
+struct rc_reply rc_phase_is_real(uint8_t phase);
+/* The product of two letters, as 4 * phase + letter. */
+struct rc_reply rc_letter_product(uint8_t a, uint8_t b);
+
+/* ---- strings */
+
+/* The phase of a string. */
+struct rc_reply rc_phase(const uint8_t *s, size_t s_len);
+/* The letter at a qubit. */
+struct rc_reply rc_get(const uint8_t *s, size_t s_len, size_t qubit);
+/* 1 where the two strings commute, otherwise 0. */
+struct rc_reply rc_commutes_with(const uint8_t *s, size_t s_len, const uint8_t *t, size_t t_len);
+/* Writes the product s t. */
+struct rc_reply rc_mul(const uint8_t *s, size_t s_len, const uint8_t *t, size_t t_len, uint8_t *dst, size_t dst_len);
+/* Writes the string of a phase and entries. */
+struct rc_reply rc_with_phase_and_paulis(uint8_t phase, const uint8_t *entries, size_t entries_len, uint8_t *dst, size_t dst_len);
+/* Writes the string of a sparse text, as "-i X0 z 7". */
+struct rc_reply rc_from_sparse_str(const uint8_t *text, size_t text_len, uint8_t *dst, size_t dst_len);
+/* Writes the string of a dense text, as "-iXIIIIIIZ". */
+struct rc_reply rc_from_dense_str(const uint8_t *text, size_t text_len, uint8_t *dst, size_t dst_len);
+/* Writes the string of a text: sparse where it has a digit, otherwise dense. */
+struct rc_reply rc_from_str(const uint8_t *text, size_t text_len, uint8_t *dst, size_t dst_len);
+/* Writes the string's sparse text; the value is its length. No zero byte is put behind it. */
+struct rc_reply rc_to_sparse_str(const uint8_t *s, size_t s_len, uint8_t *dst, size_t dst_len);
+
+/* ---- tableaux */
+
+/* Writes the identity of width n. */
+struct rc_reply rc_identity(size_t n, uint8_t *dst, size_t dst_len);
+/* The offset in t of the X row of a slot; the row has 1 + n bytes. */
+struct rc_reply rc_x_image(const uint8_t *t, size_t t_len, size_t slot);
+/* The offset in t of the Z row of a slot; the row has 1 + n bytes. */
+struct rc_reply rc_z_image(const uint8_t *t, size_t t_len, size_t slot);
+/* Puts the string s in the place of the X row of a slot, in t itself. */
+struct rc_reply rc_set_x_image(uint8_t *t, size_t t_len, size_t slot, const uint8_t *s, size_t s_len);
+/* Puts the string s in the place of the Z row of a slot, in t itself. */
+struct rc_reply rc_set_z_image(uint8_t *t, size_t t_len, size_t slot, const uint8_t *s, size_t s_len);
+/* Writes the string that the tableau t sends s to. */
+struct rc_reply rc_apply(const uint8_t *t, size_t t_len, const uint8_t *s, size_t s_len, uint8_t *dst, size_t dst_len);
+/* Writes the tableau of b first, then a, in the larger of the two widths. */
+struct rc_reply rc_compose(const uint8_t *a, size_t a_len, const uint8_t *b, size_t b_len, uint8_t *dst, size_t dst_len);
+/* Writes the tableau in width n, or a copy where n is no larger than its width. */
+struct rc_reply rc_extended_to(const uint8_t *t, size_t t_len, size_t n, uint8_t *dst, size_t dst_len);
+/* Writes the inverse. */
+struct rc_reply rc_inverse(const uint8_t *t, size_t t_len, uint8_t *dst, size_t dst_len);
+/* 1 where phases are real and images commute as the generators do, otherwise 0. */
+struct rc_reply rc_is_valid(const uint8_t *t, size_t t_len);
+/* Writes the qubits that the tableau touches, rising, a byte each; the value is their count. */
+struct rc_reply rc_support_qubits(const uint8_t *t, size_t t_len, uint8_t *dst, size_t dst_len);
+/* Writes the tableau of conjugation by the string s; its phase is dropped. */
+struct rc_reply rc_from_pauli_string(const uint8_t *s, size_t s_len, uint8_t *dst, size_t dst_len);
+/* Writes the tableau's text, a line for each generator; the value is its length. No zero byte is put behind it. */
+struct rc_reply rc_display(const uint8_t *t, size_t t_len, uint8_t *dst, size_t dst_len);
+
+/* ---- gates */
+
+/* Writes one of the 24 products of H and SZ, by its index from 0 to 23, on a qubit. */
+struct rc_reply rc_single_qubit_clifford(size_t index, size_t qubit, uint8_t *dst, size_t dst_len);
+/* Writes the gate's tableau on its qubits; q1 is not looked at for gates 0 to 23. */
+struct rc_reply rc_on_qubits(uint8_t gate, size_t q0, size_t q1, uint8_t *dst, size_t dst_len);
+/* Writes the tableau of a one-qubit gate. */
+struct rc_reply rc_on_qubit(uint8_t gate, size_t q, uint8_t *dst, size_t dst_len);
+/* The one-qubit gate that is h first, then g. */
+struct rc_reply rc_gate_compose(uint8_t g, uint8_t h);
+/* The gate's inverse. */
+struct rc_reply rc_gate_inverse(uint8_t g);
+/* The first of the gates 0 to 23 with this tableau, or RC_NO_GATE. */
+struct rc_reply rc_from_clifford_rep(const uint8_t *t, size_t t_len);
+
+/* ---- gate lists */
+
+/* Writes the tableau of all gates on the list's chain; the value is the number of steps. */
+struct rc_reply rc_run(const uint8_t *list, size_t list_len, uint8_t *dst, size_t dst_len);
+/* Writes what the program writes of the list: its run's display text, or "refused N at D" and a newline; the value is its length. */
+struct rc_reply rc_report(const uint8_t *list, size_t list_len, uint8_t *out, size_t out_len);
+
+#ifdef __cplusplus
+}
+#endif
+
+#endif

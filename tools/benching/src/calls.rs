@@ -1,0 +1,156 @@
+//! Single calls: the three sides answer alike, then each is timed.
+
+use crate::page::{Figure, Goal};
+use crate::plain;
+use crate::timing::least;
+use oracle::driver::records::{read_string, read_tableau, write_string, write_tableau};
+use oracle::vectors::Random;
+use renetcleat::{STRING_LENGTH, tableau_length};
+
+pub fn all(random: &mut Random) -> Vec<Figure> {
+    let mut figures = Vec::new();
+    for letters in [20, 128] {
+        figures.push(product(random, letters));
+    }
+    for width in [20, 128] {
+        figures.push(apply(random, width));
+    }
+    for width in [20, 64, 128] {
+        figures.extend(of_tableaux(random, width, FULL));
+    }
+    // The Rust's time goes by the letters that are not I, so a sparser tableau says something else.
+    figures.extend(of_tableaux(random, 128, SPARSER));
+    figures
+}
+
+fn of_tableaux(random: &mut Random, width: usize, gates: usize) -> [Figure; 3] {
+    let [left, right] = [(); 2].map(|()| valid_tableau(random, width, gates));
+    [compose(&left, &right), inverse(&left), is_valid(&left)]
+}
+
+/// Any letters on the first qubits, I on the others.
+fn string(random: &mut Random, letters: usize) -> Vec<u8> {
+    let mut record = random.full_string(1);
+    record[1 + letters..].fill(0);
+    record
+}
+
+/// Random gates for each qubit: so many that about three letters of four are not I, as of any letters; and fewer.
+const FULL: usize = 32;
+const SPARSER: usize = 8;
+
+fn valid_tableau(random: &mut Random, width: usize, gates: usize) -> Vec<u8> {
+    let mut record = vec![0; tableau_length(width)];
+    renetcleat::identity(width, &mut record).unwrap();
+    for _ in 0..gates * width {
+        let (gate, q0, q1) = random.gate(width);
+        let mut tableau = vec![0; tableau_length(1 + q0.max(q1))];
+        renetcleat::on_qubits(gate as u8, q0, q1, &mut tableau).unwrap();
+        let mut next = vec![0; record.len()];
+        renetcleat::compose(&tableau, &record, &mut next).unwrap();
+        record = next;
+    }
+    record
+}
+
+/// The share of a tableau's letters that are not I, in percent.
+fn letters(record: &[u8]) -> usize {
+    let width = usize::from(record[0]);
+    let rows = record[1..].chunks(width + 1);
+    let letters = rows
+        .flat_map(|row| &row[1..])
+        .filter(|letter| **letter != 0);
+    100 * letters.count() / (2 * width * width)
+}
+
+fn size(record: &[u8]) -> String {
+    format!("width {}, {} % letters", record[0], letters(record))
+}
+
+/// The goal is one of full tableaux.
+fn goal(record: &[u8]) -> Goal {
+    if record[0] == 128 && letters(record) >= 70 {
+        Goal::TimesAndPlain(200.0)
+    } else {
+        Goal::None
+    }
+}
+
+fn product(random: &mut Random, letters: usize) -> Figure {
+    let (s, t) = (string(random, letters), string(random, letters));
+    let (left, right) = (read_string(&s).unwrap(), read_string(&t).unwrap());
+    let (mut ours, mut theirs) = ([0; STRING_LENGTH], [0; STRING_LENGTH]);
+    renetcleat::mul(&s, &t, &mut ours).unwrap();
+    plain::mul(&s, &t, &mut theirs);
+    assert!(ours == theirs && write_string(&(&left * &right)).as_deref() == Some(&ours));
+    Figure {
+        call: "product of strings",
+        size: format!("{letters} letters"),
+        rust: least(|| &left * &right),
+        ours: least(|| renetcleat::mul(&s, &t, &mut ours)),
+        plain: least(|| plain::mul(&s, &t, &mut theirs)),
+        goal: Goal::Faster,
+    }
+}
+
+fn apply(random: &mut Random, width: usize) -> Figure {
+    let (record, s) = (valid_tableau(random, width, FULL), string(random, width));
+    let (tableau, image) = (read_tableau(&record).unwrap(), read_string(&s).unwrap());
+    let (mut ours, mut theirs) = ([0; STRING_LENGTH], [0; STRING_LENGTH]);
+    renetcleat::apply(&record, &s, &mut ours).unwrap();
+    plain::apply(&record, &s, &mut theirs);
+    assert!(ours == theirs && write_string(&tableau.apply(&image)).as_deref() == Some(&ours));
+    Figure {
+        call: "apply",
+        size: size(&record),
+        rust: least(|| tableau.apply(&image)),
+        ours: least(|| renetcleat::apply(&record, &s, &mut ours)),
+        plain: least(|| plain::apply(&record, &s, &mut theirs)),
+        goal: Goal::Faster,
+    }
+}
+
+fn compose(a: &[u8], b: &[u8]) -> Figure {
+    let (left, right) = (read_tableau(a).unwrap(), read_tableau(b).unwrap());
+    let (mut ours, mut theirs) = (vec![0; a.len()], vec![0; a.len()]);
+    renetcleat::compose(a, b, &mut ours).unwrap();
+    plain::compose(a, b, &mut theirs);
+    assert!(ours == theirs && write_tableau(&left.compose(&right)).as_ref() == Some(&ours));
+    Figure {
+        call: "compose",
+        size: size(a),
+        rust: least(|| left.compose(&right)),
+        ours: least(|| renetcleat::compose(a, b, &mut ours)),
+        plain: least(|| plain::compose(a, b, &mut theirs)),
+        goal: goal(a),
+    }
+}
+
+fn inverse(record: &[u8]) -> Figure {
+    let tableau = read_tableau(record).unwrap();
+    let (mut ours, mut theirs) = (vec![0; record.len()], vec![0; record.len()]);
+    renetcleat::inverse(record, &mut ours).unwrap();
+    plain::inverse(record, &mut theirs);
+    assert!(ours == theirs && write_tableau(&tableau.inverse()).as_ref() == Some(&ours));
+    Figure {
+        call: "inverse",
+        size: size(record),
+        rust: least(|| tableau.inverse()),
+        ours: least(|| renetcleat::inverse(record, &mut ours)),
+        plain: least(|| plain::inverse(record, &mut theirs)),
+        goal: goal(record),
+    }
+}
+
+fn is_valid(record: &[u8]) -> Figure {
+    let tableau = read_tableau(record).unwrap();
+    assert!(tableau.is_valid() && renetcleat::is_valid(record) == Ok(1) && plain::is_valid(record));
+    Figure {
+        call: "is_valid",
+        size: size(record),
+        rust: least(|| tableau.is_valid()),
+        ours: least(|| renetcleat::is_valid(record)),
+        plain: least(|| plain::is_valid(record)),
+        goal: goal(record),
+    }
+}

@@ -1,0 +1,209 @@
+//! The scope document's questions on entry, written a second time and plainly: which refusal a call meets, or how many bytes of its
+//! destination the answer takes. It knows lengths and numbers, and nothing of products.
+
+mod list;
+mod text;
+
+pub use list::list;
+
+use oracle::driver::Call;
+
+pub const QUBITS: usize = 128;
+pub const STRING: usize = 129;
+
+/// A refusal's number and detail.
+pub type Refusal = (u64, u64);
+pub type Questions = Result<(), Refusal>;
+
+pub fn tableau_length(width: usize) -> usize {
+    1 + 2 * width * (width + 1)
+}
+
+/// The refusal, or how many bytes are written; the room is asked last.
+pub fn judge(call: &Call) -> Result<usize, Refusal> {
+    let needs = needs(call)?;
+    ask(needs <= call.d.len(), 7, 0)?;
+    Ok(needs)
+}
+
+fn ask(yes: bool, number: u64, detail: u64) -> Questions {
+    if yes { Ok(()) } else { Err((number, detail)) }
+}
+
+/// How many bytes the answer takes in a destination that has room for it.
+pub fn needs(call: &Call) -> Result<usize, Refusal> {
+    let [n1, n2, n3] = call.n;
+    match call.name.as_str() {
+        "phase_product" | "letter_product" => small(n1).and(small(n2)).map(|()| 0),
+        "phase_conjugate" | "phase_is_real" => small(n1).map(|()| 0),
+        "phase" => string(&call.b1).map(|()| 0),
+        "get" => {
+            string(&call.b1)?;
+            qubit(n1).map(|()| 0)
+        }
+        "commutes_with" => strings(call).map(|()| 0),
+        "mul" => strings(call).map(|()| STRING),
+        "with_phase_and_paulis" => entries(n1, &call.b1).map(|()| STRING),
+        "from_sparse_str" => text::sparse(&call.b1).map(|()| STRING),
+        "from_dense_str" => text::dense(&call.b1).map(|()| STRING),
+        "from_str" => text::either(&call.b1).map(|()| STRING),
+        "to_sparse_str" => string(&call.b1).map(|()| text::sparse_length(&call.b1)),
+        "identity" => width(n1).map(tableau_length),
+        "x_image" | "z_image" => {
+            let width = tableau(&call.b1)?;
+            ask(n1 < width as u64, 15, n1).map(|()| 0)
+        }
+        "set_x_image" | "set_z_image" => set_image(call),
+        "apply" => {
+            tableau(&call.b1)?;
+            string(&call.b2).map(|()| STRING)
+        }
+        "compose" => {
+            let (left, right) = (tableau(&call.b1)?, tableau(&call.b2)?);
+            Ok(tableau_length(left.max(right)))
+        }
+        "extended_to" => {
+            let own = tableau(&call.b1)?;
+            Ok(tableau_length(own.max(width(n1)?)))
+        }
+        "inverse" => tableau(&call.b1).map(tableau_length),
+        "is_valid" | "from_clifford_rep" => tableau(&call.b1).map(|_| 0),
+        "support_qubits" => tableau(&call.b1).map(|width| support(&call.b1, width)),
+        "from_pauli_string" => string(&call.b1).map(|()| string_tableau(&call.b1)),
+        "display" => tableau(&call.b1).map(|width| text::display_length(&call.b1, width)),
+        "single_qubit_clifford" | "on_qubit" => {
+            gate(n1, 23)?;
+            qubit(n2).map(|()| tableau_length(n2 as usize + 1))
+        }
+        "on_qubits" => on_qubits(n1, n2, n3),
+        "gate_compose" => gate(n1, 23).and(gate(n2, 23)).map(|()| 0),
+        "gate_inverse" => gate(n1, 37).map(|()| 0),
+        "run" => list(&call.b1).map(tableau_length),
+        // Its text may be that of a refusal; the length comes with the text.
+        "report" => Ok(0),
+        name => panic!("{name} has no questions"),
+    }
+}
+
+/// A phase or a letter given by itself.
+fn small(byte: u64) -> Questions {
+    ask(byte <= 3, 3, 0)
+}
+
+fn small_bytes(bytes: &[u8], from: usize) -> Questions {
+    match bytes[from..].iter().position(|byte| *byte > 3) {
+        Some(place) => Err((3, (from + place) as u64)),
+        None => Ok(()),
+    }
+}
+
+fn qubit(number: u64) -> Questions {
+    ask(number < QUBITS as u64, 5, number)
+}
+
+fn gate(number: u64, most: u64) -> Questions {
+    ask(number <= most, 4, 0)
+}
+
+fn width(number: u64) -> Result<usize, Refusal> {
+    ask(number <= QUBITS as u64, 1, 0)?;
+    Ok(number as usize)
+}
+
+fn string(bytes: &[u8]) -> Questions {
+    ask(bytes.len() == STRING, 2, 0)?;
+    small_bytes(bytes, 0)
+}
+
+fn strings(call: &Call) -> Questions {
+    string(&call.b1)?;
+    string(&call.b2)
+}
+
+/// The width of a tableau that passes.
+fn tableau(bytes: &[u8]) -> Result<usize, Refusal> {
+    let Some(first) = bytes.first() else {
+        return Err((2, 0));
+    };
+    let width = width(u64::from(*first))?;
+    ask(bytes.len() == tableau_length(width), 2, 0)?;
+    small_bytes(bytes, 1)?;
+    Ok(width)
+}
+
+/// Question by question over all entries.
+fn entries(phase: u64, bytes: &[u8]) -> Questions {
+    small(phase)?;
+    ask(bytes.len().is_multiple_of(2), 2, 0)?;
+    for (place, letter) in bytes.iter().enumerate().step_by(2) {
+        ask(*letter <= 3, 3, place as u64)?;
+    }
+    let qubits: Vec<u64> = bytes
+        .iter()
+        .skip(1)
+        .step_by(2)
+        .map(|q| (*q).into())
+        .collect();
+    qubits.iter().try_for_each(|q| qubit(*q))?;
+    once(&qubits)
+}
+
+/// Is each qubit named once? The smallest that is not.
+fn once(qubits: &[u64]) -> Questions {
+    let mut sorted = qubits.to_vec();
+    sorted.sort_unstable();
+    match sorted.windows(2).find(|pair| pair[0] == pair[1]) {
+        Some(pair) => Err((12, pair[0])),
+        None => Ok(()),
+    }
+}
+
+/// The image before the slot.
+fn set_image(call: &Call) -> Result<usize, Refusal> {
+    let width = tableau(&call.d)?;
+    string(&call.b1)?;
+    if let Some(outside) = (width..QUBITS).find(|qubit| call.b1[1 + qubit] != 0) {
+        return Err((14, outside as u64));
+    }
+    ask(call.n[0] < width as u64, 15, call.n[0])?;
+    Ok(call.d.len())
+}
+
+fn on_qubits(number: u64, q0: u64, q1: u64) -> Result<usize, Refusal> {
+    gate(number, 37)?;
+    qubit(q0)?;
+    if number <= 23 {
+        return Ok(tableau_length(q0 as usize + 1));
+    }
+    qubit(q1)?;
+    ask(q0 != q1, 6, q0)?;
+    Ok(tableau_length(q0.max(q1) as usize + 1))
+}
+
+/// Width 1 for no letters.
+fn string_tableau(record: &[u8]) -> usize {
+    let last = record[1..].iter().rposition(|letter| *letter != 0);
+    tableau_length(last.map_or(1, |qubit| qubit + 1))
+}
+
+pub fn row(record: &[u8], width: usize, place: usize) -> &[u8] {
+    &record[1 + place * (width + 1)..][..width + 1]
+}
+
+/// How many qubits: each whose rows are changed, and each with a letter in such a row.
+fn support(record: &[u8], width: usize) -> usize {
+    let plain = |row: &[u8], qubit: usize, letter: u8| {
+        row[0] == 0 && (0..width).all(|q| row[1 + q] == if q == qubit { letter } else { 0 })
+    };
+    let mut touched = vec![false; width];
+    for qubit in 0..width {
+        let (x, z) = (row(record, width, qubit), row(record, width, width + qubit));
+        if plain(x, qubit, 1) && plain(z, qubit, 2) {
+            continue;
+        }
+        for (q, place) in touched.iter_mut().enumerate() {
+            *place |= q == qubit || x[1 + q] != 0 || z[1 + q] != 0;
+        }
+    }
+    touched.into_iter().filter(|yes| *yes).count()
+}
