@@ -1,4 +1,4 @@
--- The readings on the bench that the scope document marks with a star: what is asked, and what is answered, in bytes.
+-- The readings that the scope document marks with a star: what is asked, and what is answered, in bytes.
 use Prim.Native.Nat.{ℕ, _-_}
 use mathlib.Core.Path.{_≡_}
 use mathlib.Core.List.{List, [], _∷_, _++_}
