@@ -16,14 +16,9 @@ pub mod ValidRows
 pub mod PauliTableaux
 pub mod Supports
 pub mod RecordLaws
-pub mod WayBacks
-pub mod WayBackSteps
-pub mod PlayedGates
 pub mod Displays
 pub mod GateImages
 pub mod GateWriting
 pub mod GateAsking
 pub mod GateNaming
 pub mod GateAnswers
-pub mod GateRecords
-pub mod Readings

@@ -7,10 +7,8 @@ pub mod Rows
 pub mod InverseRows
 pub mod Tableaux
 pub mod Writing
-pub mod WayBack
 pub mod Display
 pub mod GateQuestions
 pub mod GateRows
 pub mod GateAnswers
-pub mod Readings
 pub mod Playing

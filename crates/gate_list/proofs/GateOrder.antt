@@ -4,7 +4,7 @@ use mathlib.Core.List.{List, _∷_}
 use Prim.Native.Nat.{ℕ}
 use Rattle.clifford.specs.GateAnswers.{gateRecord}
 use Rattle.clifford.specs.Tableaux.{composeRecord}
-use Rattle.clifford.specs.WayBack.{productFrom}
+use Rattle.clifford_laws.specs.WayBack.{productFrom}
 use Rattle.gate_list.specs.Lists.{Play}
 use Rattle.gate_list.specs.Runs.{tableauxOf}
 

@@ -11,7 +11,7 @@ use borrow.Author.Tests.{lt-ltb, eq-eqb, ne-eqb}
 use Rattle.pauli.specs.declared.refusal.Refusal.the-variants.{Gate, Qubit}
 use Rattle.pauli.specs.declared.refusal.Outcome.the-variants.{Done}
 use Rattle.pauli.proofs.Asking.{asked-yes, passed}
-use Rattle.clifford.specs.WayBack.{productOf}
+use Rattle.clifford_laws.specs.WayBack.{productOf}
 use Rattle.clifford.proofs.TableauAsking.{width-narrow}
 use Rattle.gate_list.specs.Lists.{Play, recordCount, byteOf, listWidth, nextOf, playOf, chainFrom, chainOf, playsOf, gatesOf}
 use Rattle.gate_list.specs.ListQuestions.{zerosQuestion, gateQuestion, qubitQuestion, secondQuestions, recordQuestions, isMet, chainQuestions, listQuestions}

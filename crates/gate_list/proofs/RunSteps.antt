@@ -18,9 +18,9 @@ use Rattle.clifford.specs.GateAnswers.{gateRecord}
 use Rattle.clifford.specs.Playing.{played}
 use Rattle.clifford.specs.Questions.{identityAnswer}
 use Rattle.clifford.specs.Tableaux.{identityRecord, composeRecord}
-use Rattle.clifford.specs.WayBack.{productFrom, productOf}
+use Rattle.clifford_laws.specs.WayBack.{productFrom, productOf}
 use Rattle.clifford.proofs.TableauAsking.{width-narrow}
-use Rattle.clifford.proofs.PlayedGates.{played-is, played-formed, length-played, width-played}
+use Rattle.clifford_laws.proofs.PlayedGates.{played-is, played-formed, length-played, width-played}
 use Rattle.clifford.proofs.RecordLaws.{identity-width, identity-good}
 use Rattle.gate_list.specs.Lists.{Play, recordCount, byteOf, listWidth, nextOf, playOf, chainOf, playsOf, gatesOf}
 use Rattle.gate_list.specs.OrderedLists.{PlayFits, PlaysFit, none, more, Chain, ends, links}

@@ -13,10 +13,10 @@ use Rattle.pauli.specs.declared.refusal.Outcome.the-variants.{Done}
 use Rattle.clifford.specs.Layout.{recordLength, widthOf, tableauOf}
 use Rattle.clifford.specs.GateAnswers.{gateRecord}
 use Rattle.clifford.specs.Tableaux.{recordValid, identityRecord, composeRecord}
-use Rattle.clifford.specs.WayBack.{Steps, productFrom, productOf}
-use Rattle.clifford.specs.WayBack as back
-use Rattle.clifford.proofs.GateRecords.{gate-good}
-use Rattle.clifford.proofs.PlayedGates.{played-is, width-played}
+use Rattle.clifford_laws.specs.WayBack.{Steps, productFrom, productOf}
+use Rattle.clifford_laws.specs.WayBack as back
+use Rattle.clifford_laws.proofs.GateRecords.{gate-good}
+use Rattle.clifford_laws.proofs.PlayedGates.{played-is, width-played}
 use Rattle.clifford.proofs.RecordLaws.{Good, identity-width, identity-good, compose-good, compose-width}
 use Rattle.clifford.proofs.TableauRecords.{record-small}
 use Rattle.gate_list.specs.Lists.{Play, listWidth, gatesOf}

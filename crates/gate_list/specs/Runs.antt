@@ -12,7 +12,7 @@ use Rattle.pauli.specs.Questions.{_andThen_, roomQuestion}
 use Rattle.clifford.specs.Layout.{recordLength}
 use Rattle.clifford.specs.GateAnswers.{gateRecord}
 use Rattle.clifford.specs.Tableaux.{identityRecord}
-use Rattle.clifford.specs.WayBack.{productOf}
+use Rattle.clifford_laws.specs.WayBack.{productOf}
 use Rattle.gate_list.specs.Lists.{Play, listWidth, gatesOf}
 use Rattle.gate_list.specs.ListQuestions.{listQuestions}
 

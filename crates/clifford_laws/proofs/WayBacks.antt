@@ -15,12 +15,12 @@ use Rattle.pauli.specs.Answers.{written}
 use Rattle.pauli.specs.Layout.{stringLength}
 use Rattle.pauli.specs.Questions.{_andThen_, stringQuestions, roomQuestion}
 use Rattle.pauli.proofs.Asking.{passed, done-first, done-second, has-room}
 use Rattle.clifford.specs.Layout.{recordLength, widthOf, tableauOf, FormedTableau}
 use Rattle.clifford.specs.Questions.{tableauQuestions, applyQuestions, applyAnswer, composeQuestions, composeAnswer, inverseAnswer}
 use Rattle.clifford.specs.Tableaux.{recordValid, identityRecord, applyRecord, composeRecord, inverseRecord}
-use Rattle.clifford.specs.WayBack.{Call, isDone, callAnswer, accepts, destinationAfter, nextRecord, recordAfter, stepsOf, Step, Steps, none, step, productFrom, productOf, sentBy, recordThen, recordNow, stepsThen, product, back, WayBack}
+use Rattle.clifford_laws.specs.WayBack.{Call, isDone, callAnswer, accepts, destinationAfter, nextRecord, recordAfter, stepsOf, Step, Steps, none, step, productFrom, productOf, sentBy, recordThen, recordNow, stepsThen, product, back, WayBack}
 use Rattle.clifford.proofs.RecordLaws.{Good, compose-formed, compose-width, compose-length, compose-good, records-assoc, identity-width, identity-good, identity-left, inverse-width, inverse-good, inverse-left, inverse-right, send-compose, send-identity}
 use Rattle.clifford.proofs.TableauAsking.{tableau-formed, formed-good}
 
 -- ---- one call
 is-done : (q : Outcome) → isDone q ≡ true → q ≡ Done

@@ -17,11 +17,11 @@ use Rattle.pauli.specs.Answers.{written}
 use Rattle.pauli.specs.Places.{listed, firstPlace}
 use Rattle.pauli.specs.Layout.{phaseByte, phaseOf, letterByte, letterOf}
 use Rattle.pauli.specs.Questions.{ask, _andThen_, firstBad, bytesQuestion, roomQuestion}
 use Rattle.clifford.specs.Layout.{rowLength, rowOffset, recordLength, rowOf, joined, encodeRow, decodeRow, tableauRecord, rowPart, tableauOf, widthOf}
 use Rattle.clifford.specs.Questions.{widthQuestion, lengthQuestion, tableauQuestions, composeQuestions, composeAnswer}
 use Rattle.clifford.specs.Tableaux.{recordValid, identityRecord, composeRecord}
-use Rattle.clifford.specs.WayBack.{Call, isDone, callAnswer, accepts, destinationAfter, nextRecord, recordAfter, stepsOf, Step, Steps, none, step, WayBack}
-use Rattle.clifford.proofs.WayBacks.{steps-append, steps-more, steps-kept, steps-nil, after-next, way-back}
+use Rattle.clifford_laws.specs.WayBack.{Call, isDone, callAnswer, accepts, destinationAfter, nextRecord, recordAfter, stepsOf, Step, Steps, none, step, WayBack}
+use Rattle.clifford_laws.proofs.WayBacks.{steps-append, steps-more, steps-kept, steps-nil, after-next, way-back}
 
 -- the list parted after its k-th accepted call
 record Parted (r : List ℕ) (cs : List Call) (k : ℕ) : Type 0 where

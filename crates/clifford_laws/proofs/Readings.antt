@@ -17,10 +17,10 @@ use Rattle.clifford_gates.specs.GateNumbers.{oneQubitGate, twoQubitGate, gateTa
 use Rattle.pauli.specs.Places.{listed}
 use Rattle.pauli.specs.Layout.{phaseByte, letterByte, phaseOf, letterOf, encodeString, decodeString, stringRecord, stringOf}
 use Rattle.pauli.specs.Rows.{productPhaseByte, productLetterByte, phaseBytesProduct}
 use Rattle.clifford.specs.Layout.{rowLength, encodeRow, decodeRow, rowOffset, rowOf, joined, tableauRecord, rowPart, tableauOf}
 use Rattle.clifford.specs.Tableaux.{recordValid, applyRecord, inverseRecord}
 use Rattle.clifford.specs.GateAnswers.{gateRecord, recordName}
-use Rattle.clifford.specs.Readings.{Reading, readings, answered, stringBytes}
+use Rattle.clifford_laws.specs.Readings.{Reading, readings, answered, stringBytes}
 
 abbrev same-bytes : List ℕ → List ℕ → Bool
 same-bytes [] [] = true

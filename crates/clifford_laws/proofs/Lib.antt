@@ -1,0 +1,5 @@
+pub mod WayBacks
+pub mod WayBackSteps
+pub mod PlayedGates
+pub mod GateRecords
+pub mod Readings

@@ -1,0 +1,2 @@
+pub mod WayBack
+pub mod Readings
