@@ -1,11 +1,14 @@
 -- Lists on which two readings of the questions could differ, with the answer of their run. The definitions are computed on them.
 use mathlib.Core.Path.{_≡_, refl, ap₂}
-use mathlib.Core.Bool.{Bool, true, _&&_}
+use mathlib.Core.Bool.{Bool, _&&_}
 use mathlib.Core.List.{List, [], _∷_}
 use Prim.Native.Nat.{ℕ}
-use lib.Dec.{eqb}
-use borrow.Author.Tests.{eqb-true}
+use lib.Dec.{T, eqb, eqb→eq}
 use Rattle.pauli_group.specs.PauliString.{qubits}
+use Rattle.pauli_group.proofs.PaperForms.{both}
+use Rattle.clifford_gates.specs.Gates.{All}
+use Rattle.clifford_gates.proofs.GateTables.{all-of}
+use Rattle.pauli.specs.declared.refusal.Reply.{Reply}
 use Rattle.pauli.specs.Answers.{refusalNumber, refusalDetail, reply, refusalReply, outcomeReply}
 use Rattle.pauli.specs.Questions.{ask, _andThen_, roomQuestion}
 use Rattle.clifford.specs.Layout.{rowLength, recordLength}
@@ -13,7 +16,6 @@ use Rattle.clifford.specs.Questions.{widthQuestion}
 use Rattle.gate_list.specs.Lists.{recordCount, byteOf, listWidth, nextOf, playOf, chainFrom, chainOf, playsOf, gatesOf}
 use Rattle.gate_list.specs.ListQuestions.{sizeQuestion, headQuestion, linkQuestion, zerosQuestion, gateQuestion, qubitQuestion, secondQuestions, recordQuestions, isMet, chainQuestions, listQuestions}
 use Rattle.gate_list.specs.Runs.{runAnswer}
-use Rattle.gate_list.proofs.ListAdmitted.{and-first, and-second}
 
 -- number 0 is for a list that runs
 pub record Reading : Type 0 where
@@ -57,34 +59,23 @@ readings =
     ∷ reading (0 ∷ 0 ∷ 0 ∷ 0 ∷ 0 ∷ 0 ∷ 255 ∷ 255 ∷ 255 ∷ 255 ∷ 255 ∷ 255 ∷ []) 1 0 0
     ∷ []
 
-pub data Every (P : Reading → Type 0) : List Reading → Type 0 where
-  none : Every P []
-  and : {r : Reading} {rest : List Reading} → P r → Every P rest → Every P (r ∷ rest)
+abbrev told : Reading → Reply
+told r = outcomeReply (runAnswer (r .list) (r .room))
 
-right : Reading → Bool
-right r =
-    let told = outcomeReply (runAnswer (r .list) (r .room)) in
-    eqb (told .number) (r .number) && eqb (told .value) (r .detail)
-
-all-right : List Reading → Bool
-all-right [] = true
-all-right (r ∷ rest) = right r && all-right rest
+abbrev test : Reading → Bool
+test r = eqb (told r .number) (r .number) && eqb (told r .value) (r .detail)
 
 abbrev Reads : Reading → Type 0
-Reads r = outcomeReply (runAnswer (r .list) (r .room)) ≡ reply (r .number) (r .detail)
+Reads r = told r ≡ reply (r .number) (r .detail)
 
-reads : (r : Reading) → right r ≡ true → Reads r
-unfolding right
-reads r e = ap₂ reply (eqb-true _ _ (and-first _ _ e)) (eqb-true _ _ (and-second (eqb (outcomeReply (runAnswer (r .list) (r .room)) .number) (r .number)) _ e))
+reads : (r : Reading) → T (test r) → Reads r
+reads r t =
+    let parts = both (eqb (told r .number) (r .number)) (eqb (told r .value) (r .detail)) t in
+    ap₂ reply (eqb→eq (told r .number) (r .number) (parts .0)) (eqb→eq (told r .value) (r .detail) (parts .1))
 
-every : (rs : List Reading) → all-right rs ≡ true → Every Reads rs
-unfolding all-right
-every [] e = none
-every (r ∷ rest) e = and (reads r (and-first _ _ e)) (every rest (and-second (right r) _ e))
-
-pub readings-hold : Every Reads readings
-unfolding all-right right outcomeReply refusalReply refusalNumber refusalDetail ask _andThen_ roomQuestion rowLength recordLength widthQuestion qubits recordCount byteOf listWidth nextOf sizeQuestion headQuestion linkQuestion zerosQuestion gateQuestion qubitQuestion secondQuestions recordQuestions isMet chainQuestions listQuestions runAnswer
-readings-hold = every readings refl
+pub readings-hold : All Reads readings
+unfolding outcomeReply refusalReply refusalNumber refusalDetail ask _andThen_ roomQuestion rowLength recordLength widthQuestion qubits recordCount byteOf listWidth nextOf sizeQuestion headQuestion linkQuestion zerosQuestion gateQuestion qubitQuestion secondQuestions recordQuestions isMet chainQuestions listQuestions runAnswer
+readings-hold = all-of test reads readings tt
 
 -- the gates of the example
 pub example-gates : gatesOf example ≡ record { gate = 4; first = 0; second = 0 } ∷ record { gate = 24; first = 0; second = 1 } ∷ []
