@@ -122,7 +122,7 @@ steps-append r (c ∷ cs) ds = go (accepts r c) refl (steps-append (nextRecord r
     go false h e = steps-kept r c (cs ++ ds) h ∙ e ∙ ap (λ (x : List ℕ). stepsOf (nextRecord r c) cs ++ stepsOf x ds) (after-next r c cs) ∙ sym (ap (λ (l : List (List ℕ)). l ++ rest) (steps-kept r c cs h))
 
 -- ---- good steps: records of valid tableaux no wider than n
-data GoodSteps (n : ℕ) : List (List ℕ) → Type 0 where
+pub data GoodSteps (n : ℕ) : List (List ℕ) → Type 0 where
   nil : GoodSteps n []
   more : {a : List ℕ} {rest : List (List ℕ)} → Good a → widthOf a ≤ n → GoodSteps n rest → GoodSteps n (a ∷ rest)
 
@@ -161,12 +161,12 @@ good-second n [] ys g = g
 good-second n (x ∷ xs) ys (more g w rest) = good-second n xs ys rest
 
 -- ---- products of good steps
-product-good : (n : ℕ) (p : List ℕ) (steps : List (List ℕ)) → Good p → GoodSteps n steps → Good (productFrom p steps)
+pub product-good : (n : ℕ) (p : List ℕ) (steps : List (List ℕ)) → Good p → GoodSteps n steps → Good (productFrom p steps)
 unfolding productFrom
 product-good n p [] gp gs = gp
 product-good n p (a ∷ rest) gp (more g w gs) = product-good n (composeRecord a p) rest (compose-good g gp) gs
 
-product-narrow : (n : ℕ) (p : List ℕ) (steps : List (List ℕ)) → widthOf p ≤ n → GoodSteps n steps → widthOf (productFrom p steps) ≤ n
+pub product-narrow : (n : ℕ) (p : List ℕ) (steps : List (List ℕ)) → widthOf p ≤ n → GoodSteps n steps → widthOf (productFrom p steps) ≤ n
 unfolding productFrom
 product-narrow n p [] h gs = h
 product-narrow n p (a ∷ rest) h (more g w gs) = product-narrow n (composeRecord a p) rest (omega (arith, compose-width a p)) gs
@@ -184,7 +184,7 @@ product-apart n p r (a ∷ rest) gp fr (more g w gs) =
     ap (λ (x : List ℕ). productFrom x rest) (sym (records-assoc g (gp .formed) fr)) ∙ product-apart n (composeRecord a p) r rest (compose-good g gp) fr gs
 
 -- a string is sent through a product as by its steps
-product-sends : (n : ℕ) (p : List ℕ) (steps : List (List ℕ)) → FormedTableau p → GoodSteps n steps → (s : List ℕ) → applyRecord (productFrom p steps) s ≡ sentBy steps (applyRecord p s)
+pub product-sends : (n : ℕ) (p : List ℕ) (steps : List (List ℕ)) → FormedTableau p → GoodSteps n steps → (s : List ℕ) → applyRecord (productFrom p steps) s ≡ sentBy steps (applyRecord p s)
 unfolding productFrom sentBy
 product-sends n p [] fp gs s = refl
 product-sends n p (a ∷ rest) fp (more g w gs) s =
