@@ -15,15 +15,16 @@
  *
  * Replies
  *   Every function takes any bytes of any length and replies with two numbers: 0 and a value, or a refusal's number and its detail.
- *   A refusal writes nothing. An answer writes its own bytes at the start of the destination and leaves what lies behind them.
+ *   A refusal writes nothing. An answer writes its own bytes at the start of the destination and leaves what lies behind them;
+ *   rc_set_x_image, rc_set_z_image and rc_play change the tableau itself and have no destination.
  *
  *   number  question                                                       detail
- *    0      (none: value is the answer, 0 where bytes are written)
+ *    0      (none: the value is the answer, and 0 where none is named below)
  *    1      is the width at most 128?                                      0
  *    2      is the length exact?                                           0
- *    3      is every phase and letter at most 3?                           the first bad offset
+ *    3      is every phase and letter at most 3?                           the first bad offset; 0 for a byte given by itself
  *    4      is the gate at most 37, or 23 where one qubit is meant?        0; in a list the record
- *    5      is each qubit below 128, or below the list's width?            the qubit; in a list the record
+ *    5      is each qubit below 128, or below the width (rc_play, list)?   the qubit; in a list the record
  *    6      are two qubits different?                                      the qubit; in a list the record
  *    7      is the destination long enough for this answer?                0
  *    8      is every byte of the text below 128?                           its offset
@@ -41,8 +42,9 @@
  *
  * The one thing trusted
  *   A pointer is valid for its length: to be read, and to be written where it is not const. A destination overlaps no other buffer of
- *   the call; buffers that are only read may overlap. Where a length is 0 nothing is read or written through its pointer: pass the
- *   address of anything, but no null pointer.
+ *   the call; buffers that are only read may overlap. No call can find an overlap out: rc_inverse or rc_compose with one buffer in
+ *   and out replies 0 and leaves wrong bytes. Where a length is 0 nothing is read or written through its pointer: pass the address
+ *   of anything, but no null pointer.
  */
 #ifndef RENETCLEAT_H
 #define RENETCLEAT_H
@@ -67,7 +69,7 @@ struct rc_reply {
 #define RC_SPARSE_MOST 531
 #define RC_DISPLAY_MOST 138813
 #define RC_REPORT_MOST 138557
-/* The value of rc_from_clifford_rep where no gate has the tableau. */
+/* The value of rc_from_clifford_rep where no gate matches. */
 #define RC_NO_GATE 255
 
 /* ---- phases and letters */
@@ -89,68 +91,73 @@ struct rc_reply rc_phase(const uint8_t *s, size_t s_len);
 struct rc_reply rc_get(const uint8_t *s, size_t s_len, size_t qubit);
 /* 1 where the two strings commute, otherwise 0. */
 struct rc_reply rc_commutes_with(const uint8_t *s, size_t s_len, const uint8_t *t, size_t t_len);
-/* Writes the product s t. */
+/* Writes the product s t, 129 bytes. */
 struct rc_reply rc_mul(const uint8_t *s, size_t s_len, const uint8_t *t, size_t t_len, uint8_t *dst, size_t dst_len);
-/* Writes the string of a phase and entries. */
+/* Writes the string of a phase and entries, 129 bytes. */
 struct rc_reply rc_with_phase_and_paulis(uint8_t phase, const uint8_t *entries, size_t entries_len, uint8_t *dst, size_t dst_len);
-/* Writes the string of a sparse text, as "-i X0 z 7". */
+/* Writes the string of a sparse text, as "-i X0 z 7": 129 bytes. */
 struct rc_reply rc_from_sparse_str(const uint8_t *text, size_t text_len, uint8_t *dst, size_t dst_len);
-/* Writes the string of a dense text, as "-iXIIIIIIZ". */
+/* Writes the string of a dense text, as "-iXIIIIIIZ": 129 bytes. */
 struct rc_reply rc_from_dense_str(const uint8_t *text, size_t text_len, uint8_t *dst, size_t dst_len);
-/* Writes the string of a text: sparse where it has a digit, otherwise dense. */
+/* Writes the string of a text, sparse where it has a digit, otherwise dense: 129 bytes. */
 struct rc_reply rc_from_str(const uint8_t *text, size_t text_len, uint8_t *dst, size_t dst_len);
-/* Writes the string's sparse text; the value is its length. No zero byte is put behind it. */
+/* Writes the string's sparse text; the value is its length, at most RC_SPARSE_MOST. No zero byte is put behind it. */
 struct rc_reply rc_to_sparse_str(const uint8_t *s, size_t s_len, uint8_t *dst, size_t dst_len);
 
 /* ---- tableaux */
 
-/* Writes the identity of width n. */
+/* Writes the identity of width n, RC_TABLEAU_LENGTH(n) bytes. */
 struct rc_reply rc_identity(size_t n, uint8_t *dst, size_t dst_len);
 /* The offset in t of the X row of a slot; the row has 1 + n bytes. */
 struct rc_reply rc_x_image(const uint8_t *t, size_t t_len, size_t slot);
 /* The offset in t of the Z row of a slot; the row has 1 + n bytes. */
 struct rc_reply rc_z_image(const uint8_t *t, size_t t_len, size_t slot);
-/* Puts the string s in the place of the X row of a slot, in t itself. */
+/* Puts the string s in the place of the X row of a slot, in t itself; every other byte of t stays. */
 struct rc_reply rc_set_x_image(uint8_t *t, size_t t_len, size_t slot, const uint8_t *s, size_t s_len);
-/* Puts the string s in the place of the Z row of a slot, in t itself. */
+/* Puts the string s in the place of the Z row of a slot, in t itself; every other byte of t stays. */
 struct rc_reply rc_set_z_image(uint8_t *t, size_t t_len, size_t slot, const uint8_t *s, size_t s_len);
-/* Writes the string that the tableau t sends s to. */
+/* Writes the string that the tableau t sends s to, 129 bytes. */
 struct rc_reply rc_apply(const uint8_t *t, size_t t_len, const uint8_t *s, size_t s_len, uint8_t *dst, size_t dst_len);
-/* Writes the tableau of b first, then a, in the larger of the two widths. */
+/* Writes the tableau of b first, then a, in the larger of the two widths. dst is neither a nor b. */
 struct rc_reply rc_compose(const uint8_t *a, size_t a_len, const uint8_t *b, size_t b_len, uint8_t *dst, size_t dst_len);
 /* Writes the tableau in width n, or a copy where n is no larger than its width. */
 struct rc_reply rc_extended_to(const uint8_t *t, size_t t_len, size_t n, uint8_t *dst, size_t dst_len);
-/* Writes the inverse. */
+/* Writes the inverse, of the width of t. dst is not t. */
 struct rc_reply rc_inverse(const uint8_t *t, size_t t_len, uint8_t *dst, size_t dst_len);
 /* 1 where phases are real and images commute as the generators do, otherwise 0. */
 struct rc_reply rc_is_valid(const uint8_t *t, size_t t_len);
 /* Writes the qubits that the tableau touches, rising, a byte each; the value is their count. */
 struct rc_reply rc_support_qubits(const uint8_t *t, size_t t_len, uint8_t *dst, size_t dst_len);
-/* Writes the tableau of conjugation by the string s; its phase is dropped. */
+/* Writes the tableau of conjugation by the string s; its phase is dropped. The width is 1 + the highest qubit with a letter, 1 where
+ * there is none. */
 struct rc_reply rc_from_pauli_string(const uint8_t *s, size_t s_len, uint8_t *dst, size_t dst_len);
-/* Writes the tableau's text, a line for each generator; the value is its length. No zero byte is put behind it. */
+/* Writes the tableau's text, a line for each generator; the value is its length, at most RC_DISPLAY_MOST. No zero byte is put behind
+ * it. */
 struct rc_reply rc_display(const uint8_t *t, size_t t_len, uint8_t *dst, size_t dst_len);
 
 /* ---- gates */
 
-/* Writes one of the 24 products of H and SZ, by its index from 0 to 23, on a qubit. */
+/* Writes one of the 24 products of H and SZ, by its index from 0 to 23, on a qubit: a tableau of width qubit + 1. */
 struct rc_reply rc_single_qubit_clifford(size_t index, size_t qubit, uint8_t *dst, size_t dst_len);
-/* Writes the gate's tableau on its qubits; q1 is not looked at for gates 0 to 23. */
+/* Writes the gate's tableau on its qubits, of width 1 + the larger qubit. For gates 0 to 23 q1 is not looked at and the width is
+ * q0 + 1. */
 struct rc_reply rc_on_qubits(uint8_t gate, size_t q0, size_t q1, uint8_t *dst, size_t dst_len);
-/* Writes the tableau of a one-qubit gate. */
+/* Writes the tableau of a one-qubit gate, of width q + 1. */
 struct rc_reply rc_on_qubit(uint8_t gate, size_t q, uint8_t *dst, size_t dst_len);
 /* The one-qubit gate that is h first, then g. */
 struct rc_reply rc_gate_compose(uint8_t g, uint8_t h);
 /* The gate's inverse. */
 struct rc_reply rc_gate_inverse(uint8_t g);
-/* The first of the gates 0 to 23 with this tableau, or RC_NO_GATE. */
+/* The first of the gates 0 to 23 whose images match those of a tableau of width 1, or RC_NO_GATE. A phase other than -1 counts as +1, as
+ * in PECOS: a gate is named for 96 records of width 1, of which 24 are a gate's own tableau and the others are not valid. */
 struct rc_reply rc_from_clifford_rep(const uint8_t *t, size_t t_len);
 
 /* ---- gate lists */
 
-/* Writes the tableau of all gates on the list's chain; the value is the number of steps. */
+/* Writes the tableau of all gates on the list's chain, of the list's width; the value is the number of steps. */
 struct rc_reply rc_run(const uint8_t *list, size_t list_len, uint8_t *dst, size_t dst_len);
-/* Writes what the program writes of the list: its run's display text, or "refused N at D" and a newline; the value is its length. */
+/* Writes what the program writes of the list: its run's display text, or "refused N at D" and a newline; the value is its length, at most
+ * RC_REPORT_MOST. A list's refusal is text here: only 7 is ever replied. */
 struct rc_reply rc_report(const uint8_t *list, size_t list_len, uint8_t *out, size_t out_len);
 
 #ifdef __cplusplus

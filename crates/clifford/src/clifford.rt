@@ -1,5 +1,5 @@
 // Gates by number: their tableaux, their names, their products and inverses. Ports clifford.rs of PECOS, changed:
-// Copyright 2024 The PECOS Developers, Apache License, Version 2.0.
+// Copyright 2026 The PECOS Developers, Apache License, Version 2.0.
 ghost use mathlib.Core.Path.{_≡_};
 ghost use lib.ListN.{length};
 ghost use Rattle.clifford_gates.specs.GateNumbers.{composeGate, inverseGate};

@@ -1,5 +1,5 @@
 // The images of the gates, and the rows of their tableaux. Ports clifford.rs and the constructors of clifford_rep.rs of PECOS,
-// changed: Copyright 2024 The PECOS Developers, Apache License, Version 2.0.
+// changed: Copyright 2026 and 2024 The PECOS Developers, Apache License, Version 2.0.
 ghost use mathlib.Core.Path.{_≡_};
 ghost use mathlib.Core.Bool.{cond};
 ghost use Prim.Native.Nat.{_<_};

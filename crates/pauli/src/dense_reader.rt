@@ -1,4 +1,5 @@
-// Dense text: a letter for each qubit, from the prefix to the trimmed end.
+// Dense text: a letter for each qubit, from the prefix to the trimmed end. Ports `from_dense_str` of pauli_string.rs of PECOS, changed:
+// Copyright 2024 The PECOS Developers, Apache License, Version 2.0.
 ghost use mathlib.Core.Path.{_≡_};
 ghost use Prim.Native.Nat.{_+_, _<_, max};
 ghost use mathlib.Core.List.{_∷_, _++_};

@@ -1,5 +1,6 @@
 // Entries, byte pairs (letter, qubit), read into a mark for each qubit: 0 where no entry names it, 1 + its letter where one does,
-// 5 where more do. So a duplicate is found before anything is written.
+// 5 where more do. So a duplicate is found before anything is written. Ports `with_phase_and_paulis` of pauli_string.rs of PECOS,
+// changed: Copyright 2024 The PECOS Developers, Apache License, Version 2.0.
 ghost use mathlib.Core.Path.{_≡_};
 ghost use Prim.Native.Nat.{min};
 ghost use mathlib.Core.List.{_∷_, _++_};

@@ -1,4 +1,4 @@
-// Phases. Ports quarter_phase.rs of PECOS, changed: Copyright 2018 The PECOS Developers, Apache License, Version 2.0.
+// Phases. Ports quarter_phase.rs of PECOS, changed: Apache License, Version 2.0.
 ghost use mathlib.Core.Path.{_≡_};
 ghost use Rattle.pauli_group.specs.Phase.{isReal};
 ghost use Rattle.pauli.specs.Answers.{ByteAnswered, FlagAnswered, yesOrNo};

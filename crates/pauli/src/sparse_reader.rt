@@ -1,4 +1,5 @@
-// Sparse text, token by token: each letter with its index is read and its qubit marked.
+// Sparse text, token by token: each letter with its index is read and its qubit marked. Ports `from_sparse_str` of pauli_string.rs of
+// PECOS, changed: Copyright 2024 The PECOS Developers, Apache License, Version 2.0.
 ghost use mathlib.Core.Path.{_≡_};
 ghost use lib.ListN.{length, drop};
 ghost use Rattle.pauli.specs.Answers.{Written};

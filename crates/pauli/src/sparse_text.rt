@@ -1,5 +1,6 @@
 // Sparse text, written. A text is written as far as the destination reaches and its length is answered in full, so that the same
-// code counts and writes, and asks nothing of a caller.
+// code counts and writes, and asks nothing of a caller. Ports `to_sparse_str` of pauli_string.rs of PECOS, changed:
+// Copyright 2024 The PECOS Developers, Apache License, Version 2.0.
 ghost use mathlib.Core.Path.{_≡_};
 ghost use mathlib.Core.List.{[], _∷_};
 ghost use Prim.Native.Nat.{_+_, _≤_, _<_};

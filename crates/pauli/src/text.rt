@@ -1,4 +1,5 @@
-// Text: its bytes, words and prefix, and the numerals in it.
+// Text: its bytes, words and prefix, and the numerals in it. Ports the parsers of pauli_string.rs of PECOS, changed:
+// Copyright 2024 The PECOS Developers, Apache License, Version 2.0.
 ghost use mathlib.Core.Path.{_≡_};
 ghost use Prim.Native.Nat.{_≤_};
 ghost use lib.ListN.{length, getD};
