@@ -13,7 +13,7 @@ use Rattle.pauli_group.specs.PauliString.{PauliString, qubits, mul, scale, sing
 use Rattle.pauli_group.proofs.Laws.{·-one, letterMul-I, I-letterMul, letterPhase-I, I-letterPhase}
 use Rattle.pauli_group.proofs.Products.{productTo-one}
 use Rattle.pauli_group.proofs.Strings.{sign-scale, sign-sym, sign-single, sign-of-mul, within-scale, within-single, within-mul}
-use Rattle.clifford_group.specs.Tableau.{Tableau, Proper, Clifford}
+use Rattle.clifford_group.specs.Tableau.{Proper, Clifford}
 use Rattle.clifford_group.proofs.Singles.{single-at, single-off}
 use Rattle.clifford_group.proofs.Commuting.{commute-sym}
 use Rattle.clifford_group.proofs.Rows.{Generator, ofX, ofZ, generator, row, rows-proper}

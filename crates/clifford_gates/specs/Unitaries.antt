@@ -2,7 +2,7 @@
 use mathlib.Core.Path.{_≡_}
 use mathlib.Core.List.{List, [], _∷_}
 use lib.IntN.{pos, negsuc}
-use Rattle.pauli_group.specs.Phase.{Phase, PlusOne, MinusOne, PlusI, MinusI}
+use Rattle.pauli_group.specs.Phase.{Phase, PlusOne, PlusI, MinusI}
 use Rattle.pauli_group.specs.Letter.{Letter, I, X, Z, Y}
 use Rattle.pauli_group.specs.Papers.{Gaussian, gaussian, addG, Matrix, matrixProduct, scaleMatrix, phaseNumber, pauliMatrix}
 use Rattle.clifford_gates.specs.Gates.{Image, OneQubit, PairImage, TwoQubit}

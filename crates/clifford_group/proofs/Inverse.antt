@@ -9,12 +9,11 @@ use borrow.Author.Tests.{lt-ltb, le-ltb}
 use Rattle.pauli_group.specs.Phase.{Phase, PlusOne, conjugate}
 use Rattle.pauli_group.specs.Letter.{Letter, I, X, Z, anticommute}
 use Rattle.pauli_group.specs.PauliString.{PauliString, qubits, mul, scale, single, Within}
-use Rattle.pauli_group.proofs.Laws.{·-one, conjugate-·}
+use Rattle.pauli_group.proofs.Laws.{·-one, conjugate-·, sign-injective}
 use Rattle.pauli_group.proofs.Strings.{string-ext, sign-sym, sign-single, sign-local, within-mul, within-single}
 use Rattle.clifford_group.specs.Tableau.{Tableau, identityTableau, rowImage, imageOf, apply, compose, hasX, hasZ, letterOf}
 use Rattle.clifford_group.specs.Tableau.{transposed, inverseRow, inverse, Proper, Clifford, Same}
 use Rattle.clifford_group.proofs.Singles.{single-off, letter-bits, hasX-anticommute, hasZ-anticommute}
-use Rattle.clifford_group.proofs.Commuting.{sign-injective}
 use Rattle.clifford_group.proofs.Rows.{Generator, ofX, ofZ, generator, row, rows-proper}
 use Rattle.clifford_group.proofs.Images.{image-own, image-above, image-row, image-generators, same-images, Alike}
 use Rattle.clifford_group.proofs.Images.{image-identity}
