@@ -11,10 +11,11 @@ use Rattle.pauli_group.specs.PauliString.{PauliString, qubits, mul, scale, sing
 use Rattle.pauli_group.proofs.Laws.{·-one}
 use Rattle.pauli_group.proofs.Strings.{mul-swap, sign-scale, sign-sym, sign-single, within-scale, within-single}
 use Rattle.clifford_group.specs.Tableau.{Proper, Clifford}
+use Rattle.clifford_group.specs.Conjugation.{Generator, ofX, ofZ, row, Valid}
 use Rattle.clifford_group.proofs.Singles.{single-at, single-off}
 use Rattle.clifford_group.proofs.Commuting.{mul-commute}
-use Rattle.clifford_group.proofs.Rows.{Generator, ofX, ofZ, row, rows-proper}
-use Rattle.clifford_group.proofs.Valid.{Valid, valid-test}
+use Rattle.clifford_group.proofs.Rows.{rows-proper}
+use Rattle.clifford_group.proofs.Valid.{valid-test}
 use Rattle.clifford_gates.specs.Gates.{Image, OneQubit, oneQubitGates, ValidImages, All}
 use Rattle.clifford_gates.specs.GateTableaux.{imageString, gateOnEach, unchanged, onQubit}
 use Rattle.clifford_gates.proofs.GateTables.{all-map, one-qubit-valid}

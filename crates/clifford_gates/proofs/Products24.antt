@@ -11,7 +11,8 @@ use Rattle.pauli_group.specs.Phase.{_·_, negate, turn}
 use Rattle.pauli_group.specs.Letter.{letterProduct, letterPhase, letterMul}
 use Rattle.pauli_group.specs.PauliString.{PauliString, qubits}
 use Rattle.clifford_group.specs.Tableau.{Tableau, identityTableau, compose, allTo, Same}
-use Rattle.clifford_group.proofs.Rows.{ofX, ofZ, same-row}
+use Rattle.clifford_group.specs.Conjugation.{ofX, ofZ}
+use Rattle.clifford_group.proofs.Rows.{same-row}
 use Rattle.clifford_group.proofs.Same.{same-refl, same-sym, same-trans, compose-same}
 use Rattle.clifford_group.proofs.Valid.{all-each}
 use Rattle.clifford_gates.specs.Gates.{Image, OneQubit, oneQubit, oneQubitGates}

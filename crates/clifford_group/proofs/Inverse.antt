@@ -13,8 +13,9 @@ use Rattle.pauli_group.proofs.Laws.{·-one, conjugate-·, sign-injective}
 use Rattle.pauli_group.proofs.Strings.{string-ext, sign-sym, sign-single, sign-local, within-mul, within-single}
 use Rattle.clifford_group.specs.Tableau.{Tableau, identityTableau, rowImage, imageOf, apply, compose, hasX, hasZ, letterOf}
 use Rattle.clifford_group.specs.Tableau.{transposed, inverseRow, inverse, Proper, Clifford, Same}
+use Rattle.clifford_group.specs.Conjugation.{Generator, ofX, ofZ, generator, row}
 use Rattle.clifford_group.proofs.Singles.{single-off, letter-bits, hasX-anticommute, hasZ-anticommute}
-use Rattle.clifford_group.proofs.Rows.{Generator, ofX, ofZ, generator, row, rows-proper}
+use Rattle.clifford_group.proofs.Rows.{rows-proper}
 use Rattle.clifford_group.proofs.Images.{image-own, image-above, image-row, image-generators, same-images, Alike}
 use Rattle.clifford_group.proofs.Images.{image-identity}
 use Rattle.clifford_group.proofs.Apply.{apply-alike, apply-letters, apply-scale, apply-single, apply-within}

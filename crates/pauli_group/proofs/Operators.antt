@@ -11,7 +11,7 @@ use Rattle.pauli_group.specs.Phase.{Phase, PlusOne, negate, turn, sign, 
 use Rattle.pauli_group.specs.Letter.{Letter, I, X, letterProduct, letterPhase, letterMul, anticommute}
 use Rattle.pauli_group.specs.PauliString.{PauliString, qubits, productTo, phaseOfLetters, mul, scale, single, Within}
 use Rattle.pauli_group.specs.Papers.{gaussian, mulG, conjugateG, phaseNumber, pauliMatrix, xBit, zBit, modulo2}
-use Rattle.pauli_group.specs.Operators.{entry, imageBit, factor, BasisState, imageState, amplitude}
+use Rattle.pauli_group.specs.Operators.{matrixEntry, imageBit, factor, BasisState, imageState, amplitude}
 use Rattle.pauli_group.proofs.Finite.{letters, phases, bools, each2, law1, law3, letter-of-bits}
 use Rattle.pauli_group.proofs.Laws.{·-assoc, ·-left, one-·, ·-one, ·-cancel, sign-injective}
 use Rattle.pauli_group.proofs.Products.{productTo-mul, productTo-one}
@@ -23,31 +23,31 @@ pub phases-are-numbers : (p q : Phase) → phaseNumber (p · q) ≡ mulG (phaseN
 unfolding phaseNumber mulG _·_ negate turn
 phases-are-numbers p q = equal-gaussian _ _ (each2 phases phases (λ p q. same-gaussian (phaseNumber (p · q)) (mulG (phaseNumber p) (phaseNumber q))) tt p q)
 
-pub conjugate-is : (p : Phase) → phaseNumber (conjugate p) ≡ conjugateG (phaseNumber p)
+pub conjugate-number : (p : Phase) → phaseNumber (conjugate p) ≡ conjugateG (phaseNumber p)
 unfolding phaseNumber conjugate conjugateG
-conjugate-is p = equal-gaussian _ _ (phases .each (λ p. same-gaussian (phaseNumber (conjugate p)) (conjugateG (phaseNumber p))) tt p)
+conjugate-number p = equal-gaussian _ _ (phases .each (λ p. same-gaussian (phaseNumber (conjugate p)) (conjugateG (phaseNumber p))) tt p)
 
 -- real: no imaginary part
-pub real-is : (p : Phase) → (isReal p ≡ true) ↔ (phaseNumber p .im ≡ pos 0)
+pub real-number : (p : Phase) → (isReal p ≡ true) ↔ (phaseNumber p .im ≡ pos 0)
 unfolding isReal phaseNumber
-real-is p = ((λ e. equal-integer _ _ (subst T (sym (sym (tested p) ∙ e)) tt)), (λ e. tested p ∙ ap (λ z. same-integer z (pos 0)) e))
+real-number p = ((λ e. equal-integer _ _ (subst T (sym (sym (tested p) ∙ e)) tt)), (λ e. tested p ∙ ap (λ z. same-integer z (pos 0)) e))
   where
     tested : (p : Phase) → isReal p ≡ same-integer (phaseNumber p .im) (pos 0)
     tested = law1 phases bools isReal (λ p. same-integer (phaseNumber p .im) (pos 0)) tt
 
 -- ---- a letter's column for the bit x: its factor in the row that the bit goes to, 0 in the other
 pub columns : (l : Letter) (x : Bool)
-    → (entry (pauliMatrix l) (imageBit l x) x ≡ phaseNumber (factor l x)) × (entry (pauliMatrix l) (not (imageBit l x)) x ≡ gaussian (pos 0) (pos 0))
-unfolding entry pauliMatrix phaseNumber imageBit factor sign
+    → (matrixEntry (pauliMatrix l) (imageBit l x) x ≡ phaseNumber (factor l x)) × (matrixEntry (pauliMatrix l) (not (imageBit l x)) x ≡ gaussian (pos 0) (pos 0))
+unfolding matrixEntry pauliMatrix phaseNumber imageBit factor sign
 columns l x =
     let t = both (goes l x) (other l x) (each2 letters bools (λ l x. goes l x && other l x) tt l x) in
     (equal-gaussian _ _ (t .0), equal-gaussian _ _ (t .1))
   where
     goes : Letter → Bool → Bool
-    goes l x = same-gaussian (entry (pauliMatrix l) (imageBit l x) x) (phaseNumber (factor l x))
+    goes l x = same-gaussian (matrixEntry (pauliMatrix l) (imageBit l x) x) (phaseNumber (factor l x))
 
     other : Letter → Bool → Bool
-    other l x = same-gaussian (entry (pauliMatrix l) (not (imageBit l x)) x) (gaussian (pos 0) (pos 0))
+    other l x = same-gaussian (matrixEntry (pauliMatrix l) (not (imageBit l x)) x) (gaussian (pos 0) (pos 0))
 
 -- ---- the product of strings is the product of operators: t acts first
 letters-flip : (a b : Letter) (x : Bool) → imageBit (letterMul a b) x ≡ imageBit a (imageBit b x)

@@ -8,11 +8,11 @@ use Rattle.pauli_group.specs.PauliString.{PauliString, qubits, productTo
 use Rattle.pauli_group.specs.Papers.{Gaussian, Matrix}
 
 -- the number in a row and a column of a matrix, each named by its bit
-unfoldable pub entry : Matrix → Bool → Bool → Gaussian
-entry m false false = m .a
-entry m false true = m .b
-entry m true false = m .c
-entry m true true = m .d
+unfoldable pub matrixEntry : Matrix → Bool → Bool → Gaussian
+matrixEntry m false false = m .a
+matrixEntry m false true = m .b
+matrixEntry m true false = m .c
+matrixEntry m true true = m .d
 
 -- the bit that a letter makes of a bit: X and Y turn it
 unfoldable pub imageBit : Letter → Bool → Bool

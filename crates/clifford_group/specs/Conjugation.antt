@@ -1,0 +1,47 @@
+-- What is claimed of tableaux: which of them are valid, that these are the papers' conjugations, and which two are the same one.
+use mathlib.Core.Path.{_≡_}
+use mathlib.Core.Bool.{true, false}
+use mathlib.Core.Logic.{_≢_}
+use Prim.Native.Nat.{ℕ, _<_, max}
+use Rattle.pauli_group.specs.Phase.{Phase, isReal}
+use Rattle.pauli_group.specs.Letter.{Letter, X, Z}
+use Rattle.pauli_group.specs.PauliString.{PauliString, qubits, mul, identityString, scale, single, commute, Within}
+use Rattle.clifford_group.specs.Tableau.{Tableau, imageOf, apply, widen, Same}
+
+-- X rows and Z rows as one: a row belongs to a generator, X or Z, and a qubit
+pub data Generator : Type 0 where
+  ofX ofZ : Generator
+
+abbrev pub generator : Generator → Letter
+generator ofX = X
+generator ofZ = Z
+
+abbrev pub row : Tableau → Generator → ℕ → PauliString
+row t ofX = t .xImage
+row t ofZ = t .zImage
+
+-- phases real, X and Z images of one qubit anticommute, every other pair commutes
+pub record Valid (t : Tableau) : Type 0 where
+  pub real : (g : Generator) (q : ℕ) → q < t .width → isReal (row t g q .phase) ≡ true
+  pub anticommuting : (q : ℕ) → q < t .width → commute (t .xImage q) (t .zImage q) ≡ false
+  pub commuting : (g k : Generator) (q r : ℕ) → q < t .width → r < t .width → q ≢ r → commute (row t g q) (row t k r) ≡ true
+
+-- `apply` sends a product to the product; over the strings that a record holds
+abbrev pub Multiplicative : Tableau → Type 0
+Multiplicative t = (s u : PauliString) → Within qubits s → Within qubits u → apply t (mul s u) ≡ mul (apply t s) (apply t u)
+
+-- What P ↦ U·P·U† is, for a unitary U that sends X and Z on each qubit to the tableau's rows, and leaves them from the width on: it
+-- sends products to products, lets phases and the identity be, and has these images. The operators are those of `amplitude` and
+-- `imageState`, on which `mul` is the product.
+pub record Conjugation (t : Tableau) (f : PauliString → PauliString) : Type 0 where
+  pub products : (s u : PauliString) → Within qubits s → Within qubits u → f (mul s u) ≡ mul (f s) (f u)
+  pub phases : (p : Phase) (s : PauliString) → Within qubits s → f (scale p s) ≡ scale p (f s)
+  pub identity : f identityString ≡ identityString
+  pub images : (g : Generator) (q : ℕ) → q < qubits → f (single (generator g) q) ≡ imageOf t q (generator g)
+
+-- two tableaux, of whatever widths, that send strings alike; and that have the same rows once both are widened to the larger width
+abbrev pub SendAlike : Tableau → Tableau → Type 0
+SendAlike a b = (s : PauliString) → Within qubits s → apply a s ≡ apply b s
+
+abbrev pub SameWidened : Tableau → Tableau → Type 0
+SameWidened a b = Same (widen (max (a .width) (b .width)) a) (widen (max (a .width) (b .width)) b)
