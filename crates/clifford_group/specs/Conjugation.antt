@@ -6,6 +6,7 @@ use Prim.Native.Nat.{ℕ, _<_, max}
 use Rattle.pauli_group.specs.Phase.{Phase, isReal}
 use Rattle.pauli_group.specs.Letter.{Letter, X, Z}
 use Rattle.pauli_group.specs.PauliString.{PauliString, qubits, mul, identityString, scale, single, commute, Within}
+use Rattle.pauli_group.specs.Operators.{Numbers, Vector, timesVector, act}
 use Rattle.clifford_group.specs.Tableau.{Tableau, imageOf, apply, widen, Same}
 
 -- X rows and Z rows as one: a row belongs to a generator, X or Z, and a qubit
@@ -30,9 +31,15 @@ pub record Valid (t : Tableau) : Type 0 where
 abbrev pub Multiplicative : Tableau → Type 0
 Multiplicative t = (s u : PauliString) → Within qubits s → Within qubits u → apply t (mul s u) ≡ mul (apply t s) (apply t u)
 
--- What P ↦ U·P·U† is, for a unitary U that sends X and Z on each qubit to the tableau's rows, and leaves them from the width on: it
--- sends products to products, lets phases and the identity be, and has these images. The operators are those of `amplitude` and
--- `imageState`, on which `mul` is the product.
+-- U·X = x'·U and U·Z = z'·U on each qubit, x' and z' the tableau's rows, or X and Z themselves from the width on. U is an operator on
+-- vectors; of its being linear it is enough that it lets phases by. For a unitary U these are U·X·U† = x' and U·Z·U† = z'.
+pub record Carries (n : Numbers) (t : Tableau) (u : Vector n → Vector n) : Type 0 where
+  pub phases : (p : Phase) (v : Vector n) → u (timesVector n p v) ≡ timesVector n p (u v)
+  pub images : (g : Generator) (q : ℕ) → q < qubits → (v : Vector n)
+      → u (act n (single (generator g) q) v) ≡ act n (imageOf t q (generator g)) (u v)
+
+-- The same without a U: what P ↦ U·P·U† is as a map of strings. It sends products to products, lets phases and the identity be, and
+-- has these images.
 pub record Conjugation (t : Tableau) (f : PauliString → PauliString) : Type 0 where
   pub products : (s u : PauliString) → Within qubits s → Within qubits u → f (mul s u) ≡ mul (f s) (f u)
   pub phases : (p : Phase) (s : PauliString) → Within qubits s → f (scale p s) ≡ scale p (f s)

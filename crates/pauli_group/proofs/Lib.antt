@@ -4,3 +4,4 @@ pub mod Products
 pub mod Strings
 pub mod PaperForms
 pub mod Operators
+pub mod GaussianNumbers

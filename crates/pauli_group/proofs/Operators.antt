@@ -9,11 +9,11 @@ use lib.Dec.{T, eqb}
 use lib.IntN.{ℤ, pos, _+ℤ_}
 use Rattle.pauli_group.specs.Phase.{Phase, PlusOne, negate, turn, sign, _·_, conjugate, isReal}
 use Rattle.pauli_group.specs.Letter.{Letter, I, X, letterProduct, letterPhase, letterMul, anticommute}
-use Rattle.pauli_group.specs.PauliString.{PauliString, qubits, productTo, phaseOfLetters, mul, scale, single, Within}
+use Rattle.pauli_group.specs.PauliString.{PauliString, qubits, productTo, phaseOfLetters, mul, identityString, scale, single, Within}
 use Rattle.pauli_group.specs.Papers.{gaussian, mulG, conjugateG, phaseNumber, pauliMatrix, xBit, zBit, modulo2}
-use Rattle.pauli_group.specs.Operators.{matrixEntry, imageBit, factor, BasisState, imageState, amplitude}
-use Rattle.pauli_group.proofs.Finite.{letters, phases, bools, each2, law1, law3, letter-of-bits}
-use Rattle.pauli_group.proofs.Laws.{·-assoc, ·-left, one-·, ·-one, ·-cancel, sign-injective}
+use Rattle.pauli_group.specs.Operators.{matrixEntry, imageBit, factor, BasisState, imageState, amplitude, Numbers, Vector, timesVector, act}
+use Rattle.pauli_group.proofs.Finite.{letters, phases, bools, each2, law1, law2, law3, letter-of-bits}
+use Rattle.pauli_group.proofs.Laws.{·-assoc, ·-comm, ·-left, one-·, ·-one, ·-cancel, sign-injective}
 use Rattle.pauli_group.proofs.Products.{productTo-mul, productTo-one}
 use Rattle.pauli_group.proofs.Strings.{string-ext, mul-swap, sign-single}
 use Rattle.pauli_group.proofs.PaperForms.{both, same-integer, equal-integer, same-gaussian, equal-gaussian}
@@ -78,6 +78,47 @@ strings-act s t x = regroup (s .phase) (t .phase) _ _ _ _
 pub scale-acts : (p : Phase) (s : PauliString) (x : BasisState) → amplitude (scale p s) x ≡ p · amplitude s x
 unfolding amplitude scale
 scale-acts p s x = ·-assoc p (s .phase) _
+
+pub identity-acts : (x : BasisState) → amplitude identityString x ≡ PlusOne
+unfolding amplitude identityString factor
+identity-acts x = one-· _ ∙ productTo-one qubits _ (λ q l. refl)
+
+-- ---- the same on vectors
+letter-back-flip : (a : Letter) (x : Bool) → imageBit a (imageBit a x) ≡ x
+unfolding imageBit
+letter-back-flip = law2 letters bools bools (λ a x. imageBit a (imageBit a x)) (λ a x. x) tt
+
+pub image-back : (s : PauliString) (x : BasisState) → imageState s (imageState s x) ≡ x
+unfolding imageState
+image-back s x = fun-ext (λ q. letter-back-flip (s .letters q) (x q))
+
+flips-commute : (a b : Letter) (x : Bool) → imageBit a (imageBit b x) ≡ imageBit b (imageBit a x)
+unfolding imageBit
+flips-commute = law3 letters letters bools bools (λ a b x. imageBit a (imageBit b x)) (λ a b x. imageBit b (imageBit a x)) tt
+
+images-commute : (s t : PauliString) (x : BasisState) → imageState s (imageState t x) ≡ imageState t (imageState s x)
+unfolding imageState
+images-commute s t x = fun-ext (λ q. flips-commute (s .letters q) (t .letters q) (x q))
+
+module _ (n : Numbers) where
+  pub act-mul : (s t : PauliString) (v : Vector n) → act n (mul s t) v ≡ act n s (act n t v)
+  unfolding act
+  act-mul s t v = fun-ext each
+    where
+      each : (y : BasisState) → act n (mul s t) v y ≡ act n s (act n t v) y
+      each y =
+          ap (λ x. n .times (amplitude (mul s t) x) (v x)) (strings-flip s t y ∙ images-commute s t y)
+          ∙ ap (λ p. n .times p (v (imageState t (imageState s y))))
+          (strings-act s t _ ∙ ·-comm _ _ ∙ ap (λ x. amplitude s x · amplitude t (imageState t (imageState s y))) (image-back t (imageState s y)))
+          ∙ n .twice _ _ _
+
+  pub act-scale : (p : Phase) (s : PauliString) (v : Vector n) → act n (scale p s) v ≡ timesVector n p (act n s v)
+  unfolding act timesVector imageState scale
+  act-scale p s v = fun-ext (λ y. ap (λ a. n .times a (v (imageState s y))) (scale-acts p s (imageState s y)) ∙ n .twice p _ _)
+
+  pub act-identity : (v : Vector n) → act n identityString v ≡ v
+  unfolding act imageState identityString imageBit
+  act-identity v = fun-ext (λ y. ap (λ a. n .times a (v y)) (identity-acts y) ∙ n .one (v y))
 
 -- ---- strings that act alike are equal: the image of 0 has the x bits, and turning a bit shows its qubit's z bit
 letter-is : (a : Letter) → a ≡ letter-of-bits (imageBit a false) (anticommute a X)

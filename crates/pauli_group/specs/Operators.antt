@@ -1,6 +1,7 @@
 -- Pauli strings as operators (Gottesman, section 2). A basis state has a bit for each qubit; a string P sends it to one basis state,
 -- with a phase as amplitude: P|x> = amplitude P x · |imageState P x>. Qubit by qubit this is what the letters' matrices say: `columns`.
 use Prim.Native.Nat.{ℕ}
+use mathlib.Core.Path.{_≡_}
 use mathlib.Core.Bool.{Bool, true, false, not}
 use Rattle.pauli_group.specs.Phase.{Phase, PlusOne, PlusI, MinusI, sign, _·_}
 use Rattle.pauli_group.specs.Letter.{Letter, I, X, Z, Y}
@@ -38,3 +39,21 @@ imageState s x = λ q. imageBit (s .letters q) (x q)
 
 unfoldable pub amplitude : PauliString → BasisState → Phase
 amplitude s x = s .phase · productTo qubits (λ q. factor (s .letters q) (x q))
+
+-- The numbers of vectors: any that phases multiply, as they do the complex ones.
+pub record Numbers : Type 1 where
+  pub Number : Type 0
+  pub times : Phase → Number → Number
+  pub one : (a : Number) → times PlusOne a ≡ a
+  pub twice : (p q : Phase) (a : Number) → times (p · q) a ≡ times p (times q a)
+
+-- a number for each basis state
+abbrev pub Vector : Numbers → Type 0
+Vector n = BasisState → n .Number
+
+unfoldable pub timesVector : (n : Numbers) → Phase → Vector n → Vector n
+timesVector n p v = λ y. n .times p (v y)
+
+-- P·v. The one basis state that P sends to y is P's own image of y: `image-back`.
+unfoldable pub act : (n : Numbers) → PauliString → Vector n → Vector n
+act n s v = λ y. n .times (amplitude s (imageState s y)) (v (imageState s y))
