@@ -54,7 +54,7 @@ pair : (a b : Bool) → T a → T b → T (a && b)
 pair true b s t = t
 pair false b s t = absurd s
 
-contrary : (b : Bool) → T b → T (not b) → ⊥
+pub contrary : (b : Bool) → T b → T (not b) → ⊥
 contrary true s t = absurd t
 contrary false s t = absurd s
 
