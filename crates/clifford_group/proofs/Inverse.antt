@@ -46,8 +46,7 @@ row-inverse t ofZ q = refl
 -- ---- of any tableau: proper
 pub within-transposed : (t : Tableau) (bit : Letter → Bool) (q : ℕ) → Within (t .width) (transposed t bit q)
 unfolding transposed
-within-transposed t bit q c h =
-    ap (λ b. cond b (letterOf (bit (t .zImage c .letters q)) (bit (t .xImage c .letters q))) I) (le-ltb c (t .width) h)
+within-transposed t bit q c h = rw (le-ltb c (t .width) h)
 
 pub proper-inverse : (t : Tableau) → t .width ≤ qubits → Proper (inverse t)
 unfolding inverse inverseRow
