@@ -60,33 +60,33 @@ unfolding oneQubitUnitaries word hadamard phaseGate multiple adjoint conjugateG 
 one-qubit-unitary =
     all-of unitary-test (λ u. positive-is multiple same-matrix equal-matrix (λ m. m .a) (matrixProduct u (adjoint u))) oneQubitUnitaries tt
 
--- where m and n differ by a factor, it is that of their entries in a place where n has one that is not 0
 abbrev zeroG : Gaussian
 zeroG = gaussian (pos 0) (pos 0)
 
-abbrev placed : Matrix → Matrix → Gaussian
-placed n m = cond (same-gaussian (n .a) zeroG) (m .b) (m .a)
+abbrev some : Gaussian → Bool
+some z = not (same-gaussian z zeroG)
+
+not-zero : (z : Gaussian) → T (some z) → z ≡ zeroG → ⊥
+not-zero z t e = contrary (same-gaussian z zeroG) (subst (λ w. T (same-gaussian w zeroG)) (sym e) tt) t
+
+-- the entry of m in the first row where n has one that is not 0: the factors are the two entries there
+abbrev entryBy : Matrix → Matrix → Gaussian
+entryBy n m = cond (some (n .a)) (m .a) (m .b)
 
 module _ (m n : Matrix) where
-  abbrev some : Gaussian → Bool
-  some z = not (same-gaussian z zeroG)
-
   abbrev proportional : Bool
-  proportional = same-matrix (scaleMatrix (placed n n) m) (scaleMatrix (placed n m) n)
+  proportional = same-matrix (scaleMatrix (entryBy n n) m) (scaleMatrix (entryBy n m) n)
 
   abbrev form-test : Bool
-  form-test = (some (placed n n) && some (placed n m)) && proportional
-
-  not-zero : (z : Gaussian) → T (some z) → z ≡ zeroG → ⊥
-  not-zero z t e = contrary (same-gaussian z zeroG) (subst (λ w. T (same-gaussian w zeroG)) (sym e) tt) t
+  form-test = (some (entryBy n n) && some (entryBy n m)) && proportional
 
   form-is : T form-test → UpToFactor m n
   form-is t =
-      let parts = both (some (placed n n) && some (placed n m)) proportional t in
-      let others = both (some (placed n n)) (some (placed n m)) (parts .0) in
+      let parts = both (some (entryBy n n) && some (entryBy n m)) proportional t in
+      let others = both (some (entryBy n n)) (some (entryBy n m)) (parts .0) in
       record {
-        z = placed n n;
-        w = placed n m;
+        z = entryBy n n;
+        w = entryBy n m;
         zSome = not-zero _ (others .0);
         wSome = not-zero _ (others .1);
         is = equal-matrix _ _ (parts .1);

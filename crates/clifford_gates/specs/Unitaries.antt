@@ -21,11 +21,11 @@ hadamard = record { a = one1; b = one1; c = one1; d = gaussian (negsuc 0) (pos 0
 unfoldable pub phaseGate : Matrix
 phaseGate = record { a = one1; b = zero1; c = zero1; d = gaussian (pos 0) (pos 1) }
 
--- a product of the two, the rightmost acts first
-pub data Generator : Type 0 where
-  H S : Generator
+-- words of the two, and their products: the rightmost acts first
+pub data WordGate : Type 0 where
+  H S : WordGate
 
-unfoldable pub word : List Generator → Matrix
+unfoldable pub word : List WordGate → Matrix
 word [] = pauliMatrix I
 word (H ∷ w) = matrixProduct hadamard (word w)
 word (S ∷ w) = matrixProduct phaseGate (word w)
@@ -63,7 +63,7 @@ oneQubitUnitaries =
 unfoldable pub imageMatrix : Image → Matrix
 imageMatrix i = scaleMatrix (phaseNumber (i .phase)) (pauliMatrix (i .letter))
 
--- ---- the same matrices as sums of letters, up to a factor: these say which gate has which name
+-- ---- the same matrices as sums of letters, up to a factor: what each gate's name means
 
 unfoldable pub addMatrix : Matrix → Matrix → Matrix
 addMatrix m n = record { a = addG (m .a) (n .a); b = addG (m .b) (n .b); c = addG (m .c) (n .c); d = addG (m .d) (n .d) }

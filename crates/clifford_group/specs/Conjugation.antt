@@ -1,4 +1,4 @@
--- What is claimed of tableaux: which of them are valid, that these are the papers' conjugations, and which two are the same one.
+-- What is claimed of tableaux: which are valid, that `apply` is the papers' conjugation, and when two send strings alike.
 use mathlib.Core.Path.{_≡_}
 use mathlib.Core.Bool.{true, false}
 use mathlib.Core.Logic.{_≢_}
@@ -31,15 +31,14 @@ pub record Valid (t : Tableau) : Type 0 where
 abbrev pub Multiplicative : Tableau → Type 0
 Multiplicative t = (s u : PauliString) → Within qubits s → Within qubits u → apply t (mul s u) ≡ mul (apply t s) (apply t u)
 
--- U·X = x'·U and U·Z = z'·U on each qubit, x' and z' the tableau's rows, or X and Z themselves from the width on. U is an operator on
--- vectors; of its being linear it is enough that it lets phases by. For a unitary U these are U·X·U† = x' and U·Z·U† = z'.
+-- The papers' conjugation. An operator U has U·X = x'·U and U·Z = z'·U on each qubit, where x' and z' are the tableau's rows, or X and
+-- Z themselves from the width on; for a unitary U these say U·X·U† = x' and U·Z·U† = z'. Of U's being linear, phases are enough.
 pub record Carries (n : Numbers) (t : Tableau) (u : Vector n → Vector n) : Type 0 where
   pub phases : (p : Phase) (v : Vector n) → u (timesVector n p v) ≡ timesVector n p (u v)
   pub images : (g : Generator) (q : ℕ) → q < qubits → (v : Vector n)
       → u (act n (single (generator g) q) v) ≡ act n (imageOf t q (generator g)) (u v)
 
--- The same without a U: what P ↦ U·P·U† is as a map of strings. It sends products to products, lets phases and the identity be, and
--- has these images.
+-- The same as a map of strings, P ↦ U·P·U†: it sends products to products, keeps phases and the identity, and has these images.
 pub record Conjugation (t : Tableau) (f : PauliString → PauliString) : Type 0 where
   pub products : (s u : PauliString) → Within qubits s → Within qubits u → f (mul s u) ≡ mul (f s) (f u)
   pub phases : (p : Phase) (s : PauliString) → Within qubits s → f (scale p s) ≡ scale p (f s)

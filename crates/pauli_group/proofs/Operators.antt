@@ -37,7 +37,8 @@ real-number p = ((λ e. equal-integer _ _ (subst T (sym (sym (tested p) ∙ e)) 
 
 -- ---- a letter's column for the bit x: its factor in the row that the bit goes to, 0 in the other
 pub columns : (l : Letter) (x : Bool)
-    → (matrixEntry (pauliMatrix l) (imageBit l x) x ≡ phaseNumber (factor l x)) × (matrixEntry (pauliMatrix l) (not (imageBit l x)) x ≡ gaussian (pos 0) (pos 0))
+    → (matrixEntry (pauliMatrix l) (imageBit l x) x ≡ phaseNumber (factor l x))
+    × (matrixEntry (pauliMatrix l) (not (imageBit l x)) x ≡ gaussian (pos 0) (pos 0))
 unfolding matrixEntry pauliMatrix phaseNumber imageBit factor sign
 columns l x =
     let t = both (goes l x) (other l x) (each2 letters bools (λ l x. goes l x && other l x) tt l x) in
@@ -120,7 +121,7 @@ module _ (n : Numbers) where
   unfolding act imageState identityString imageBit
   act-identity v = fun-ext (λ y. ap (λ a. n .times a (v y)) (identity-acts y) ∙ n .one (v y))
 
--- ---- strings that act alike are equal: the image of 0 has the x bits, and turning a bit shows its qubit's z bit
+-- ---- strings that act alike are equal: the image of 0 has the x bits, and flipping a bit shows its qubit's z bit
 letter-is : (a : Letter) → a ≡ letter-of-bits (imageBit a false) (anticommute a X)
 unfolding imageBit anticommute
 letter-is = law1 letters letters (λ a. a) (λ a. letter-of-bits (imageBit a false) (anticommute a X)) tt

@@ -1,5 +1,5 @@
--- Pauli strings as operators (Gottesman, section 2). A basis state has a bit for each qubit; a string P sends it to one basis state,
--- with a phase as amplitude: P|x> = amplitude P x · |imageState P x>. Qubit by qubit this is what the letters' matrices say: `columns`.
+-- Pauli strings as operators (Gottesman, section 2). A string P sends a basis state to one basis state, with a phase as amplitude:
+-- P|x> = amplitude P x · |imageState P x>. Qubit by qubit this is what the columns of the letters' matrices say: `columns`.
 use Prim.Native.Nat.{ℕ}
 use mathlib.Core.Path.{_≡_}
 use mathlib.Core.Bool.{Bool, true, false, not}
@@ -15,7 +15,7 @@ matrixEntry m false true = m .b
 matrixEntry m true false = m .c
 matrixEntry m true true = m .d
 
--- the bit that a letter makes of a bit: X and Y turn it
+-- the bit that a letter makes of a bit: X and Y flip it
 unfoldable pub imageBit : Letter → Bool → Bool
 imageBit I x = x
 imageBit X x = not x
@@ -30,7 +30,7 @@ factor Z x = sign x
 factor Y false = PlusI
 factor Y true = MinusI
 
--- a bit for each qubit
+-- a bit for each qubit; the string of a record leaves those at `qubits` and above
 abbrev pub BasisState : Type 0
 BasisState = ℕ → Bool
 
@@ -54,6 +54,6 @@ Vector n = BasisState → n .Number
 unfoldable pub timesVector : (n : Numbers) → Phase → Vector n → Vector n
 timesVector n p v = λ y. n .times p (v y)
 
--- P·v. The one basis state that P sends to y is P's own image of y: `image-back`.
+-- P·v: what P makes of the number at x stands at x's image. The x whose image is y is P's own image of y: `image-back`.
 unfoldable pub act : (n : Numbers) → PauliString → Vector n → Vector n
 act n s v = λ y. n .times (amplitude s (imageState s y)) (v (imageState s y))
