@@ -15,7 +15,7 @@ use borrow.Rule.Slice.PartMut.{putMid}
 use Rattle.pauli_group.specs.Letter.{Letter, X, Z}
 use Rattle.pauli_group.specs.PauliString.{PauliString, qubits, Within}
 use Rattle.clifford_group.specs.Tableau.{Tableau, imageOf, apply, widen, compose}
-use Rattle.clifford_group.proofs.Rows.{ofX, ofZ}
+use Rattle.clifford_group.specs.Conjugation.{ofX, ofZ}
 use Rattle.clifford_group.proofs.Images.{within-image}
 use Rattle.clifford_group.proofs.Apply.{within-apply}
 use Rattle.clifford_group.proofs.Compose.{row-compose, width-compose}

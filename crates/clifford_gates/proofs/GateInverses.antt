@@ -15,8 +15,9 @@ use Rattle.pauli_group.proofs.Finite.{letters, phases}
 use Rattle.pauli_group.proofs.PaperForms.{both}
 use Rattle.pauli_group.proofs.Strings.{scale-one, scale-scale, identity-mul, mul-identity}
 use Rattle.clifford_group.specs.Tableau.{Tableau, identityTableau, imageOf, apply, compose, inverse, allTo, Proper, Clifford, Same}
+use Rattle.clifford_group.specs.Conjugation.{Generator, ofX, ofZ, generator, row}
 use Rattle.clifford_group.proofs.Singles.{single-I}
-use Rattle.clifford_group.proofs.Rows.{Generator, ofX, ofZ, generator, row, rows-same, row-identity}
+use Rattle.clifford_group.proofs.Rows.{rows-same, row-identity}
 use Rattle.clifford_group.proofs.Images.{image-row, same-images, image-same, within-image}
 use Rattle.clifford_group.proofs.Apply.{apply-scale, apply-single}
 use Rattle.clifford_group.proofs.Conjugation.{apply-injective}

@@ -18,7 +18,8 @@ use Rattle.pauli_group.proofs.Laws.{·-one}
 use Rattle.pauli_group.proofs.Strings.{scale-scale}
 use Rattle.pauli_group.proofs.PaperForms.{both}
 use Rattle.clifford_group.specs.Tableau.{Tableau, imageOf, apply, compose, allTo, hasX, hasZ, letterOf, Clifford, Same}
-use Rattle.clifford_group.proofs.Rows.{Generator, ofX, ofZ, generator, row, rows-same}
+use Rattle.clifford_group.specs.Conjugation.{Generator, ofX, ofZ, generator, row}
+use Rattle.clifford_group.proofs.Rows.{rows-same}
 use Rattle.clifford_group.proofs.Images.{image-row}
 use Rattle.clifford_group.proofs.Apply.{apply-scale, apply-single}
 use Rattle.clifford_group.proofs.Compose.{width-compose, row-compose}

@@ -5,17 +5,18 @@ use mathlib.Core.Logic.{_≢_}
 use Prim.Native.Nat.{ℕ, suc, _<_, _≤_}
 use native.Mathlib.Omega.{arith}
 use lib.Dec.{eqb}
-use Rattle.pauli_group.specs.Phase.{Phase, PlusOne, isReal, sign}
-use Rattle.pauli_group.specs.Letter.{Letter, I, X, Z, anticommute}
+use Rattle.pauli_group.specs.Phase.{isReal, sign}
+use Rattle.pauli_group.specs.Letter.{anticommute}
 use Rattle.pauli_group.specs.PauliString.{PauliString, qubits, mul, scale, single, commute, commutationSign, Within}
 use Rattle.pauli_group.proofs.Laws.{·-one}
 use Rattle.pauli_group.proofs.Strings.{mul-swap, sign-scale, sign-sym, sign-single, within-scale, within-single}
-use Rattle.clifford_group.specs.Tableau.{Tableau, Proper, Clifford}
+use Rattle.clifford_group.specs.Tableau.{Proper, Clifford}
+use Rattle.clifford_group.specs.Conjugation.{Generator, ofX, ofZ, row, Valid}
 use Rattle.clifford_group.proofs.Singles.{single-at, single-off}
 use Rattle.clifford_group.proofs.Commuting.{mul-commute}
-use Rattle.clifford_group.proofs.Rows.{Generator, ofX, ofZ, row, rows-proper}
-use Rattle.clifford_group.proofs.Valid.{Valid, valid-test}
-use Rattle.clifford_gates.specs.Gates.{Image, plus, OneQubit, oneQubit, oneQubitGates, ValidImages, All}
+use Rattle.clifford_group.proofs.Rows.{rows-proper}
+use Rattle.clifford_group.proofs.Valid.{valid-test}
+use Rattle.clifford_gates.specs.Gates.{Image, OneQubit, oneQubitGates, ValidImages, All}
 use Rattle.clifford_gates.specs.GateTableaux.{imageString, gateOnEach, unchanged, onQubit}
 use Rattle.clifford_gates.proofs.GateTables.{all-map, one-qubit-valid}
 

@@ -4,11 +4,11 @@ use mathlib.Core.Path.{_≡_, refl, subst}
 use mathlib.Core.Bool.{Bool, true, false, not, _&&_}
 use mathlib.Core.List.{List, [], _∷_}
 use lib.Dec.{T}
-use Rattle.pauli_group.specs.Phase.{Phase, isReal}
-use Rattle.pauli_group.specs.Letter.{Letter, anticommute}
+use Rattle.pauli_group.specs.Phase.{isReal}
+use Rattle.pauli_group.specs.Letter.{anticommute}
 use Rattle.pauli_group.proofs.Finite.{letters, phases}
 use Rattle.pauli_group.proofs.PaperForms.{both}
-use Rattle.clifford_gates.specs.Gates.{Image, OneQubit, oneQubit, oneQubitGates, ValidImages, All, Different, PairImage, TwoQubit, twoQubitGates, pairsCommute, ValidPairImages}
+use Rattle.clifford_gates.specs.Gates.{Image, OneQubit, oneQubit, oneQubitGates, ValidImages, All, Different, TwoQubit, twoQubitGates, pairsCommute, ValidPairImages}
 
 pub is-true : (b : Bool) → T b → b ≡ true
 is-true true t = refl
@@ -54,7 +54,7 @@ pair : (a b : Bool) → T a → T b → T (a && b)
 pair true b s t = t
 pair false b s t = absurd s
 
-contrary : (b : Bool) → T b → T (not b) → ⊥
+pub contrary : (b : Bool) → T b → T (not b) → ⊥
 contrary true s t = absurd t
 contrary false s t = absurd s
 

@@ -1,15 +1,23 @@
--- Each gate's images are those of conjugation by its matrix, by one test that is computed over each table.
-use mathlib.Core.Path.{_≡_}
-use mathlib.Core.Bool.{Bool, true, false, _&&_}
+-- Each gate's matrix is unitary up to a factor, is the one that the gate's name says, and conjugates X and Z to the gate's images; each by
+-- one test that is computed over the table.
+use mathlib.Core.Path.{_≡_, sym, subst}
+use mathlib.Core.Bool.{Bool, true, false, cond, not, _&&_}
 use mathlib.Core.List.{List, [], _∷_}
-use lib.Dec.{T}
-use Rattle.pauli_group.specs.Phase.{PlusOne}
+use Prim.Native.Nat.{ℕ}
+use lib.Dec.{T, ltb}
+use lib.IntN.{pos, natAbs}
+use borrow.Author.Tests.{ltb-true}
+use Rattle.pauli_group.specs.Phase.{Phase, PlusOne}
 use Rattle.pauli_group.specs.Letter.{I, X, Z}
-use Rattle.pauli_group.specs.Papers.{addG, mulG, Matrix, matrixProduct, scaleMatrix, phaseNumber, pauliMatrix}
-use Rattle.pauli_group.proofs.PaperForms.{both, same-matrix, equal-matrix}
-use Rattle.clifford_gates.specs.Gates.{OneQubit, oneQubitGates, TwoQubit, twoQubitGates}
+use Rattle.pauli_group.specs.Papers.{Gaussian, gaussian, addG, mulG, conjugateG, Matrix, matrixProduct, scaleMatrix, phaseNumber, pauliMatrix}
+use Rattle.pauli_group.proofs.Finite.{phases}
+use Rattle.pauli_group.proofs.PaperForms.{both, same-gaussian, same-matrix, equal-matrix}
+use Rattle.clifford_gates.specs.Gates.{OneQubit, oneQubitGates, TwoQubit, twoQubitGates, All}
+use Rattle.clifford_gates.specs.Unitaries.{addMatrix, sumOf, letterRoot, face, oneQubitForms, UpToFactor, adjoint, multiple, PositiveMultiple, Unitary}
+use Rattle.clifford_gates.specs.Unitaries.{blockAdjoint, blockMultiple, UnitaryPair, stateExchange}
+use Rattle.clifford_gates.proofs.GateTables.{is-true, contrary, all-of}
 use Rattle.clifford_gates.specs.Unitaries.{hadamard, phaseGate, word, oneQubitUnitaries, imageMatrix, Conjugates, Each, none, more}
-use Rattle.clifford_gates.specs.Unitaries.{Blocks, addMatrix, blockProduct, addBlocks, kronecker, pairMatrix, controlled, rootOf, exchange, gGate, twoQubitUnitaries, pairImageMatrix, ConjugatesPair}
+use Rattle.clifford_gates.specs.Unitaries.{Blocks, blockProduct, addBlocks, kronecker, pairMatrix, controlled, rootOf, exchange, gGate, twoQubitUnitaries, pairImageMatrix, ConjugatesPair}
 
 -- a test of all entries, and what it says of each
 abbrev each-test : {A B : Type 0} → (A → B → Bool) → List A → List B → Bool
@@ -27,7 +35,67 @@ each-of test sound (a ∷ xs) (b ∷ ys) t =
     let parts = both (test a b) (each-test test xs ys) t in
     more (sound a b (parts .0)) (each-of test sound xs ys (parts .1))
 
+-- ---- positive multiples of the identity, where equality is a test and `at` reads the number of a multiple
+module _ {A : Type 0} (of : Gaussian → A) (same : A → A → Bool) (equal : (m n : A) → T (same m n) → m ≡ n) (at : A → Gaussian) where
+  abbrev normOf : A → ℕ
+  normOf m = natAbs (at m .re)
+
+  abbrev is-multiple : A → Bool
+  is-multiple m = same m (of (gaussian (pos (normOf m)) (pos 0)))
+
+  abbrev is-positive : A → Bool
+  is-positive m = ltb 0 (normOf m) && is-multiple m
+
+  positive-is : (m : A) → T (is-positive m) → PositiveMultiple of m
+  positive-is m t =
+      let parts = both (ltb 0 (normOf m)) (is-multiple m) t in
+      record { norm = normOf m; positive = ltb-true 0 (normOf m) (is-true _ (parts .0)); is = equal _ _ (parts .1) }
+
 -- ---- one qubit
+abbrev unitary-test : Matrix → Bool
+unitary-test u = is-positive multiple same-matrix equal-matrix (λ m. m .a) (matrixProduct u (adjoint u))
+
+pub one-qubit-unitary : All Unitary oneQubitUnitaries
+unfolding oneQubitUnitaries word hadamard phaseGate multiple adjoint conjugateG matrixProduct scaleMatrix pauliMatrix phaseNumber addG mulG
+one-qubit-unitary =
+    all-of unitary-test (λ u. positive-is multiple same-matrix equal-matrix (λ m. m .a) (matrixProduct u (adjoint u))) oneQubitUnitaries tt
+
+abbrev zeroG : Gaussian
+zeroG = gaussian (pos 0) (pos 0)
+
+abbrev some : Gaussian → Bool
+some z = not (same-gaussian z zeroG)
+
+not-zero : (z : Gaussian) → T (some z) → z ≡ zeroG → ⊥
+not-zero z t e = contrary (same-gaussian z zeroG) (subst (λ w. T (same-gaussian w zeroG)) (sym e) tt) t
+
+-- the entry of m in the first row where n has one that is not 0: the factors are the two entries there
+abbrev entryBy : Matrix → Matrix → Gaussian
+entryBy n m = cond (some (n .a)) (m .a) (m .b)
+
+module _ (m n : Matrix) where
+  abbrev proportional : Bool
+  proportional = same-matrix (scaleMatrix (entryBy n n) m) (scaleMatrix (entryBy n m) n)
+
+  abbrev form-test : Bool
+  form-test = (some (entryBy n n) && some (entryBy n m)) && proportional
+
+  form-is : T form-test → UpToFactor m n
+  form-is t =
+      let parts = both (some (entryBy n n) && some (entryBy n m)) proportional t in
+      let others = both (some (entryBy n n)) (some (entryBy n m)) (parts .0) in
+      record {
+        z = entryBy n n;
+        w = entryBy n m;
+        zSome = not-zero _ (others .0);
+        wSome = not-zero _ (others .1);
+        is = equal-matrix _ _ (parts .1);
+      }
+
+pub one-qubit-forms : Each UpToFactor oneQubitUnitaries oneQubitForms
+unfolding oneQubitUnitaries oneQubitForms word hadamard phaseGate sumOf letterRoot face imageMatrix addMatrix matrixProduct scaleMatrix pauliMatrix phaseNumber addG mulG
+one-qubit-forms = each-of form-test form-is oneQubitUnitaries oneQubitForms tt
+
 abbrev conjugates-x : Matrix → OneQubit → Bool
 conjugates-x u g = same-matrix (matrixProduct u (pauliMatrix X)) (matrixProduct (imageMatrix (g .x)) u)
 
@@ -60,6 +128,26 @@ equal-blocks m n t =
     let c : m .c ≡ n .c = equal-matrix (m .c) (n .c) (lower .0) in
     let d : m .d ≡ n .d = equal-matrix (m .d) (n .d) (lower .1) in
     λ i. record { a = a i; b = b i; c = c i; d = d i }
+
+abbrev positive-blocks : Blocks → Bool
+positive-blocks = is-positive blockMultiple same-blocks equal-blocks (λ m. m .a .a)
+
+positive-blocks-is : (m : Blocks) → T (positive-blocks m) → PositiveMultiple blockMultiple m
+positive-blocks-is = positive-is blockMultiple same-blocks equal-blocks (λ m. m .a .a)
+
+pub two-qubit-unitary : All UnitaryPair twoQubitUnitaries
+unfolding twoQubitUnitaries controlled rootOf exchange gGate hadamard kronecker pairMatrix blockMultiple blockAdjoint multiple adjoint conjugateG addBlocks addMatrix blockProduct matrixProduct scaleMatrix pauliMatrix phaseNumber addG mulG
+two-qubit-unitary =
+    all-of (λ u. positive-blocks (blockProduct u (blockAdjoint u))) (λ u. positive-blocks-is (blockProduct u (blockAdjoint u))) twoQubitUnitaries tt
+
+-- G is its own inverse
+pub g-own-inverse : PositiveMultiple blockMultiple (blockProduct gGate gGate)
+unfolding controlled gGate hadamard kronecker blockMultiple multiple addMatrix blockProduct matrixProduct scaleMatrix pauliMatrix phaseNumber addG mulG
+g-own-inverse = positive-blocks-is (blockProduct gGate gGate) tt
+
+pub exchange-is : (p : Phase) → exchange p ≡ stateExchange p
+unfolding exchange stateExchange kronecker pairMatrix addBlocks addMatrix scaleMatrix pauliMatrix phaseNumber addG mulG
+exchange-is p = equal-blocks _ _ (phases .each (λ p. same-blocks (exchange p) (stateExchange p)) tt p)
 
 -- U·P and P'·U are the same
 abbrev carries : Blocks → Blocks → Blocks → Bool

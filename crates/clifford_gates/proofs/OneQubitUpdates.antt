@@ -15,9 +15,10 @@ use Rattle.pauli_group.proofs.Laws.{·-one, letterMul-I, I-letterMul, letterPha
 use Rattle.pauli_group.proofs.Products.{productTo-one}
 use Rattle.pauli_group.proofs.Strings.{string-ext, scale-one, scale-scale}
 use Rattle.clifford_group.specs.Tableau.{Tableau, identityTableau, rowImage, imageOf, apply, Same}
+use Rattle.clifford_group.specs.Conjugation.{Generator, ofX, ofZ, generator, row}
 use Rattle.clifford_group.proofs.Singles.{single-I, single-off, single-at, mul-singles}
 use Rattle.clifford_group.proofs.Commuting.{scale-both}
-use Rattle.clifford_group.proofs.Rows.{Generator, ofX, ofZ, generator, row, rows-same, row-identity}
+use Rattle.clifford_group.proofs.Rows.{rows-same, row-identity}
 use Rattle.clifford_group.proofs.Images.{image-own, image-above, image-row, image-I, image-generators, image-identity}
 use Rattle.clifford_group.proofs.Apply.{apply-local, apply-single}
 use Rattle.clifford_group.proofs.Conjugation.{apply-mul}

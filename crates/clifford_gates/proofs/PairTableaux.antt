@@ -13,11 +13,12 @@ use Rattle.pauli_group.specs.PauliString.{PauliString, qubits, mul, scale, sing
 use Rattle.pauli_group.proofs.Laws.{·-one, letterMul-I, I-letterMul, letterPhase-I, I-letterPhase}
 use Rattle.pauli_group.proofs.Products.{productTo-one}
 use Rattle.pauli_group.proofs.Strings.{sign-scale, sign-sym, sign-single, sign-of-mul, within-scale, within-single, within-mul}
-use Rattle.clifford_group.specs.Tableau.{Tableau, Proper, Clifford}
+use Rattle.clifford_group.specs.Tableau.{Proper, Clifford}
+use Rattle.clifford_group.specs.Conjugation.{Generator, ofX, ofZ, generator, row, Valid}
 use Rattle.clifford_group.proofs.Singles.{single-at, single-off}
 use Rattle.clifford_group.proofs.Commuting.{commute-sym}
-use Rattle.clifford_group.proofs.Rows.{Generator, ofX, ofZ, generator, row, rows-proper}
-use Rattle.clifford_group.proofs.Valid.{Valid, valid-test}
+use Rattle.clifford_group.proofs.Rows.{rows-proper}
+use Rattle.clifford_group.proofs.Valid.{valid-test}
 use Rattle.clifford_gates.specs.Gates.{PairImage, TwoQubit, twoQubitGates, pairsCommute, ValidPairImages, All}
 use Rattle.clifford_gates.specs.GateTableaux.{pairString, pairRow, onQubits}
 use Rattle.clifford_gates.proofs.GateTables.{all-map, two-qubit-valid}

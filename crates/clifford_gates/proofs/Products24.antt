@@ -11,13 +11,14 @@ use Rattle.pauli_group.specs.Phase.{_·_, negate, turn}
 use Rattle.pauli_group.specs.Letter.{letterProduct, letterPhase, letterMul}
 use Rattle.pauli_group.specs.PauliString.{PauliString, qubits}
 use Rattle.clifford_group.specs.Tableau.{Tableau, identityTableau, compose, allTo, Same}
-use Rattle.clifford_group.proofs.Rows.{ofX, ofZ, same-row}
+use Rattle.clifford_group.specs.Conjugation.{ofX, ofZ}
+use Rattle.clifford_group.proofs.Rows.{same-row}
 use Rattle.clifford_group.proofs.Same.{same-refl, same-sym, same-trans, compose-same}
 use Rattle.clifford_group.proofs.Valid.{all-each}
 use Rattle.clifford_gates.specs.Gates.{Image, OneQubit, oneQubit, oneQubitGates}
 use Rattle.clifford_gates.specs.GateTableaux.{imageString, unchanged, onQubit}
-use Rattle.clifford_gates.specs.Unitaries.{Generator}
-use Rattle.clifford_gates.specs.GateNumbers.{oneQubitGate, nameOf, firstWith, generatorGate, sequences, productFrom, singleQubitClifford, productGates}
+use Rattle.clifford_gates.specs.Unitaries.{WordGate}
+use Rattle.clifford_gates.specs.GateNumbers.{oneQubitGate, nameOf, firstWith, wordGateNumber, sequences, productFrom, singleQubitClifford, productGates}
 use Rattle.clifford_gates.specs.Updates.{timesI, letterImage, scaled, sentImage, composeImages}
 use Rattle.clifford_gates.proofs.GateTables.{same-entry, entry-equal}
 use Rattle.clifford_gates.proofs.GateTableaux.{image-phase}
@@ -26,24 +27,24 @@ use Rattle.clifford_gates.proofs.GateNames.{compose-on-qubit, on-qubit-
 
 -- ---- each is a gate
 -- the images that a sequence makes, each next gate composed on the right
-unfoldable productImages : OneQubit → List Generator → OneQubit
+unfoldable productImages : OneQubit → List WordGate → OneQubit
 productImages k [] = k
-productImages k (g ∷ w) = productImages (composeImages k (oneQubitGate (generatorGate g))) w
+productImages k (g ∷ w) = productImages (composeImages k (oneQubitGate (wordGateNumber g))) w
 
 module _ (q : ℕ) (l : q < qubits) where
-  product-same : (w : List Generator) (t : Tableau) (k : OneQubit) → Same t (onQubit k q)
+  product-same : (w : List WordGate) (t : Tableau) (k : OneQubit) → Same t (onQubit k q)
       → Same (productFrom q t w) (onQubit (productImages k w) q)
   unfolding productFrom productImages
   product-same [] t k e = e
   product-same (g ∷ w) t k e =
-      product-same w (compose t (onQubit (oneQubitGate (generatorGate g)) q)) (composeImages k (oneQubitGate (generatorGate g)))
-      (same-trans (compose t (onQubit (oneQubitGate (generatorGate g)) q)) (compose (onQubit k q) (onQubit (oneQubitGate (generatorGate g)) q))
-      (onQubit (composeImages k (oneQubitGate (generatorGate g))) q)
-      (compose-same t (onQubit k q) (onQubit (oneQubitGate (generatorGate g)) q) (onQubit (oneQubitGate (generatorGate g)) q) e (same-refl _))
-      (compose-on-qubit k (oneQubitGate (generatorGate g)) q l))
+      product-same w (compose t (onQubit (oneQubitGate (wordGateNumber g)) q)) (composeImages k (oneQubitGate (wordGateNumber g)))
+      (same-trans (compose t (onQubit (oneQubitGate (wordGateNumber g)) q)) (compose (onQubit k q) (onQubit (oneQubitGate (wordGateNumber g)) q))
+      (onQubit (composeImages k (oneQubitGate (wordGateNumber g))) q)
+      (compose-same t (onQubit k q) (onQubit (oneQubitGate (wordGateNumber g)) q) (onQubit (oneQubitGate (wordGateNumber g)) q) e (same-refl _))
+      (compose-on-qubit k (oneQubitGate (wordGateNumber g)) q l))
 
 product-images : (k : ℕ) → k < 24 → productImages unchanged (getD sequences k []) ≡ oneQubitGate (getD productGates k 0)
-unfolding allTo sequences productImages productGates generatorGate oneQubitGate oneQubitGates composeImages sentImage scaled letterImage timesI letterPhase letterMul letterProduct _·_ negate turn
+unfolding allTo sequences productImages productGates wordGateNumber oneQubitGate oneQubitGates composeImages sentImage scaled letterImage timesI letterPhase letterMul letterProduct _·_ negate turn
 product-images k h =
     entry-equal _ _
     (subst T (sym (all-each 24 (λ k. same-entry (productImages unchanged (getD sequences k [])) (oneQubitGate (getD productGates k 0))) refl k h)) tt)

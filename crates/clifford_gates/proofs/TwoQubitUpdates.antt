@@ -11,9 +11,9 @@ use Rattle.pauli_group.specs.PauliString.{PauliString, qubits, mul, identityStr
 use Rattle.pauli_group.proofs.Laws.{·-one, letterMul-I, I-letterMul, letterPhase-I, I-letterPhase}
 use Rattle.pauli_group.proofs.Strings.{string-ext, scale-one, scale-scale, mul-identity}
 use Rattle.clifford_group.specs.Tableau.{Tableau, identityTableau, rowImage, imageOf, apply}
+use Rattle.clifford_group.specs.Conjugation.{Generator, ofX, ofZ, generator}
 use Rattle.clifford_group.proofs.Singles.{single-I, mul-singles}
 use Rattle.clifford_group.proofs.Commuting.{commuting-singles, exchange, scale-both}
-use Rattle.clifford_group.proofs.Rows.{Generator, ofX, ofZ, generator}
 use Rattle.clifford_group.proofs.Images.{image-own, image-above, image-row, image-I, image-generators, image-identity}
 use Rattle.clifford_group.proofs.Apply.{apply-single}
 use Rattle.clifford_group.proofs.Conjugation.{apply-mul}

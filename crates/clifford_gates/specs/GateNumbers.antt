@@ -10,7 +10,7 @@ use Rattle.pauli_group.specs.PauliString.{PauliString}
 use Rattle.clifford_group.specs.Tableau.{Tableau, identityTableau, compose, inverse, hasX, hasZ}
 use Rattle.clifford_gates.specs.Gates.{Image, OneQubit, oneQubitGates, TwoQubit, twoQubit, twoQubitGates, pairPlus}
 use Rattle.clifford_gates.specs.GateTableaux.{unchanged, onQubit, onQubits}
-use Rattle.clifford_gates.specs.Unitaries.{Generator, H, S}
+use Rattle.clifford_gates.specs.Unitaries.{WordGate, H, S}
 
 -- ---- the tableau of a gate
 
@@ -89,12 +89,12 @@ inverseNumbers =
 -- ---- "the 24 products of `single_qubit_cliffords`"
 
 -- H and SZ
-unfoldable pub generatorGate : Generator → ℕ
-generatorGate H = 4
-generatorGate S = 14
+unfoldable pub wordGateNumber : WordGate → ℕ
+wordGateNumber H = 4
+wordGateNumber S = 14
 
 -- the sequences of clifford_rep.rs
-unfoldable pub sequences : List (List Generator)
+unfoldable pub sequences : List (List WordGate)
 sequences =
     [] ∷  -- 0: I
     (H ∷ S ∷ S ∷ H ∷ []) ∷  -- 1: X
@@ -123,9 +123,9 @@ sequences =
     []
 
 -- each next gate composed on the right, so the rightmost acts first
-unfoldable pub productFrom : ℕ → Tableau → List Generator → Tableau
+unfoldable pub productFrom : ℕ → Tableau → List WordGate → Tableau
 productFrom q t [] = t
-productFrom q t (g ∷ w) = productFrom q (compose t (onQubit (oneQubitGate (generatorGate g)) q)) w
+productFrom q t (g ∷ w) = productFrom q (compose t (onQubit (oneQubitGate (wordGateNumber g)) q)) w
 
 unfoldable pub singleQubitClifford : ℕ → ℕ → Tableau
 singleQubitClifford k q = productFrom q (identityTableau (suc q)) (getD sequences k [])

@@ -1,11 +1,12 @@
 -- The gates' unitary matrices over the Gaussian integers, each scaled so that no root of two appears.
 use mathlib.Core.Path.{_≡_}
 use mathlib.Core.List.{List, [], _∷_}
+use Prim.Native.Nat.{ℕ, _<_}
 use lib.IntN.{pos, negsuc}
-use Rattle.pauli_group.specs.Phase.{Phase, PlusOne, MinusOne, PlusI, MinusI}
+use Rattle.pauli_group.specs.Phase.{Phase, PlusOne, PlusI, MinusI}
 use Rattle.pauli_group.specs.Letter.{Letter, I, X, Z, Y}
-use Rattle.pauli_group.specs.Papers.{Gaussian, gaussian, addG, Matrix, matrixProduct, scaleMatrix, phaseNumber, pauliMatrix}
-use Rattle.clifford_gates.specs.Gates.{Image, OneQubit, PairImage, TwoQubit}
+use Rattle.pauli_group.specs.Papers.{Gaussian, gaussian, addG, mulG, conjugateG, Matrix, matrixProduct, scaleMatrix, phaseNumber, pauliMatrix}
+use Rattle.clifford_gates.specs.Gates.{Image, plus, minus, OneQubit, PairImage, TwoQubit}
 
 abbrev zero1 : Gaussian
 zero1 = gaussian (pos 0) (pos 0)
@@ -20,11 +21,11 @@ hadamard = record { a = one1; b = one1; c = one1; d = gaussian (negsuc 0) (pos 0
 unfoldable pub phaseGate : Matrix
 phaseGate = record { a = one1; b = zero1; c = zero1; d = gaussian (pos 0) (pos 1) }
 
--- a product of the two, the rightmost acts first
-pub data Generator : Type 0 where
-  H S : Generator
+-- words of the two, and their products: the rightmost acts first
+pub data WordGate : Type 0 where
+  H S : WordGate
 
-unfoldable pub word : List Generator → Matrix
+unfoldable pub word : List WordGate → Matrix
 word [] = pauliMatrix I
 word (H ∷ w) = matrixProduct hadamard (word w)
 word (S ∷ w) = matrixProduct phaseGate (word w)
@@ -58,11 +59,85 @@ oneQubitUnitaries =
     word (H ∷ S ∷ []) ∷  -- F4dg
     []
 
--- the matrix of a letter with its sign
+-- the matrix of a letter with its phase
 unfoldable pub imageMatrix : Image → Matrix
 imageMatrix i = scaleMatrix (phaseNumber (i .phase)) (pauliMatrix (i .letter))
 
--- the gate's images are those of conjugation by u: u·P = P'·u, so P' = u·P·u†
+-- ---- the same matrices as sums of letters, up to a factor: what each gate's name means
+
+unfoldable pub addMatrix : Matrix → Matrix → Matrix
+addMatrix m n = record { a = addG (m .a) (n .a); b = addG (m .b) (n .b); c = addG (m .c) (n .c); d = addG (m .d) (n .d) }
+
+-- two letters with their signs: a Hadamard gate, times the root of two
+unfoldable pub sumOf : Image → Image → Matrix
+sumOf i j = addMatrix (imageMatrix i) (imageMatrix j)
+
+-- a letter's root, 1 - i·P, and its inverse, 1 + i·P, times the root of two
+unfoldable pub letterRoot : Phase → Letter → Matrix
+letterRoot p l = sumOf (plus I) (record { phase = p; letter = l })
+
+-- a face gate, 1 + p·X + q·Y + r·Z, times 2
+unfoldable pub face : Phase → Phase → Phase → Matrix
+face p q r = addMatrix (letterRoot p X) (sumOf (record { phase = q; letter = Y }) (record { phase = r; letter = Z }))
+
+unfoldable pub oneQubitForms : List Matrix
+oneQubitForms =
+    pauliMatrix I ∷
+    pauliMatrix X ∷
+    pauliMatrix Y ∷
+    pauliMatrix Z ∷
+    sumOf (plus X) (plus Z) ∷  -- H = X + Z
+    sumOf (plus X) (minus Z) ∷  -- H2 = X - Z
+    sumOf (plus X) (plus Y) ∷  -- H3 = X + Y
+    sumOf (plus X) (minus Y) ∷  -- H4 = X - Y
+    sumOf (plus Y) (plus Z) ∷  -- H5 = Y + Z
+    sumOf (plus Y) (minus Z) ∷  -- H6 = Y - Z
+    letterRoot MinusI X ∷  -- SX = 1 - iX
+    letterRoot PlusI X ∷  -- SXdg = 1 + iX
+    letterRoot MinusI Y ∷  -- SY = 1 - iY
+    letterRoot PlusI Y ∷  -- SYdg = 1 + iY
+    letterRoot MinusI Z ∷  -- SZ = 1 - iZ
+    letterRoot PlusI Z ∷  -- SZdg = 1 + iZ
+    face MinusI MinusI MinusI ∷  -- F = 1 - i(X + Y + Z)
+    face PlusI PlusI PlusI ∷  -- Fdg = 1 + i(X + Y + Z)
+    face PlusI MinusI MinusI ∷  -- F2 = 1 - i(-X + Y + Z)
+    face MinusI PlusI PlusI ∷  -- F2dg = 1 + i(-X + Y + Z)
+    face PlusI PlusI MinusI ∷  -- F3 = 1 - i(-X - Y + Z)
+    face MinusI MinusI PlusI ∷  -- F3dg = 1 + i(-X - Y + Z)
+    face MinusI PlusI MinusI ∷  -- F4 = 1 - i(X - Y + Z)
+    face PlusI MinusI PlusI ∷  -- F4dg = 1 + i(X - Y + Z)
+    []
+
+-- equal up to a factor: z·m = w·n for numbers z and w that are not 0
+pub record UpToFactor (m n : Matrix) : Type 0 where
+  pub z : Gaussian
+  pub w : Gaussian
+  pub zSome : z ≡ zero1 → ⊥
+  pub wSome : w ≡ zero1 → ⊥
+  pub is : scaleMatrix z m ≡ scaleMatrix w n
+
+-- ---- unitary: u·u† is a positive multiple of the identity, so u is a unitary matrix times a root
+
+-- the adjoint
+unfoldable pub adjoint : Matrix → Matrix
+adjoint m = record { a = conjugateG (m .a); b = conjugateG (m .c); c = conjugateG (m .b); d = conjugateG (m .d) }
+
+-- a number times the identity
+unfoldable pub multiple : Gaussian → Matrix
+multiple z = scaleMatrix z (pauliMatrix I)
+
+-- m is such a multiple, of a number above 0
+pub record PositiveMultiple {A : Type 0} (of : Gaussian → A) (m : A) : Type 0 where
+  pub norm : ℕ
+  pub positive : 0 < norm
+  pub is : m ≡ of (gaussian (pos norm) (pos 0))
+
+abbrev pub Unitary : Matrix → Type 0
+Unitary u = PositiveMultiple multiple (matrixProduct u (adjoint u))
+
+-- ---- conjugation
+
+-- the gate's images are those of conjugation by u: u·P = P'·u, so P' = u·P·u† for a unitary u
 pub record Conjugates (u : Matrix) (g : OneQubit) : Type 0 where
   pub x : matrixProduct u (pauliMatrix X) ≡ matrixProduct (imageMatrix (g .x)) u
   pub z : matrixProduct u (pauliMatrix Z) ≡ matrixProduct (imageMatrix (g .z)) u
@@ -74,9 +149,6 @@ pub record Blocks : Type 0 where
   pub b : Matrix
   pub c : Matrix
   pub d : Matrix
-
-unfoldable pub addMatrix : Matrix → Matrix → Matrix
-addMatrix m n = record { a = addG (m .a) (n .a); b = addG (m .b) (n .b); c = addG (m .c) (n .c); d = addG (m .d) (n .d) }
 
 unfoldable pub blockProduct : Blocks → Blocks → Blocks
 blockProduct m n = record {
@@ -93,11 +165,20 @@ addBlocks m n = record { a = addMatrix (m .a) (n .a); b = addMatrix (m .b) (n .b
 unfoldable pub kronecker : Matrix → Matrix → Blocks
 kronecker m n = record { a = scaleMatrix (m .a) n; b = scaleMatrix (m .b) n; c = scaleMatrix (m .c) n; d = scaleMatrix (m .d) n }
 
+unfoldable pub blockAdjoint : Blocks → Blocks
+blockAdjoint m = record { a = adjoint (m .a); b = adjoint (m .c); c = adjoint (m .b); d = adjoint (m .d) }
+
+unfoldable pub blockMultiple : Gaussian → Blocks
+blockMultiple z = kronecker (multiple z) (pauliMatrix I)
+
+abbrev pub UnitaryPair : Blocks → Type 0
+UnitaryPair u = PositiveMultiple blockMultiple (blockProduct u (blockAdjoint u))
+
 -- a phase times two letters
 unfoldable pub pairMatrix : Phase → Letter → Letter → Blocks
 pairMatrix p a b = kronecker (scaleMatrix (phaseNumber p) (pauliMatrix a)) (pauliMatrix b)
 
--- a letter on the second qubit where the first is 1
+-- a letter on the second qubit where the first is 1: the blocks 1 and P
 unfoldable pub controlled : Letter → Blocks
 controlled l = record { a = pauliMatrix I; b = scaleMatrix zero1 (pauliMatrix I); c = scaleMatrix zero1 (pauliMatrix I); d = pauliMatrix l }
 
@@ -105,16 +186,29 @@ controlled l = record { a = pauliMatrix I; b = scaleMatrix zero1 (pauliMatrix I)
 unfoldable pub rootOf : Phase → Letter → Blocks
 rootOf p l = addBlocks (pairMatrix PlusOne I I) (pairMatrix p l l)
 
--- twice the exchange of the qubits, 1 + ZZ + p·(XX + YY): p is 1 for SWAP, i for iSWAP, -i for its inverse
+-- twice the exchange of the qubits, 1 + ZZ + p·(XX + YY): p is 1 for SWAP, i for iSWAP, -i for its inverse. On basis states it is
+-- `stateExchange`.
 unfoldable pub exchange : Phase → Blocks
 exchange p =
     addBlocks (addBlocks (pairMatrix PlusOne I I) (pairMatrix PlusOne Z Z)) (addBlocks (pairMatrix p X X) (pairMatrix p Y Y))
 
--- G: CZ, Hadamard on both qubits, CZ; times 2
+-- |00> and |11> stay, |01> and |10> change places with the factor p; all times 2
+unfoldable pub stateExchange : Phase → Blocks
+stateExchange p =
+    let two : Gaussian = gaussian (pos 2) (pos 0) in
+    let turned : Gaussian = mulG two (phaseNumber p) in
+    record {
+      a = record { a = two; b = zero1; c = zero1; d = zero1 };
+      b = record { a = zero1; b = zero1; c = turned; d = zero1 };
+      c = record { a = zero1; b = turned; c = zero1; d = zero1 };
+      d = record { a = zero1; b = zero1; c = zero1; d = two };
+    }
+
+-- G: CZ, Hadamard on both qubits, CZ; times 2. It is its own inverse.
 unfoldable pub gGate : Blocks
 gGate = blockProduct (controlled Z) (blockProduct (kronecker hadamard hadamard) (controlled Z))
 
--- gates 24 to 37; Gdg differs from G by a phase of the whole, which no conjugation shows
+-- gates 24 to 37; Gdg is G. Each is written in the letters of its name: no other form is needed
 unfoldable pub twoQubitUnitaries : List Blocks
 twoQubitUnitaries =
     controlled X ∷ controlled Y ∷ controlled Z ∷ exchange PlusOne ∷

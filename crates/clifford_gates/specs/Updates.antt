@@ -1,7 +1,7 @@
 -- What a gate does to a string: it changes the letters of its own qubits, and the phase. For H, SZ and CX also as the updates of a
 -- row by Aaronson and Gottesman (section III, the cases "CNOT", "Hadamard" and "Phase").
 use Prim.Native.Nat.{ℕ}
-use mathlib.Core.Bool.{Bool, true, false, cond, not, _&&_}
+use mathlib.Core.Bool.{Bool, true, cond, not, _&&_}
 use lib.Dec.{eqb}
 use Rattle.pauli_group.specs.Phase.{Phase, PlusI, sign, _·_}
 use Rattle.pauli_group.specs.Letter.{Letter, I, X, Z, Y, letterMul, letterPhase}

@@ -6,6 +6,7 @@ use Prim.Native.Nat.{ℕ, _<_}
 use Rattle.pauli_group.specs.Phase.{Phase, PlusOne, _·_, sign}
 use Rattle.pauli_group.specs.Letter.{Letter, I, anticommute}
 use Rattle.pauli_group.specs.PauliString.{PauliString, qubits, mul, identityString, scale, single, commute, commutationSign}
+use Rattle.pauli_group.proofs.Laws.{sign-injective}
 use Rattle.pauli_group.proofs.Strings.{scale-scale, scale-one, scale-mul, mul-scale, mul-assoc, identity-mul, mul-identity, mul-swap}
 use Rattle.pauli_group.proofs.Strings.{sign-only, sign-sym, commute-sign}
 use Rattle.pauli_group.proofs.Strings.{sign-single}
@@ -45,13 +46,6 @@ pub scale-both : (p q : Phase) (s t : PauliString) → mul (scale p s) (scale q 
 scale-both p q s t = scale-mul p s (scale q t) ∙ ap (scale p) (mul-scale q s t) ∙ scale-scale p q (mul s t)
 
 -- ---- the test answers what the products say
-pub sign-injective : (b c : Bool) → sign b ≡ sign c → b ≡ c
-unfolding sign
-sign-injective true true e = refl
-sign-injective true false e = cc
-sign-injective false true e = cc
-sign-injective false false e = refl
-
 tested : (b c : Bool) → sign (not b) ≡ sign (not c) → b ≡ c
 tested b c e = not-injective b c (sign-injective (not b) (not c) e)
   where

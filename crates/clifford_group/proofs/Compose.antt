@@ -9,7 +9,8 @@ use Rattle.pauli_group.specs.Letter.{Letter, I, X, Z, Y}
 use Rattle.pauli_group.specs.PauliString.{PauliString, qubits, mul, identityString, scale, Within}
 use Rattle.clifford_group.specs.Tableau.{Tableau, identityTableau, imageOf, applyTo, apply, compose, Proper, Clifford, Same}
 use Rattle.clifford_group.specs.Tableau.{widen}
-use Rattle.clifford_group.proofs.Rows.{Generator, ofX, ofZ, generator, row, rows-proper}
+use Rattle.clifford_group.specs.Conjugation.{Generator, ofX, ofZ, generator, row}
+use Rattle.clifford_group.proofs.Rows.{rows-proper}
 use Rattle.clifford_group.proofs.Images.{image-above, image-row, image-I, image-Y, same-images, image-identity, within-image}
 use Rattle.clifford_group.proofs.Apply.{applyTo-start, apply-widen, apply-scale, apply-identity, apply-single, within-apply}
 use Rattle.clifford_group.proofs.Conjugation.{apply-mul}

@@ -10,13 +10,13 @@ use Rattle.pauli_group.specs.Phase.{PlusOne, _·_, isReal, sign}
 use Rattle.pauli_group.specs.Letter.{Letter, X, Z, letterPhase, letterMul, anticommute}
 use Rattle.pauli_group.specs.PauliString.{PauliString, qubits, productTo, phaseOfLetters, mul, identityString, scale, single}
 use Rattle.pauli_group.specs.PauliString.{commute, commutationSign, Within}
-use Rattle.pauli_group.proofs.Laws.{·-comm, ·-one}
+use Rattle.pauli_group.proofs.Laws.{·-comm, ·-one, sign-injective}
 use Rattle.pauli_group.proofs.Strings.{string-ext, scale-one, scale-cancel, identity-mul, mul-swap, sign-only, sign-single, sign-local}
 use Rattle.pauli_group.proofs.Strings.{real-squares, squares-real}
 use Rattle.clifford_group.specs.Tableau.{Tableau, imageOf, applyTo, apply, letterOf, Clifford}
 use Rattle.clifford_group.proofs.Singles.{letter-bits}
 use Rattle.clifford_group.proofs.Commuting.{Commuting, commuting-identity, commuting-scale, commuting-mul, exchange, scale-both}
-use Rattle.clifford_group.proofs.Commuting.{sign-injective, commute-by-sign}
+use Rattle.clifford_group.proofs.Commuting.{commute-by-sign}
 use Rattle.clifford_group.proofs.Apply.{applyTo-start, apply-letters, apply-scale, apply-identity, apply-single}
 use Rattle.clifford_group.proofs.Multiply.{ImagesMultiply, multiply-everywhere}
 

@@ -5,9 +5,10 @@ use mathlib.Core.Logic.{_↔_}
 use Prim.Native.Nat.{ℕ, _≤_, _<_, max}
 use native.Mathlib.Omega.{arith}
 use Rattle.pauli_group.specs.Letter.{Letter, letterPhase, letterMul}
-use Rattle.pauli_group.specs.PauliString.{PauliString, qubits, mul, scale, single, Within}
+use Rattle.pauli_group.specs.PauliString.{PauliString, qubits, mul, scale, single}
 use Rattle.pauli_group.proofs.Strings.{within-single}
-use Rattle.clifford_group.specs.Tableau.{Tableau, imageOf, apply, widen, isValid, Proper, Clifford, Same}
+use Rattle.clifford_group.specs.Tableau.{Tableau, imageOf, apply, widen, isValid, Proper, Clifford}
+use Rattle.clifford_group.specs.Conjugation.{Multiplicative, SendAlike, SameWidened}
 use Rattle.clifford_group.proofs.Singles.{mul-singles}
 use Rattle.clifford_group.proofs.Commuting.{commuting-singles}
 use Rattle.clifford_group.proofs.Images.{alike-same, same-alike, alike-widen, proper-widen}
@@ -15,10 +16,6 @@ use Rattle.clifford_group.proofs.Apply.{apply-alike, apply-widen, apply
 use Rattle.clifford_group.proofs.Valid.{test-equal}
 use Rattle.clifford_group.proofs.Multiply.{everywhere-valid}
 use Rattle.clifford_group.proofs.Conjugation.{apply-mul}
-
--- over the strings that a record holds
-abbrev pub Multiplicative : Tableau → Type 0
-Multiplicative t = (s u : PauliString) → Within qubits s → Within qubits u → apply t (mul s u) ≡ mul (apply t s) (apply t u)
 
 pub multiplicative-valid : (t : Tableau) → t .width ≤ qubits → Multiplicative t → isValid t ≡ true
 multiplicative-valid t n m = everywhere-valid t n (record {
@@ -56,12 +53,6 @@ pub clifford-widen : (n : ℕ) → n ≤ qubits → (t : Tableau) → Clifford t
 clifford-widen n h t c = record { proper = proper-widen n h t (c .proper); valid = isValid-widen n h t (c .proper) ∙ c .valid }
 
 -- ---- two tableaux that send strings alike
-abbrev pub SendAlike : Tableau → Tableau → Type 0
-SendAlike a b = (s : PauliString) → Within qubits s → apply a s ≡ apply b s
-
-abbrev pub SameWidened : Tableau → Tableau → Type 0
-SameWidened a b = Same (widen (max (a .width) (b .width)) a) (widen (max (a .width) (b .width)) b)
-
 pub alike-iff-same : (a b : Tableau) → a .width ≤ qubits → b .width ≤ qubits → SendAlike a b ↔ SameWidened a b
 alike-iff-same a b h k = (same, alike)
   where

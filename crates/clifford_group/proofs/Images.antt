@@ -12,8 +12,9 @@ use Rattle.pauli_group.specs.Letter.{Letter, I, X, Z, Y, letterProduct, letterP
 use Rattle.pauli_group.specs.PauliString.{PauliString, qubits, mul, identityString, scale, single, Within}
 use Rattle.pauli_group.proofs.Strings.{scale-scale, scale-one, within-identity, within-mul, within-scale, within-single}
 use Rattle.clifford_group.specs.Tableau.{Tableau, identityTableau, rowImage, imageOf, widen, Proper, Same}
+use Rattle.clifford_group.specs.Conjugation.{Generator, ofX, ofZ, generator, row}
 use Rattle.clifford_group.proofs.Singles.{single-I, mul-singles}
-use Rattle.clifford_group.proofs.Rows.{Generator, ofX, ofZ, generator, row, same-row, rows-same, proper-row, rows-proper}
+use Rattle.clifford_group.proofs.Rows.{same-row, rows-same, proper-row, rows-proper}
 use Rattle.clifford_group.proofs.Rows.{row-image, row-identity, row-widen}
 
 pub image-own : (t : Tableau) (q : ℕ) (l : Letter) → q < t .width → imageOf t q l ≡ rowImage t q l
@@ -36,7 +37,7 @@ image-I t q = elim (decLt q (t .width)) [ yes h ↦ image-own t q I h | no h ↦
 abbrev timesY : PauliString → PauliString → PauliString
 timesY x z = scale PlusI (mul x z)
 
-single-Y : (q : ℕ) → q < qubits → single Y q ≡ timesY (single X q) (single Z q)
+pub single-Y : (q : ℕ) → q < qubits → single Y q ≡ timesY (single X q) (single Z q)
 unfolding letterProduct letterPhase letterMul _·_ negate turn
 single-Y q h = sym (ap (scale PlusI) (mul-singles X Z q h) ∙ scale-scale PlusI MinusI (single Y q) ∙ scale-one (single Y q))
 

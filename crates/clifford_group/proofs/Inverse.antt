@@ -9,13 +9,13 @@ use borrow.Author.Tests.{lt-ltb, le-ltb}
 use Rattle.pauli_group.specs.Phase.{Phase, PlusOne, conjugate}
 use Rattle.pauli_group.specs.Letter.{Letter, I, X, Z, anticommute}
 use Rattle.pauli_group.specs.PauliString.{PauliString, qubits, mul, scale, single, Within}
-use Rattle.pauli_group.proofs.Laws.{·-one, conjugate-·}
+use Rattle.pauli_group.proofs.Laws.{·-one, conjugate-·, sign-injective}
 use Rattle.pauli_group.proofs.Strings.{string-ext, sign-sym, sign-single, sign-local, within-mul, within-single}
 use Rattle.clifford_group.specs.Tableau.{Tableau, identityTableau, rowImage, imageOf, apply, compose, hasX, hasZ, letterOf}
 use Rattle.clifford_group.specs.Tableau.{transposed, inverseRow, inverse, Proper, Clifford, Same}
+use Rattle.clifford_group.specs.Conjugation.{Generator, ofX, ofZ, generator, row}
 use Rattle.clifford_group.proofs.Singles.{single-off, letter-bits, hasX-anticommute, hasZ-anticommute}
-use Rattle.clifford_group.proofs.Commuting.{sign-injective}
-use Rattle.clifford_group.proofs.Rows.{Generator, ofX, ofZ, generator, row, rows-proper}
+use Rattle.clifford_group.proofs.Rows.{rows-proper}
 use Rattle.clifford_group.proofs.Images.{image-own, image-above, image-row, image-generators, same-images, Alike}
 use Rattle.clifford_group.proofs.Images.{image-identity}
 use Rattle.clifford_group.proofs.Apply.{apply-alike, apply-letters, apply-scale, apply-single, apply-within}
@@ -46,8 +46,7 @@ row-inverse t ofZ q = refl
 -- ---- of any tableau: proper
 pub within-transposed : (t : Tableau) (bit : Letter → Bool) (q : ℕ) → Within (t .width) (transposed t bit q)
 unfolding transposed
-within-transposed t bit q c h =
-    ap (λ b. cond b (letterOf (bit (t .zImage c .letters q)) (bit (t .xImage c .letters q))) I) (le-ltb c (t .width) h)
+within-transposed t bit q c h = rw (le-ltb c (t .width) h)
 
 pub proper-inverse : (t : Tableau) → t .width ≤ qubits → Proper (inverse t)
 unfolding inverse inverseRow

@@ -7,6 +7,7 @@ pub mod Valid
 pub mod Multiply
 pub mod Conjugation
 pub mod Homomorphism
+pub mod Conjugations
 pub mod Identity
 pub mod Compose
 pub mod Pigeonhole

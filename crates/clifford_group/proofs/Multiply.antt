@@ -14,13 +14,13 @@ use Rattle.pauli_group.proofs.Laws.{letterMul-self, letterPhase-self}
 use Rattle.pauli_group.proofs.Strings.{scale-scale, scale-one, scale-mul, mul-scale, mul-assoc, identity-mul, mul-identity}
 use Rattle.pauli_group.proofs.Strings.{real-squares, squares-real, commute-mul, anticommute-mul}
 use Rattle.clifford_group.specs.Tableau.{Tableau, rowImage, imageOf, isValid, Clifford}
+use Rattle.clifford_group.specs.Conjugation.{Generator, ofX, ofZ, generator, row, Valid}
 use Rattle.clifford_group.proofs.Singles.{mul-singles}
 use Rattle.clifford_group.proofs.Commuting.{Commuting, commuting-free, commuting-singles, commuting-identity, commuting-scale}
 use Rattle.clifford_group.proofs.Commuting.{commuting-mul}
 use Rattle.clifford_group.proofs.Commuting.{mul-commute}
-use Rattle.clifford_group.proofs.Rows.{Generator, ofX, ofZ, generator, row}
 use Rattle.clifford_group.proofs.Images.{image-own, image-above, image-row, image-I, within-image}
-use Rattle.clifford_group.proofs.Valid.{Valid, test-valid, valid-test}
+use Rattle.clifford_group.proofs.Valid.{test-valid, valid-test}
 
 -- the images of the first n qubits: on one qubit they multiply by the letter products, and on two they commute
 pub record ImagesMultiply (n : ℕ) (t : Tableau) : Type 0 where

@@ -1,20 +1,9 @@
--- X rows and Z rows as one: a row belongs to a generator, X or Z, and a qubit.
+-- Rows of generators: what two same tableaux and a proper one say of them, and which rows there are.
 use mathlib.Core.Path.{_≡_, refl}
 use Prim.Native.Nat.{ℕ, _≤_, _<_}
-use Rattle.pauli_group.specs.Letter.{Letter, X, Z}
-use Rattle.pauli_group.specs.PauliString.{PauliString, qubits, single, Within}
+use Rattle.pauli_group.specs.PauliString.{qubits, single, Within}
 use Rattle.clifford_group.specs.Tableau.{Tableau, identityTableau, rowImage, imageOf, widen, Proper, Same}
-
-pub data Generator : Type 0 where
-  ofX ofZ : Generator
-
-abbrev pub generator : Generator → Letter
-generator ofX = X
-generator ofZ = Z
-
-abbrev pub row : Tableau → Generator → ℕ → PauliString
-row t ofX = t .xImage
-row t ofZ = t .zImage
+use Rattle.clifford_group.specs.Conjugation.{Generator, ofX, ofZ, generator, row}
 
 -- ---- the same tableaux, and proper ones
 pub same-row : (t u : Tableau) → Same t u → (g : Generator) (q : ℕ) → q < t .width → row t g q ≡ row u g q

@@ -11,11 +11,12 @@ use Rattle.pauli_group.specs.PauliString.{PauliString, qubits, commute, Within}
 use Rattle.pauli_group.proofs.Strings.{string-ext}
 use Rattle.clifford_group.specs.Tableau.{Tableau, imageOf, apply, widen, compose, isValid, hasX, hasZ, letterOf, transposed}
 use Rattle.clifford_group.specs.Tableau.{inverseRow, inverse, Proper, Clifford, Same}
-use Rattle.clifford_group.proofs.Rows.{Generator, ofX, ofZ, generator, row, same-row, rows-same, proper-row, rows-proper}
+use Rattle.clifford_group.specs.Conjugation.{Generator, ofX, ofZ, generator, row, Valid}
+use Rattle.clifford_group.proofs.Rows.{same-row, rows-same, proper-row, rows-proper}
 use Rattle.clifford_group.proofs.Rows.{row-widen}
 use Rattle.clifford_group.proofs.Images.{image-same, alike-same}
 use Rattle.clifford_group.proofs.Apply.{apply-alike}
-use Rattle.clifford_group.proofs.Valid.{Valid, test-valid, valid-test, test-equal}
+use Rattle.clifford_group.proofs.Valid.{test-valid, valid-test, test-equal}
 use Rattle.clifford_group.proofs.Compose.{row-compose}
 use Rattle.clifford_group.proofs.Inverse.{within-transposed}
 

@@ -1,7 +1,6 @@
 -- The rule of validity over a tableau's own rows, and the test `isValid`, which passes exactly where the rule holds.
 use mathlib.Core.Path.{_≡_, refl, sym, ap, ap₂, _∙_}
 use mathlib.Core.Bool.{Bool, true, false, not, _&&_}
-use mathlib.Core.Logic.{_≢_}
 use Prim.Native.Nat.{ℕ, zero, suc, _<_}
 use native.Mathlib.Nat.{not-suc-le-zero}
 use native.Mathlib.Omega.{arith}
@@ -9,14 +8,8 @@ use native.Mathlib.Decide.{ℕ-discrete, decLt}
 use Rattle.pauli_group.specs.Phase.{isReal}
 use Rattle.pauli_group.specs.PauliString.{commute}
 use Rattle.clifford_group.specs.Tableau.{Tableau, allTo, validQubit, validPair, isValid}
+use Rattle.clifford_group.specs.Conjugation.{Generator, ofX, ofZ, row, Valid}
 use Rattle.clifford_group.proofs.Commuting.{commute-sym}
-use Rattle.clifford_group.proofs.Rows.{Generator, ofX, ofZ, row}
-
--- phases real, X and Z images of one qubit anticommute, every other pair commutes
-pub record Valid (t : Tableau) : Type 0 where
-  pub real : (g : Generator) (q : ℕ) → q < t .width → isReal (row t g q .phase) ≡ true
-  pub anticommuting : (q : ℕ) → q < t .width → commute (t .xImage q) (t .zImage q) ≡ false
-  pub commuting : (g k : Generator) (q r : ℕ) → q < t .width → r < t .width → q ≢ r → commute (row t g q) (row t k r) ≡ true
 
 -- ---- tests over several
 and-both : (a b : Bool) → (a && b) ≡ true → (a ≡ true) × (b ≡ true)

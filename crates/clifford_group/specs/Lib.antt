@@ -1,1 +1,2 @@
 pub mod Tableau
+pub mod Conjugation

@@ -14,7 +14,7 @@ use Rattle.pauli_group.specs.Letter.{Letter}
 use Rattle.pauli_group.specs.PauliString.{PauliString, qubits, Within}
 use Rattle.pauli_group.proofs.Strings.{string-ext}
 use Rattle.clifford_group.specs.Tableau.{Tableau, rowImage, imageOf, apply, compose, Clifford}
-use Rattle.clifford_group.proofs.Rows.{ofX, ofZ}
+use Rattle.clifford_group.specs.Conjugation.{ofX, ofZ}
 use Rattle.clifford_group.proofs.Images.{image-own}
 use Rattle.clifford_group.proofs.Compose.{row-compose, width-compose}
 use Rattle.clifford_group.proofs.Same.{same-refl, compose-same}

@@ -1,5 +1,5 @@
 -- Laws over finitely many cases, by one test that is computed over all of them.
-use mathlib.Core.Path.{_≡_, refl, sym, ap, _∙_}
+use mathlib.Core.Path.{_≡_, refl, sym, _∙_}
 use mathlib.Core.Bool.{Bool, true, false, not, _&&_}
 use lib.Dec.{T}
 use Rattle.pauli_group.specs.Phase.{Phase, PlusOne, MinusOne, PlusI, MinusI}
@@ -75,7 +75,7 @@ letter-bit-2 X = false
 letter-bit-2 Z = true
 letter-bit-2 Y = true
 
-abbrev letter-of-bits : Bool → Bool → Letter
+abbrev pub letter-of-bits : Bool → Bool → Letter
 letter-of-bits false false = I
 letter-of-bits true false = X
 letter-of-bits false true = Z
@@ -140,6 +140,11 @@ phases = record {
 
 abbrev pub bools : Finite Bool
 bools = record { all = λ f. f true && f false; each = each-bool; same = same-bool; equal = equal-bool }
+
+-- a test of two such arguments that passes everywhere
+module _ {A B : Type 0} (a : Finite A) (b : Finite B) where
+  pub each2 : (f : A → B → Bool) → T (a .all (λ x. b .all (f x))) → (x : A) (y : B) → T (f x y)
+  each2 f t x = b .each (f x) (a .each (λ x. b .all (f x)) t x)
 
 -- two functions of one, two or three such arguments are equal if they pass the test everywhere
 module _ {A R : Type 0} (a : Finite A) (r : Finite R) where

@@ -2,7 +2,7 @@
 use mathlib.Core.Path.{_≡_, refl, sym, ap, _∙_}
 use mathlib.Core.Bool.{Bool, true, false, true≢false}
 use Rattle.pauli_group.specs.Phase.{Phase, PlusOne, MinusOne, PlusI, MinusI, negate, turn, _·_, conjugate, isReal, sign}
-use Rattle.pauli_group.specs.Letter.{Letter, I, X, Z, Y, letterProduct, letterPhase, letterMul, anticommute}
+use Rattle.pauli_group.specs.Letter.{Letter, I, letterProduct, letterPhase, letterMul, anticommute}
 use Rattle.pauli_group.proofs.Finite.{letters, phases, bools, law1, law2, law3}
 
 -- ---- phases are a commutative group
@@ -56,6 +56,13 @@ square-real PlusOne e = refl
 square-real MinusOne e = refl
 square-real PlusI e = ap isOne e
 square-real MinusI e = ap isOne e
+
+pub sign-injective : (b c : Bool) → sign b ≡ sign c → b ≡ c
+unfolding sign
+sign-injective true true e = refl
+sign-injective true false e = cc
+sign-injective false true e = cc
+sign-injective false false e = refl
 
 -- ---- letters
 pub letterMul-assoc : (a b c : Letter) → letterMul (letterMul a b) c ≡ letterMul a (letterMul b c)

@@ -3,3 +3,5 @@ pub mod Laws
 pub mod Products
 pub mod Strings
 pub mod PaperForms
+pub mod Operators
+pub mod GaussianNumbers

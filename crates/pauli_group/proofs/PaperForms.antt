@@ -5,25 +5,25 @@ use mathlib.Core.Bool.{Bool, true, false, _&&_, cond}
 use Prim.Native.Nat.{ℕ, zero, suc, _+_, _%_}
 use native.Mathlib.Omega.{arith}
 use lib.Dec.{T, eqb, eqb→eq}
-use lib.IntN.{ℤ, pos, negsuc, sucℤ, predℤ, negℤ, natAbs, _+ℤ_, _-ℤ_, _*ℤ_, +ℤ-sucℤ, +ℤ-predℤ, +ℤ-idr, +ℤ-one, suc-pred, ℤ-ind, pos-+ℤ-pos}
-use Rattle.pauli_group.specs.Phase.{Phase, PlusOne, MinusOne, PlusI, MinusI, negate, turn, _·_, conjugate, sign}
-use Rattle.pauli_group.specs.Letter.{Letter, I, X, Z, Y, letterProduct, letterPhase, letterMul, anticommute}
+use lib.IntN.{ℤ, pos, negsuc, sucℤ, predℤ, natAbs, _+ℤ_, _*ℤ_, +ℤ-sucℤ, +ℤ-predℤ, +ℤ-idr, suc-pred, pos-+ℤ-pos}
+use Rattle.pauli_group.specs.Phase.{Phase, PlusOne, PlusI, MinusI, negate, turn, _·_, conjugate}
+use Rattle.pauli_group.specs.Letter.{Letter, letterProduct, letterPhase, letterMul, anticommute}
 use Rattle.pauli_group.specs.PauliString.{PauliString, qubits, productTo, countTo, phaseOfLetters, mul, anticommutingPlaces, commute}
-use Rattle.pauli_group.specs.Papers.{Gaussian, gaussian, addG, mulG, Matrix, matrixProduct, scaleMatrix, phaseNumber, pauliMatrix}
+use Rattle.pauli_group.specs.Papers.{Gaussian, addG, mulG, Matrix, matrixProduct, scaleMatrix, phaseNumber, pauliMatrix}
 use Rattle.pauli_group.specs.Papers.{xBit, zBit, exponent, sumTo, power, powerOfI, phaseExponent, rowsum, symplecticProduct, isEven}
-use Rattle.pauli_group.proofs.Finite.{Finite, letters, phases, law1, law2}
+use Rattle.pauli_group.proofs.Finite.{letters, phases, each2, law1, law2}
 use Rattle.pauli_group.proofs.Products.{productTo-ext}
-use Rattle.pauli_group.proofs.Laws.{·-assoc, ·-comm, ·-one, one-·}
+use Rattle.pauli_group.proofs.Laws.{·-assoc, ·-one}
 
 -- ---- the letter product is the product of the matrices
 -- equality of matrices as a test
-abbrev same-integer : ℤ → ℤ → Bool
+abbrev pub same-integer : ℤ → ℤ → Bool
 same-integer (pos m) (pos n) = eqb m n
 same-integer (pos m) (negsuc n) = false
 same-integer (negsuc m) (pos n) = false
 same-integer (negsuc m) (negsuc n) = eqb m n
 
-equal-integer : (x y : ℤ) → T (same-integer x y) → x ≡ y
+pub equal-integer : (x y : ℤ) → T (same-integer x y) → x ≡ y
 equal-integer (pos m) (pos n) t = ap pos (eqb→eq m n t)
 equal-integer (pos m) (negsuc n) t = absurd t
 equal-integer (negsuc m) (pos n) t = absurd t
@@ -33,10 +33,10 @@ pub both : (a b : Bool) → T (a && b) → T a × T b
 both true b t = (tt, t)
 both false b t = absurd t
 
-abbrev same-gaussian : Gaussian → Gaussian → Bool
+abbrev pub same-gaussian : Gaussian → Gaussian → Bool
 same-gaussian z w = same-integer (z .re) (w .re) && same-integer (z .im) (w .im)
 
-equal-gaussian : (z w : Gaussian) → T (same-gaussian z w) → z ≡ w
+pub equal-gaussian : (z w : Gaussian) → T (same-gaussian z w) → z ≡ w
 equal-gaussian z w t =
     let parts = both (same-integer (z .re) (w .re)) (same-integer (z .im) (w .im)) t in
     let re : z .re ≡ w .re = equal-integer (z .re) (w .re) (parts .0) in
@@ -64,7 +64,7 @@ equal-matrix m n t =
 pub letters-are-matrices : (a b : Letter)
     → matrixProduct (pauliMatrix a) (pauliMatrix b) ≡ scaleMatrix (phaseNumber (letterPhase a b)) (pauliMatrix (letterMul a b))
 unfolding matrixProduct scaleMatrix pauliMatrix phaseNumber addG mulG letterPhase letterMul letterProduct
-letters-are-matrices a b = equal-matrix _ _ (letters .each (test a) (letters .each (λ x. letters .all (test x)) tt a) b)
+letters-are-matrices a b = equal-matrix _ _ (each2 letters letters test tt a b)
   where
     test : Letter → Letter → Bool
     test a b = same-matrix (matrixProduct (pauliMatrix a) (pauliMatrix b)) (scaleMatrix (phaseNumber (letterPhase a b)) (pauliMatrix (letterMul a b)))
@@ -152,14 +152,14 @@ symplectic a b = xBit a *ℤ zBit b +ℤ zBit a *ℤ xBit b
 
 symplectic-natural : (a b : Letter) → symplectic a b ≡ pos (natAbs (symplectic a b))
 unfolding xBit zBit
-symplectic-natural a b = equal-integer _ _ (letters .each (test a) (letters .each (λ x. letters .all (test x)) tt a) b)
+symplectic-natural a b = equal-integer _ _ (each2 letters letters test tt a b)
   where
     test : Letter → Letter → Bool
     test a b = same-integer (symplectic a b) (pos (natAbs (symplectic a b)))
 
 symplectic-parity : (a b : Letter) → natAbs (symplectic a b) % 2 ≡ cond (anticommute a b) 1 0
 unfolding xBit zBit anticommute
-symplectic-parity a b = eqb→eq _ _ (letters .each (test a) (letters .each (λ x. letters .all (test x)) tt a) b)
+symplectic-parity a b = eqb→eq _ _ (each2 letters letters test tt a b)
   where
     test : Letter → Letter → Bool
     test a b = eqb (natAbs (symplectic a b) % 2) (cond (anticommute a b) 1 0)

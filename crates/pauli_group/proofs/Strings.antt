@@ -2,14 +2,14 @@
 -- places at which they anticommute.
 use mathlib.Core.Path.{_≡_, refl, sym, ap, ap₂, _∙_, fun-ext}
 use mathlib.Core.Bool.{Bool, true, false, cond, not}
-use Prim.Native.Nat.{ℕ, zero, suc, _+_, _%_, _≤_, _<_}
+use Prim.Native.Nat.{ℕ, _%_, _≤_, _<_}
 use native.Mathlib.Omega.{arith}
 use native.Mathlib.Decide.{ℕ-discrete}
 use lib.Dec.{eqb}
 use borrow.Author.Tests.{eq-eqb, ne-eqb}
 use Rattle.pauli_group.specs.Phase.{Phase, PlusOne, MinusOne, _·_, isReal, sign}
 use Rattle.pauli_group.specs.Letter.{Letter, I, letterPhase, letterMul, anticommute}
-use Rattle.pauli_group.specs.PauliString.{PauliString, qubits, productTo, countTo, phaseOfLetters, mul, identityString, scale, single, anticommutingPlaces, commute, commutationSign, Within}
+use Rattle.pauli_group.specs.PauliString.{PauliString, qubits, productTo, phaseOfLetters, mul, identityString, scale, single, anticommutingPlaces, commute, commutationSign, Within}
 use Rattle.pauli_group.proofs.Laws.{·-assoc, ·-comm, ·-left, one-·, ·-one, ·-cancel, real-square, square-real}
 use Rattle.pauli_group.proofs.Laws.{letterMul-assoc, letterMul-comm, letterMul-self, letterMul-I, I-letterMul, letterPhase-self, letterPhase-I, I-letterPhase}
 use Rattle.pauli_group.proofs.Laws.{cocycle, swap, anticommute-sym, anticommute-self, anticommute-I, sign-mul}

@@ -2,3 +2,4 @@ pub mod Phase
 pub mod Letter
 pub mod PauliString
 pub mod Papers
+pub mod Operators

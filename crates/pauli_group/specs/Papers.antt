@@ -1,6 +1,6 @@
 -- The papers' own forms of product and commutation. proofs/ shows that they agree with the definitions of the other files.
 use Prim.Native.Nat.{ℕ, zero, suc, _%_}
-use mathlib.Core.Bool.{Bool, true, false}
+use mathlib.Core.Bool.{Bool}
 use lib.Dec.{eqb}
 use lib.IntN.{ℤ, pos, negsuc, negℤ, natAbs, _+ℤ_, _-ℤ_, _*ℤ_}
 use Rattle.pauli_group.specs.Phase.{Phase, PlusOne, MinusOne, PlusI, MinusI, conjugate, turn}
@@ -22,6 +22,10 @@ addG z w = gaussian (z .re +ℤ w .re) (z .im +ℤ w .im)
 
 unfoldable pub mulG : Gaussian → Gaussian → Gaussian
 mulG z w = gaussian (z .re *ℤ w .re -ℤ z .im *ℤ w .im) (z .re *ℤ w .im +ℤ z .im *ℤ w .re)
+
+-- the complex conjugate
+unfoldable pub conjugateG : Gaussian → Gaussian
+conjugateG z = gaussian (z .re) (negℤ (z .im))
 
 -- the rows (a, b) and (c, d)
 pub record Matrix : Type 0 where
@@ -106,6 +110,10 @@ rowsum s t =
 unfoldable pub symplecticProduct : PauliString → PauliString → ℤ
 symplecticProduct s t =
     sumTo qubits (λ q. xBit (s .letters q) *ℤ zBit (t .letters q) +ℤ zBit (s .letters q) *ℤ xBit (t .letters q))
+
+-- an integer modulo 2: 0 or 1
+unfoldable pub modulo2 : ℤ → ℤ
+modulo2 z = pos (natAbs z % 2)
 
 -- an integer is 0 modulo 2
 unfoldable pub isEven : ℤ → Bool

@@ -1,7 +1,7 @@
 -- Pauli strings: a phase, and a letter for each qubit.
 use Prim.Native.Nat.{ℕ, zero, suc, _+_, _%_, _≤_}
 use mathlib.Core.Path.{_≡_}
-use mathlib.Core.Bool.{Bool, true, false, cond}
+use mathlib.Core.Bool.{Bool, cond}
 use lib.Dec.{eqb}
 use Rattle.pauli_group.specs.Phase.{Phase, PlusOne, sign, _·_}
 use Rattle.pauli_group.specs.Letter.{Letter, I, letterPhase, letterMul, anticommute}
