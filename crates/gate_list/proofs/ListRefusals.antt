@@ -80,7 +80,8 @@ module _ {P : Refusal → Type 0} (l : List ℕ) (i : ℕ) (p : OfRecord P i) wh
       (λ e. refusing-then _ _ (qubit-refusing (byteOf l i 1)) (λ e. refusing-then _ _ second-refusing (λ e. link-refusing))))
 
 -- ---- the chain, and the whole list
-module _ (P : Refusal → Type 0) (l : List ℕ) (size : P ListLength) (width : P Width) (own : (i : ℕ) → i ≤ 4095 → OfRecord P i) (loop : (i : ℕ) → i ≤ 4095 → P (Loop i)) where
+module _ (P : Refusal → Type 0) (l : List ℕ) (size : P ListLength) (width : P Width)
+    (own : (i : ℕ) → i ≤ 4095 → OfRecord P i) (loop : (i : ℕ) → i ≤ 4095 → P (Loop i)) where
   chain-refusing : (met : List ℕ) (n i : ℕ) → recordCount l ≤ 4096 → i < recordCount l → Refusing P (chainQuestions l met n i)
   unfolding chainQuestions
   chain-refusing met zero i h o = refusing-ask _ (Loop i) (loop i (omega arith))

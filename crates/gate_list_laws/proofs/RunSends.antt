@@ -21,7 +21,8 @@ unfolding tableauxOf
 gates-good small none = nil
 gates-good small (more f g) = good-more (own-good small f) (gate-narrow small f) (gates-good small g)
 
-pub run-sends : (l : List ℕ) → listQuestions l ≡ Done → (s : List ℕ) → stringQuestions s ≡ Done → applyRecord (runRecord l) s ≡ sentBy (tableauxOf (gatesOf l)) s
+pub run-sends : (l : List ℕ) → listQuestions l ≡ Done → (s : List ℕ) → stringQuestions s ≡ Done
+    → applyRecord (runRecord l) s ≡ sentBy (tableauxOf (gatesOf l)) s
 unfolding runRecord productOf
 run-sends l e s h =
     let small : listWidth l ≤ qubits = unfold qubits in admitted-narrow l e in

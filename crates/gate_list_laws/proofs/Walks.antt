@@ -45,8 +45,8 @@ pub left-fewer : (l met : List ℕ) (i : ℕ) → (i ≡ 0 → ⊥) → i < reco
 unfolding left
 left-fewer l met zero h o e = absurd (h refl)
 left-fewer l met (suc i) h o e =
-    count-fewer (recordCount l - 1) (λ k. not (isMet met (suc k))) (λ k. not (isMet (suc i ∷ met) (suc k))) i (omega arith) (ap not e) (ap not (met-one (suc i) met))
-    (λ q d. ap not (sym (met-other (suc i) met (suc q) (λ z. d (omega arith)))))
+    count-fewer (recordCount l - 1) (λ k. not (isMet met (suc k))) (λ k. not (isMet (suc i ∷ met) (suc k))) i (omega arith) (ap not e)
+    (ap not (met-one (suc i) met)) (λ q d. ap not (sym (met-other (suc i) met (suc q) (λ z. d (omega arith)))))
 
 -- ---- walks
 pub walk-own : {l met : List ℕ} {i : ℕ} → RightHead l → Walk l met i → i < recordCount l
@@ -61,7 +61,8 @@ head-unmet (meets {met} {i} w z m r) = met-other i met 0 z ∙ head-unmet w
 pub met-some : {l met : List ℕ} {i : ℕ} → Walk l met i → isMet met i ≡ true → i ≡ 0 → ⊥
 met-some {met = met} w m z = true-not-false (sym m ∙ ap (isMet met) z ∙ head-unmet w)
 
-pub walk-asked : {l met : List ℕ} {i : ℕ} → RightHead l → Walk l met i → chainQuestions l [] (recordCount l - 1) (nextOf l 0) ≡ chainQuestions l met (left l met) i
+pub walk-asked : {l met : List ℕ} {i : ℕ} → RightHead l → Walk l met i
+    → chainQuestions l [] (recordCount l - 1) (nextOf l 0) ≡ chainQuestions l met (left l met) i
 walk-asked {l} h starts = ap (λ (n : ℕ). chainQuestions l [] n (nextOf l 0)) (sym (left-all l))
 walk-asked {l} h (meets {met} {i} w z m r) =
     walk-asked h w ∙ ap (λ (n : ℕ). chainQuestions l met n i) (left-fewer l met i z (walk-own h w) m)
