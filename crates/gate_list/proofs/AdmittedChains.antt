@@ -24,7 +24,7 @@ use Rattle.gate_list.proofs.ListAdmitted.{and-second, link-done, Sized,
 
 -- ---- one record
 module _ (l : List ℕ) (i : ℕ) (e : recordQuestions l i ≡ Done) where
-  zeros-of : zerosQuestion l i ≡ Done
+  pub zeros-of : zerosQuestion l i ≡ Done
   unfolding recordQuestions
   zeros-of = done-first _ _ e
 

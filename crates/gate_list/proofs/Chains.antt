@@ -24,7 +24,7 @@ use Rattle.gate_list.specs.ListQuestions.{linkQuestion, zerosQuestion, g
 use Rattle.gate_list.specs.Reading.{OwnRecord, Unmet}
 
 -- ---- one place fewer
-count-fewer : (n : ℕ) (f g : ℕ → Bool) (p : ℕ) → p < n → f p ≡ true → g p ≡ false → ((q : ℕ) → (q ≡ p → ⊥) → f q ≡ g q) → countTo n f ≡ suc (countTo n g)
+pub count-fewer : (n : ℕ) (f g : ℕ → Bool) (p : ℕ) → p < n → f p ≡ true → g p ≡ false → ((q : ℕ) → (q ≡ p → ⊥) → f q ≡ g q) → countTo n f ≡ suc (countTo n g)
 unfolding countTo
 count-fewer zero f g p h t e s = absurd (not-suc-le-zero h)
 count-fewer (suc n) f g p h t e s = elim (ℕ-discrete p n) [
@@ -35,7 +35,7 @@ count-fewer (suc n) f g p h t e s = elim (ℕ-discrete p n) [
     other : (q : ℕ) → q < n → q ≡ p → p ≡ n → ⊥
     other q l z d = omega arith
 
-count-all : (n : ℕ) (f : ℕ → Bool) → ((q : ℕ) → f q ≡ true) → countTo n f ≡ n
+pub count-all : (n : ℕ) (f : ℕ → Bool) → ((q : ℕ) → f q ≡ true) → countTo n f ≡ n
 unfolding countTo
 count-all zero f h = refl
 count-all (suc n) f h = omega (arith, count-all n f h, ap {B = ℕ} (λ b. cond b 1 0) (h n))

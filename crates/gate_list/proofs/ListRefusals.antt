@@ -1,4 +1,4 @@
--- The details of a list's refusals are records, so they are at most 4,095.
+-- The refusals of a list: what holds of those of its questions holds of its own. Their details are records, so they are at most 4,095.
 use mathlib.Core.Path.{_≡_, refl, subst}
 use mathlib.Core.Bool.{Bool, true, false, cond, not}
 use mathlib.Core.List.{List, [], _∷_}
@@ -18,82 +18,99 @@ use Rattle.gate_list.specs.Reports.{Listed}
 use Rattle.gate_list.proofs.Chains.{record-link}
 use Rattle.gate_list.proofs.ListAdmitted.{size-done, sized-few, link-done}
 
-data Small : Outcome → Type 0 where
-  none : Small Done
-  one : {r : Refusal} → Listed r → Small (Refused r)
+-- ---- outcomes whose refusal, if there is one, is of a kind P
+pub data Refusing (P : Refusal → Type 0) : Outcome → Type 0 where
+  none : Refusing P Done
+  one : {r : Refusal} → P r → Refusing P (Refused r)
 
-small-ask : (b : Bool) (r : Refusal) → Listed r → Small (ask b r)
+pub refusing-ask : {P : Refusal → Type 0} (b : Bool) (r : Refusal) → P r → Refusing P (ask b r)
 unfolding ask
-small-ask true r h = none
-small-ask false r h = one h
+refusing-ask true r h = none
+refusing-ask false r h = one h
 
-small-cond : (b : Bool) {x y : Outcome} → Small x → Small y → Small (cond b x y)
-small-cond true a b = a
-small-cond false a b = b
+refusing-cond : {P : Refusal → Type 0} (b : Bool) {x y : Outcome} → Refusing P x → Refusing P y → Refusing P (cond b x y)
+refusing-cond true a b = a
+refusing-cond false a b = b
 
-small-then : (a b : Outcome) → Small a → (a ≡ Done → Small b) → Small (a andThen b)
+refusing-then : {P : Refusal → Type 0} (a b : Outcome) → Refusing P a → (a ≡ Done → Refusing P b) → Refusing P (a andThen b)
 unfolding _andThen_
-small-then Done b h k = k refl
-small-then (Refused r) b h k = h
+refusing-then Done b h k = k refl
+refusing-then (Refused r) b h k = h
 
-small-one : {r : Refusal} → Small (Refused r) → Listed r
-small-one (one h) = h
+refusing-one : {P : Refusal → Type 0} {r : Refusal} → Refusing P (Refused r) → P r
+refusing-one (one h) = h
 
 -- ---- one record
-module _ (l : List ℕ) (i : ℕ) (h : i ≤ 4095) where
-  link-small : Small (linkQuestion l i)
-  unfolding linkQuestion refusalDetail
-  link-small = small-ask _ (Link i) (record { detail = h })
+pub record OfRecord (P : Refusal → Type 0) (i : ℕ) : Type 0 where
+  pub zeros : P (ListRecord i)
+  pub gate : P (Gate i)
+  pub qubit : P (Qubit i)
+  pub same : P (SameQubit i)
+  pub link : P (Link i)
 
-  zeros-small : Small (zerosQuestion l i)
-  unfolding zerosQuestion refusalDetail
-  zeros-small = small-ask _ (ListRecord i) (record { detail = h })
+module _ {P : Refusal → Type 0} (l : List ℕ) (i : ℕ) (p : OfRecord P i) where
+  link-refusing : Refusing P (linkQuestion l i)
+  unfolding linkQuestion
+  link-refusing = refusing-ask _ (Link i) (p .link)
 
-  gate-small : Small (gateQuestion l i)
-  unfolding gateQuestion refusalDetail
-  gate-small = small-ask _ (Gate i) (record { detail = h })
+  zeros-refusing : Refusing P (zerosQuestion l i)
+  unfolding zerosQuestion
+  zeros-refusing = refusing-ask _ (ListRecord i) (p .zeros)
 
-  qubit-small : (q : ℕ) → Small (qubitQuestion l i q)
-  unfolding qubitQuestion refusalDetail
-  qubit-small q = small-ask _ (Qubit i) (record { detail = h })
+  gate-refusing : Refusing P (gateQuestion l i)
+  unfolding gateQuestion
+  gate-refusing = refusing-ask _ (Gate i) (p .gate)
 
-  different-small : (b : Bool) → Small (ask b (SameQubit i))
-  unfolding refusalDetail
-  different-small b = small-ask b (SameQubit i) (record { detail = h })
+  qubit-refusing : (q : ℕ) → Refusing P (qubitQuestion l i q)
+  unfolding qubitQuestion
+  qubit-refusing q = refusing-ask _ (Qubit i) (p .qubit)
 
-  second-small : Small (secondQuestions l i)
+  second-refusing : Refusing P (secondQuestions l i)
   unfolding secondQuestions
-  second-small =
-      small-cond (ltb (byteOf l i 0) 24) none
-      (small-then (qubitQuestion l i (byteOf l i 2)) _ (qubit-small (byteOf l i 2)) (λ e. different-small (not (eqb (byteOf l i 1) (byteOf l i 2)))))
+  second-refusing =
+      refusing-cond (ltb (byteOf l i 0) 24) none
+      (refusing-then (qubitQuestion l i (byteOf l i 2)) _ (qubit-refusing (byteOf l i 2))
+      (λ e. refusing-ask (not (eqb (byteOf l i 1) (byteOf l i 2))) (SameQubit i) (p .same)))
 
-  loop-small : Listed (Loop i)
-  unfolding refusalDetail
-  loop-small = record { detail = h }
-
-  record-small : Small (recordQuestions l i)
+  pub record-refusing : Refusing P (recordQuestions l i)
   unfolding recordQuestions
-  record-small =
-      small-then _ _ zeros-small
-      (λ e. small-then _ _ gate-small (λ e. small-then _ _ (qubit-small (byteOf l i 1)) (λ e. small-then _ _ second-small (λ e. link-small))))
+  record-refusing =
+      refusing-then _ _ zeros-refusing
+      (λ e. refusing-then _ _ gate-refusing
+      (λ e. refusing-then _ _ (qubit-refusing (byteOf l i 1)) (λ e. refusing-then _ _ second-refusing (λ e. link-refusing))))
 
 -- ---- the chain, and the whole list
-chain-small : (l met : List ℕ) (n i : ℕ) → recordCount l ≤ 4096 → i < recordCount l → Small (chainQuestions l met n i)
-unfolding chainQuestions
-chain-small l met zero i h o = small-ask _ (Loop i) (loop-small l i (omega arith))
-chain-small l met (suc n) i h o =
-    small-cond (eqb i 0) none
-    (small-cond (isMet met i) (one (loop-small l i (omega arith)))
-    (small-then _ _ (record-small l i (omega arith)) (λ e. chain-small l (i ∷ met) n (nextOf l i) h (record-link l i e))))
+module _ (P : Refusal → Type 0) (l : List ℕ) (size : P ListLength) (width : P Width)
+    (own : (i : ℕ) → i ≤ 4095 → OfRecord P i) (loop : (i : ℕ) → i ≤ 4095 → P (Loop i)) where
+  chain-refusing : (met : List ℕ) (n i : ℕ) → recordCount l ≤ 4096 → i < recordCount l → Refusing P (chainQuestions l met n i)
+  unfolding chainQuestions
+  chain-refusing met zero i h o = refusing-ask _ (Loop i) (loop i (omega arith))
+  chain-refusing met (suc n) i h o =
+      refusing-cond (eqb i 0) none
+      (refusing-cond (isMet met i) (one (loop i (omega arith)))
+      (refusing-then _ _ (record-refusing l i (own i (omega arith))) (λ e. chain-refusing (i ∷ met) n (nextOf l i) h (record-link l i e))))
 
-list-small : (l : List ℕ) → Small (listQuestions l)
-unfolding listQuestions sizeQuestion widthQuestion headQuestion refusalDetail
-list-small l =
-    small-then (sizeQuestion l) _ (small-ask _ ListLength (record { detail = omega arith }))
-    (λ s. small-then (widthQuestion (listWidth l)) _ (small-ask _ Width (record { detail = omega arith }))
-    (λ w. small-then (headQuestion l) _ (small-ask _ (ListRecord 0) (record { detail = omega arith }))
-    (λ z. small-then (linkQuestion l 0) _ (link-small l 0 (omega arith))
-    (λ k. chain-small l [] (recordCount l - 1) (nextOf l 0) (sized-few (size-done l s)) (link-done l 0 k)))))
+  list-refusing : Refusing P (listQuestions l)
+  unfolding listQuestions sizeQuestion widthQuestion headQuestion
+  list-refusing =
+      refusing-then (sizeQuestion l) _ (refusing-ask _ ListLength size)
+      (λ s. refusing-then (widthQuestion (listWidth l)) _ (refusing-ask _ Width width)
+      (λ w. refusing-then (headQuestion l) _ (refusing-ask _ (ListRecord 0) (own 0 (omega arith) .zeros))
+      (λ z. refusing-then (linkQuestion l 0) _ (link-refusing l 0 (own 0 (omega arith)))
+      (λ k. chain-refusing [] (recordCount l - 1) (nextOf l 0) (sized-few (size-done l s)) (link-done l 0 k)))))
+
+  pub refusal-of : {r : Refusal} → listQuestions l ≡ Refused r → P r
+  refusal-of e = refusing-one (subst (Refusing P) e list-refusing)
 
 pub refusal-listed : (l : List ℕ) {r : Refusal} → listQuestions l ≡ Refused r → Listed r
-refusal-listed l e = small-one (subst Small e (list-small l))
+unfolding refusalDetail
+refusal-listed l =
+    refusal-of Listed l (record { detail = omega arith }) (record { detail = omega arith })
+    (λ i h. record {
+      zeros = record { detail = h };
+      gate = record { detail = h };
+      qubit = record { detail = h };
+      same = record { detail = h };
+      link = record { detail = h };
+    })
+    (λ i h. record { detail = h })

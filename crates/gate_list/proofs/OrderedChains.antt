@@ -103,7 +103,7 @@ module _ {l : List ℕ} {i : ℕ} {p : Play} {next : ℕ} (r : RecordIs l i p ne
     | no h ↦ second-two l i refl (omega arith) (two-done (omega (arith, r .gate)))
   ]
 
-  record-done : Done ≡ recordQuestions l i
+  pub record-done : Done ≡ recordQuestions l i
   unfolding recordQuestions
   record-done =
       passed zeros-done refl

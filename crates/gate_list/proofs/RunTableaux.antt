@@ -7,10 +7,8 @@ use native.Mathlib.Decide.{decLt}
 use native.Mathlib.Omega.{arith}
 use lib.ListN.{length}
 use Rattle.pauli_group.specs.PauliString.{qubits}
-use Rattle.clifford_group.specs.Tableau.{Clifford}
-use Rattle.clifford_gates.specs.GateNumbers.{gateTableau}
 use Rattle.pauli.specs.declared.refusal.Outcome.the-variants.{Done}
-use Rattle.clifford.specs.Layout.{recordLength, widthOf, tableauOf}
+use Rattle.clifford.specs.Layout.{recordLength, widthOf}
 use Rattle.clifford.specs.GateAnswers.{gateRecord}
 use Rattle.clifford.specs.Tableaux.{recordValid, identityRecord, composeRecord}
 use Rattle.clifford_laws.specs.WayBack.{Steps, productFrom, productOf}
@@ -34,7 +32,7 @@ module _ {w : ℕ} {p : Play} (small : w ≤ qubits) (f : PlayFits w p) where
     | no l ↦ omega (arith, f .second (omega arith))
   ]
 
-  own-good : Good (gateRecord (p .gate) (p .first) (p .second))
+  pub own-good : Good (gateRecord (p .gate) (p .first) (p .second))
   own-good = gate-good (p .gate) (p .first) (p .second) (f .gate) (omega (arith, f .first)) second-small (f .different)
 
   module _ {t : List ℕ} (g : Good t) (e : widthOf t ≡ w) where
@@ -46,7 +44,7 @@ module _ {w : ℕ} {p : Play} (small : w ≤ qubits) (f : PlayFits w p) where
         ap widthOf (sym (played-is (p .gate) (p .first) (p .second) t (g .formed) (f .gate) (omega (arith, f .first)) (λ h. omega (arith, f .second h)) (f .different)))
         ∙ width-played (p .gate) (p .first) (p .second) t ∙ e
 
-  gate-narrow : widthOf (gateRecord (p .gate) (p .first) (p .second)) ≤ w
+  pub gate-narrow : widthOf (gateRecord (p .gate) (p .first) (p .second)) ≤ w
   gate-narrow =
       omega (arith, compose-width (gateRecord (p .gate) (p .first) (p .second)) (identityRecord w), then-width (identity-good w small) (identity-width w), identity-width w)
 

@@ -1,0 +1,4 @@
+pub mod RunSends
+pub mod RightLists
+pub mod Walks
+pub mod ListAnswers
