@@ -14,14 +14,13 @@ use Rattle.clifford_gates.proofs.GateNames.{gate-valid, gate-clifford, compose-
 use Rattle.clifford_gates.proofs.GateInverses.{inverse-gates}
 use Rattle.clifford_gates.proofs.Products24.{products, product-small, products-different}
 use Rattle.clifford.specs.Layout.{tableauOf, tableauRecord}
-use Rattle.clifford.specs.Tableaux.{composeRecord, inverseRecord}
+use Rattle.clifford.specs.Tableaux.{recordValid, Good, composeRecord, inverseRecord}
 use Rattle.clifford.specs.GateAnswers.{gateRecord, oneQubitRecord, productRecord}
 use Rattle.clifford.proofs.TableauRecords.{record-back, record-formed, same-record, record-same}
-use Rattle.clifford.proofs.RecordLaws.{Good}
 
 -- ---- one gate
 pub gate-good : (g q r : ℕ) → g < 38 → q < qubits → r < qubits → (24 ≤ g → q ≢ r) → Good (gateRecord g q r)
-unfolding gateRecord
+unfolding gateRecord recordValid
 gate-good g q r hg hq hr d =
     let c : Clifford (gateTableau g q r) = gate-clifford g q r hg hq hr d in
     record {
