@@ -1,14 +1,13 @@
 -- The gates on bytes: each gate's record is valid, and products and inverses by number are those of the records, byte for byte.
-use mathlib.Core.Path.{_≡_, refl, sym, ap, ap₂, _∙_}
+use mathlib.Core.Path.{_≡_, refl, _∙_}
 use mathlib.Core.Logic.{_≢_}
-use mathlib.Core.List.{List}
 use Prim.Native.Nat.{ℕ, _<_, _≤_}
 use Rattle.pauli_group.specs.PauliString.{qubits}
-use Rattle.clifford_group.specs.Tableau.{Tableau, compose, inverse, Proper, Clifford, Same}
-use Rattle.clifford_group.proofs.Same.{same-sym, same-trans, proper-same, isValid-same, compose-same, inverse-same}
+use Rattle.clifford_group.specs.Tableau.{Proper, Clifford}
+use Rattle.clifford_group.proofs.Same.{same-sym, proper-same, isValid-same, compose-same, inverse-same}
 use Rattle.clifford_gates.specs.Gates.{twoQubitGates}
 use Rattle.clifford_gates.specs.GateTableaux.{onQubit}
-use Rattle.clifford_gates.specs.GateNumbers.{oneQubitGate, twoQubitGate, gateTableau, composeGate, inverseGate, singleQubitClifford, productGates}
+use Rattle.clifford_gates.specs.GateNumbers.{oneQubitGate, twoQubitGate, gateTableau, composeGate, inverseGate, singleQubitClifford}
 use Rattle.clifford_gates.proofs.GateTableaux.{clifford-on-qubit}
 use Rattle.clifford_gates.proofs.GateNames.{gate-valid, gate-clifford, compose-gates}
 use Rattle.clifford_gates.proofs.GateInverses.{inverse-gates}
