@@ -1,12 +1,11 @@
 -- Laws of tableaux carried to their records: composition, identity and inverse, byte for byte, and strings sent through them.
 use mathlib.Core.Path.{_≡_, refl, sym, ap, ap₂, _∙_, subst}
-use mathlib.Core.Bool.{true}
 use mathlib.Core.List.{List}
 use Prim.Native.Nat.{ℕ, max, _≤_}
 use native.Mathlib.Omega.{arith}
 use lib.ListN.{length}
 use Rattle.pauli_group.specs.PauliString.{PauliString, qubits, Within}
-use Rattle.clifford_group.specs.Tableau.{Tableau, identityTableau, apply, compose, isValid, inverse, Proper, Clifford, Same}
+use Rattle.clifford_group.specs.Tableau.{Tableau, identityTableau, apply, compose, inverse, Proper, Clifford, Same}
 use Rattle.clifford_group.proofs.Apply.{apply-within}
 use Rattle.clifford_group.proofs.Compose.{width-compose, apply-compose, compose-assoc, identity-compose, proper-compose, clifford-compose}
 use Rattle.clifford_group.proofs.Identity.{width-identity, apply-identityTableau, proper-identity, clifford-identity}
@@ -18,15 +17,11 @@ use Rattle.pauli.specs.Questions.{stringQuestions}
 use Rattle.pauli.proofs.Asking.{admitted-strings}
 use Rattle.pauli.proofs.Records.{decode-encode, decode-within}
 use Rattle.clifford.specs.Layout.{widthOf, tableauOf, tableauRecord, recordLength, FormedTableau}
-use Rattle.clifford.specs.Tableaux.{identityRecord, applyRecord, composeRecord, inverseRecord}
+use Rattle.clifford.specs.Tableaux.{recordValid, Good, identityRecord, applyRecord, composeRecord, inverseRecord}
 use Rattle.clifford.proofs.TableauRecords.{length-record, width-of, record-back, record-there, proper-of, record-formed, same-record}
 
--- the bytes of a valid tableau
-pub record Good (b : List ℕ) : Type 0 where
-  pub formed : FormedTableau b
-  pub valid : isValid (tableauOf b) ≡ true
-
 clifford-of : {b : List ℕ} → Good b → Clifford (tableauOf b)
+unfolding recordValid
 clifford-of g = record { proper = proper-of (g .formed); valid = g .valid }
 
 width-record : (t : Tableau) → widthOf (tableauRecord t) ≡ t .width
@@ -38,6 +33,7 @@ narrow f = proper-of f .narrow
 
 -- the record of a valid tableau is good
 good-record : (t : Tableau) → Clifford t → Good (tableauRecord t)
+unfolding recordValid
 good-record t c = record {
   formed = record-formed t (c .proper .narrow);
   valid = isValid-same (tableauOf (tableauRecord t)) t (record-back t (c .proper)) ∙ c .valid;

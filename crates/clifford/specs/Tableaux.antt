@@ -1,10 +1,11 @@
 -- What the public functions on tableau records give: the field's objects between decoding and encoding.
 use Prim.Native.Nat.{ℕ, _+_}
-use mathlib.Core.Bool.{Bool}
+use mathlib.Core.Path.{_≡_}
+use mathlib.Core.Bool.{Bool, true}
 use mathlib.Core.List.{List}
 use Rattle.clifford_group.specs.Tableau.{identityTableau, widen, apply, compose, isValid, inverse}
 use Rattle.pauli.specs.Layout.{stringOf, stringRecord}
-use Rattle.clifford.specs.Layout.{widthOf, rowPart, tableauOf, tableauRecord}
+use Rattle.clifford.specs.Layout.{widthOf, rowPart, tableauOf, tableauRecord, FormedTableau}
 use Rattle.clifford.specs.Answers.{partAnswer}
 use Rattle.clifford.specs.Support.{supportQubits}
 use Rattle.clifford.specs.Images.{withXImage, withZImage, pauliTableau}
@@ -12,6 +13,11 @@ use Rattle.clifford.specs.Questions.{imageQuestions}
 
 unfoldable pub recordValid : List ℕ → Bool
 recordValid t = isValid (tableauOf t)
+
+-- the bytes of a valid tableau
+pub record Good (b : List ℕ) : Type 0 where
+  pub formed : FormedTableau b
+  pub valid : recordValid b ≡ true
 
 unfoldable pub identityRecord : ℕ → List ℕ
 identityRecord n = tableauRecord (identityTableau n)

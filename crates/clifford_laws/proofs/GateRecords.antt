@@ -1,27 +1,25 @@
 -- The gates on bytes: each gate's record is valid, and products and inverses by number are those of the records, byte for byte.
-use mathlib.Core.Path.{_≡_, refl, sym, ap, ap₂, _∙_}
+use mathlib.Core.Path.{_≡_, refl, _∙_}
 use mathlib.Core.Logic.{_≢_}
-use mathlib.Core.List.{List}
 use Prim.Native.Nat.{ℕ, _<_, _≤_}
 use Rattle.pauli_group.specs.PauliString.{qubits}
-use Rattle.clifford_group.specs.Tableau.{Tableau, compose, inverse, Proper, Clifford, Same}
-use Rattle.clifford_group.proofs.Same.{same-sym, same-trans, proper-same, isValid-same, compose-same, inverse-same}
+use Rattle.clifford_group.specs.Tableau.{Proper, Clifford}
+use Rattle.clifford_group.proofs.Same.{same-sym, proper-same, isValid-same, compose-same, inverse-same}
 use Rattle.clifford_gates.specs.Gates.{twoQubitGates}
 use Rattle.clifford_gates.specs.GateTableaux.{onQubit}
-use Rattle.clifford_gates.specs.GateNumbers.{oneQubitGate, twoQubitGate, gateTableau, composeGate, inverseGate, singleQubitClifford, productGates}
+use Rattle.clifford_gates.specs.GateNumbers.{oneQubitGate, twoQubitGate, gateTableau, composeGate, inverseGate, singleQubitClifford}
 use Rattle.clifford_gates.proofs.GateTableaux.{clifford-on-qubit}
 use Rattle.clifford_gates.proofs.GateNames.{gate-valid, gate-clifford, compose-gates}
 use Rattle.clifford_gates.proofs.GateInverses.{inverse-gates}
 use Rattle.clifford_gates.proofs.Products24.{products, product-small, products-different}
 use Rattle.clifford.specs.Layout.{tableauOf, tableauRecord}
-use Rattle.clifford.specs.Tableaux.{composeRecord, inverseRecord}
+use Rattle.clifford.specs.Tableaux.{recordValid, Good, composeRecord, inverseRecord}
 use Rattle.clifford.specs.GateAnswers.{gateRecord, oneQubitRecord, productRecord}
 use Rattle.clifford.proofs.TableauRecords.{record-back, record-formed, same-record, record-same}
-use Rattle.clifford.proofs.RecordLaws.{Good}
 
 -- ---- one gate
 pub gate-good : (g q r : ℕ) → g < 38 → q < qubits → r < qubits → (24 ≤ g → q ≢ r) → Good (gateRecord g q r)
-unfolding gateRecord
+unfolding gateRecord recordValid
 gate-good g q r hg hq hr d =
     let c : Clifford (gateTableau g q r) = gate-clifford g q r hg hq hr d in
     record {

@@ -18,21 +18,21 @@ use Rattle.pauli.specs.Places.{listed, firstPlace}
 use Rattle.pauli.specs.Layout.{phaseByte, letterByte, phaseOf, letterOf, encodeString, decodeString, stringRecord, stringOf}
 use Rattle.pauli.specs.Rows.{productPhaseByte, productLetterByte, phaseBytesProduct}
 use Rattle.clifford.specs.Layout.{recordLength, rowLength, encodeRow, decodeRow, rowOffset, rowOf, joined, tableauRecord, rowPart, tableauOf}
-use Rattle.clifford.specs.Tableaux.{recordValid, applyRecord, inverseRecord}
+use Rattle.clifford.specs.Tableaux.{recordValid, applyRecord, composeRecord, inverseRecord}
 use Rattle.clifford.specs.GateAnswers.{gateRecord, recordName}
 use Rattle.pauli.specs.Answers.{replyTo, refusalReply}
 use Rattle.pauli.specs.Questions.{ask, _andThen_, byteQuestion, pairQuestions, firstBad, bytesQuestion, stringQuestions, roomQuestion}
-use Rattle.clifford.specs.Questions.{widthQuestion, lengthQuestion, tableauQuestions, applyQuestions, applyAnswer, inverseAnswer}
+use Rattle.clifford.specs.Questions.{widthQuestion, lengthQuestion, tableauQuestions, applyQuestions, applyAnswer, composeQuestions, composeAnswer, inverseAnswer}
 use Rattle.clifford.specs.GateQuestions.{gateQuestion, composeGateQuestions}
 use Rattle.clifford_laws.specs.Readings.{Reading, readings, answered, stringBytes}
 
-abbrev same-bytes : List ℕ → List ℕ → Bool
+abbrev pub same-bytes : List ℕ → List ℕ → Bool
 same-bytes [] [] = true
 same-bytes [] (y ∷ ys) = false
 same-bytes (x ∷ xs) [] = false
 same-bytes (x ∷ xs) (y ∷ ys) = eqb x y && same-bytes xs ys
 
-same-is : (xs ys : List ℕ) → T (same-bytes xs ys) → xs ≡ ys
+pub same-is : (xs ys : List ℕ) → T (same-bytes xs ys) → xs ≡ ys
 same-is [] [] t = refl
 same-is [] (y ∷ ys) t = absurd t
 same-is (x ∷ xs) [] t = absurd t
@@ -45,5 +45,5 @@ holds : (r : Reading) → T (test r) → answered (r .asked) ≡ r .answer
 holds r t = same-is (answered (r .asked)) (r .answer) t
 
 pub readings-hold : All (λ r. answered (r .asked) ≡ r .answer) readings
-unfolding readings answered replyTo refusalReply ask _andThen_ byteQuestion pairQuestions firstPlace firstBad bytesQuestion stringQuestions roomQuestion widthQuestion lengthQuestion tableauQuestions applyQuestions applyAnswer inverseAnswer gateQuestion composeGateQuestions recordLength negate turn _·_ conjugate isReal sign letterProduct letterPhase letterMul anticommute qubits productTo countTo phaseOfLetters mul identityString scale single anticommutingPlaces commute commutationSign rowImage imageOf applyTo apply widen compose allTo validQubit validPair isValid hasX hasZ transposed inverseRow inverse letterFrom stringBytes oneQubitGates twoQubitGates imageString gateOnEach onQubit pairString pairRow onQubits oneQubitGate twoQubitGate gateTableau sameBit sameLetter isMinus matchesImage matches firstWith nameOf composeGate listed phaseByte letterByte phaseOf letterOf encodeString decodeString stringRecord stringOf productPhaseByte productLetterByte phaseBytesProduct rowLength encodeRow decodeRow rowOffset rowOf joined tableauRecord rowPart tableauOf recordValid applyRecord inverseRecord gateRecord recordName
+unfolding readings answered replyTo refusalReply ask _andThen_ byteQuestion pairQuestions firstPlace firstBad bytesQuestion stringQuestions roomQuestion widthQuestion lengthQuestion tableauQuestions applyQuestions applyAnswer composeQuestions composeAnswer inverseAnswer gateQuestion composeGateQuestions recordLength negate turn _·_ conjugate isReal sign letterProduct letterPhase letterMul anticommute qubits productTo countTo phaseOfLetters mul identityString scale single anticommutingPlaces commute commutationSign rowImage imageOf applyTo apply widen compose allTo validQubit validPair isValid hasX hasZ transposed inverseRow inverse letterFrom stringBytes oneQubitGates twoQubitGates imageString gateOnEach onQubit pairString pairRow onQubits oneQubitGate twoQubitGate gateTableau sameBit sameLetter isMinus matchesImage matches firstWith nameOf composeGate listed phaseByte letterByte phaseOf letterOf encodeString decodeString stringRecord stringOf productPhaseByte productLetterByte phaseBytesProduct rowLength encodeRow decodeRow rowOffset rowOf joined tableauRecord rowPart tableauOf recordValid applyRecord composeRecord inverseRecord gateRecord recordName
 readings-hold = all-of test holds readings tt

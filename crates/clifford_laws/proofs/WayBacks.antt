@@ -1,25 +1,23 @@
 -- The way back: composing the inverse of the product of the later steps brings back the record after the earlier ones.
-use mathlib.Core.Path.{_≡_, refl, sym, ap, ap₂, _∙_, subst}
+use mathlib.Core.Path.{_≡_, refl, sym, ap, _∙_, subst}
 use mathlib.Core.Bool.{Bool, true, false, cond}
 use mathlib.Core.List.{List, [], _∷_, _++_}
-use Prim.Native.Nat.{ℕ, zero, suc, max, _+_, _≤_, _<_}
+use Prim.Native.Nat.{ℕ, max, _≤_}
 use native.Mathlib.Omega.{arith}
-use lib.ListN.{length, take, drop}
+use lib.ListN.{length, take}
 use lib.Seq.{take-at}
 use Rattle.pauli_group.specs.PauliString.{qubits}
-use Rattle.clifford_group.specs.Tableau.{isValid}
-use Rattle.pauli.specs.declared.refusal.Refusal.{Refusal}
 use Rattle.pauli.specs.declared.refusal.Outcome.{Outcome}
 use Rattle.pauli.specs.declared.refusal.Outcome.the-variants.{Done, Refused}
 use Rattle.pauli.specs.Answers.{written}
 use Rattle.pauli.specs.Layout.{stringLength}
 use Rattle.pauli.specs.Questions.{_andThen_, stringQuestions, roomQuestion}
-use Rattle.pauli.proofs.Asking.{passed, done-first, done-second, has-room}
-use Rattle.clifford.specs.Layout.{recordLength, widthOf, tableauOf, FormedTableau}
+use Rattle.pauli.proofs.Asking.{passed, done-first, has-room, strings-admitted}
+use Rattle.clifford.specs.Layout.{recordLength, widthOf, FormedTableau}
 use Rattle.clifford.specs.Questions.{tableauQuestions, applyQuestions, applyAnswer, composeQuestions, composeAnswer, inverseAnswer}
-use Rattle.clifford.specs.Tableaux.{recordValid, identityRecord, applyRecord, composeRecord, inverseRecord}
-use Rattle.clifford_laws.specs.WayBack.{Call, isDone, callAnswer, accepts, destinationAfter, nextRecord, recordAfter, stepsOf, Step, Steps, none, step, productFrom, productOf, sentBy, recordThen, recordNow, stepsThen, product, back, WayBack}
-use Rattle.clifford.proofs.RecordLaws.{Good, compose-formed, compose-width, compose-length, compose-good, records-assoc, identity-width, identity-good, identity-left, inverse-width, inverse-good, inverse-left, inverse-right, send-compose, send-identity}
+use Rattle.clifford.specs.Tableaux.{Good, identityRecord, applyRecord, composeRecord, inverseRecord}
+use Rattle.clifford_laws.specs.WayBack.{Call, isDone, callAnswer, accepts, destinationAfter, nextRecord, recordAfter, stepsOf, Step, Steps, step, productFrom, productOf, sentBy, EachApplied, noneLeft, applied, WayBack}
+use Rattle.clifford.proofs.RecordLaws.{compose-formed, compose-width, compose-length, compose-good, records-assoc, identity-width, identity-good, identity-left, inverse-width, inverse-good, inverse-left, inverse-right, send-compose, send-identity}
 use Rattle.clifford.proofs.TableauAsking.{tableau-formed, formed-good}
 
 -- ---- one call
@@ -40,13 +38,9 @@ module _ (r : List ℕ) (c : Call) (h : accepts r c ≡ true) where
   unfolding callAnswer composeAnswer
   asked = done-first _ _ done
 
-  pub step-formed : FormedTableau (c .a)
+  step-formed : FormedTableau (c .a)
   unfolding composeQuestions
   step-formed = tableau-formed (c .a) (done-first _ _ asked)
-
-  pub record-formed : FormedTableau r
-  unfolding composeQuestions
-  record-formed = tableau-formed r (done-second (tableauQuestions (c .a)) _ asked)
 
   -- the next record is the composition
   pub next-is : nextRecord r c ≡ composeRecord (c .a) r
@@ -56,7 +50,7 @@ module _ (r : List ℕ) (c : Call) (h : accepts r c ≡ true) where
       ∙ ap (λ q. take (recordLength (max (widthOf (c .a)) (widthOf r))) (written q (composeRecord (c .a) r) (c .destination))) done
       ∙ take-at (composeRecord (c .a) r) _ (recordLength (max (widthOf (c .a)) (widthOf r))) (compose-length (c .a) r)
 
-next-kept : (r : List ℕ) (c : Call) → accepts r c ≡ false → nextRecord r c ≡ r
+pub next-kept : (r : List ℕ) (c : Call) → accepts r c ≡ false → nextRecord r c ≡ r
 unfolding nextRecord
 next-kept r c h = ap (λ b. cond b (take (recordLength (max (widthOf (c .a)) (widthOf r))) (destinationAfter r c)) r) h
 
@@ -90,7 +84,7 @@ unfolding recordAfter
 after-next r c cs = refl
 
 -- the record after a list is the product of its steps
-after-steps : (r : List ℕ) (cs : List Call) → recordAfter r cs ≡ productFrom r (stepsOf r cs)
+pub after-steps : (r : List ℕ) (cs : List Call) → recordAfter r cs ≡ productFrom r (stepsOf r cs)
 unfolding recordAfter
 after-steps r [] = nothing r
 after-steps r (c ∷ cs) = go (accepts r c) refl (after-steps (nextRecord r c) cs)
@@ -129,14 +123,6 @@ pub data GoodSteps (n : ℕ) : List (List ℕ) → Type 0 where
 step-head : {n : ℕ} {a : List ℕ} {rest : List (List ℕ)} → Steps n (a ∷ rest) → Step n a
 step-head (step s ss) = s
 
-step-valid : {n : ℕ} {a : List ℕ} → Step n a → isValid (tableauOf a) ≡ true
-unfolding recordValid
-step-valid s = s .valid
-
-good-valid : {b : List ℕ} → Good b → recordValid b ≡ true
-unfolding recordValid
-good-valid g = g .valid
-
 step-tail : {n : ℕ} {a : List ℕ} {rest : List (List ℕ)} → Steps n (a ∷ rest) → Steps n rest
 step-tail (step s ss) = ss
 
@@ -149,7 +135,7 @@ good-steps n r (c ∷ cs) ss = go (accepts r c) refl (good-steps n (nextRecord r
     go true h later =
         let these : Steps n (c .a ∷ stepsOf (nextRecord r c) cs) = subst (Steps n) (steps-more r c cs h) ss in
         subst (GoodSteps n) (sym (steps-more r c cs h))
-        (more (record { formed = step-formed r c h; valid = step-valid (step-head these) }) (step-head these .narrow) (later (step-tail these)))
+        (more (record { formed = step-formed r c h; valid = step-head these .valid }) (step-head these .narrow) (later (step-tail these)))
     go false h later = subst (GoodSteps n) (sym (steps-kept r c cs h)) (later (subst (Steps n) (steps-kept r c cs h) ss))
 
 good-first : (n : ℕ) (xs ys : List (List ℕ)) → GoodSteps n (xs ++ ys) → GoodSteps n xs
@@ -197,6 +183,13 @@ done-room q needed room h l = sym (passed (sym h) refl (has-room needed room l))
 done-both : (p q : Outcome) → p ≡ Done → q ≡ Done → p andThen q ≡ Done
 done-both p q h k = sym (passed (sym h) refl (sym k))
 
+-- each string on the way is a record, so the next `apply` is accepted
+each-applied : (n : ℕ) (steps : List (List ℕ)) → GoodSteps n steps → (s : List ℕ) → stringQuestions s ≡ Done → (room : ℕ) → stringLength ≤ room → EachApplied room steps s
+unfolding applyAnswer applyQuestions applyRecord
+each-applied n [] gs s e room l = noneLeft
+each-applied n (a ∷ rest) (more g w gs) s e room l =
+    applied (done-room _ _ room (done-both _ _ (formed-good a (g .formed)) e) l) (each-applied n rest gs (applyRecord a s) (strings-admitted _) room l)
+
 small-width : (k : ℕ) → k ≤ 128 → k ≤ qubits
 unfolding qubits
 small-width k h = h
@@ -206,10 +199,17 @@ module _ (n : ℕ) (n≤ : n ≤ 128) (first rest : List Call) (premise : Steps 
   start = identityRecord n
 
   abbrev then : List ℕ
-  then = recordThen n w first rest
+  then = recordAfter start first
+
+  abbrev now : List ℕ
+  now = recordAfter start (first ++ rest)
 
   abbrev later : List (List ℕ)
   later = stepsOf then rest
+
+  -- the product of the later steps
+  abbrev made : List ℕ
+  made = productOf w later
 
   all-good : GoodSteps n (stepsOf start first ++ later)
   all-good = subst (GoodSteps n) (steps-append start first rest) (good-steps n start (first ++ rest) premise)
@@ -232,75 +232,82 @@ module _ (n : ℕ) (n≤ : n ≤ 128) (first rest : List Call) (premise : Steps 
   then-width : n ≤ widthOf then
   then-width = subst (λ (x : List ℕ). n ≤ widthOf x) (sym then-is) (product-wide n start (stepsOf start first) (omega (arith, identity-width n)))
 
-  product-is-good : Good (product n w first rest)
+  product-is-good : Good made
   unfolding productOf
   product-is-good = product-good n (identityRecord w) later (identity-good w (small-width w (omega arith))) later-good
 
-  product-width : widthOf (product n w first rest) ≤ n
+  product-width : widthOf made ≤ n
   unfolding productOf
   product-width = product-narrow n (identityRecord w) later (omega (arith, identity-width w)) later-good
 
-  back-good : Good (back n w first rest)
+  back-good : Good (inverseRecord made)
   back-good = inverse-good product-is-good
 
   -- the record now is the product of the later steps, composed with the record then
-  now-is : recordNow n w first rest ≡ composeRecord (product n w first rest) then
+  now-is : now ≡ composeRecord made then
   unfolding productOf
   now-is =
       after-append start first rest ∙ after-steps then rest
       ∙ ap (λ (x : List ℕ). productFrom x later) (sym (identity-left w (then-good .formed) (omega (arith, then-width))))
       ∙ product-apart n (identityRecord w) then later (identity-good w (small-width w (omega arith))) (then-good .formed) later-good
 
-  bytes-back : composeRecord (back n w first rest) (recordNow n w first rest) ≡ then
+  bytes-back : composeRecord (inverseRecord made) now ≡ then
   bytes-back =
-      ap (composeRecord (back n w first rest)) now-is ∙ sym (records-assoc back-good (product-is-good .formed) (then-good .formed))
+      ap (composeRecord (inverseRecord made)) now-is ∙ sym (records-assoc back-good (product-is-good .formed) (then-good .formed))
       ∙ ap (λ (x : List ℕ). composeRecord x then) (inverse-left product-is-good)
-      ∙ identity-left (widthOf (product n w first rest)) (then-good .formed) (omega (arith, product-width, then-width))
+      ∙ identity-left (widthOf made) (then-good .formed) (omega (arith, product-width, then-width))
 
-  strings-back : (s : List ℕ) → stringQuestions s ≡ Done → applyRecord (composeRecord (back n w first rest) (recordNow n w first rest)) s ≡ sentBy (stepsThen n w first rest) s
+  strings-back : (s : List ℕ) → stringQuestions s ≡ Done → applyRecord (composeRecord (inverseRecord made) now) s ≡ sentBy (stepsOf start first) s
   strings-back s e =
       ap (λ (x : List ℕ). applyRecord x s) (bytes-back ∙ then-is) ∙ product-sends n start (stepsOf start first) (start-good .formed) first-good s
       ∙ ap (sentBy (stepsOf start first)) (send-identity n (small-width n n≤) s e)
 
-  now-formed : FormedTableau (recordNow n w first rest)
+  now-formed : FormedTableau now
   now-formed = subst FormedTableau (sym now-is) (compose-formed (product-is-good .formed) (then-good .formed))
 
   -- the record now has the width n, so the composition has no more bytes than it
-  now-width : widthOf (recordNow n w first rest) ≡ max (widthOf (product n w first rest)) (widthOf then)
-  now-width = ap widthOf now-is ∙ compose-width (product n w first rest) then
+  now-width : widthOf now ≡ max (widthOf made) (widthOf then)
+  now-width = ap widthOf now-is ∙ compose-width made then
 
-  asked-inverse : (room : ℕ) → length (product n w first rest) ≤ room → inverseAnswer (product n w first rest) room ≡ Done
+  asked-inverse : (room : ℕ) → length made ≤ room → inverseAnswer made room ≡ Done
   unfolding inverseAnswer
   asked-inverse room l =
-      done-room _ _ room (formed-good (product n w first rest) (product-is-good .formed)) (omega (arith, product-is-good .formed .long))
+      done-room _ _ room (formed-good made (product-is-good .formed)) (omega (arith, product-is-good .formed .long))
 
-  asked-compose : (room : ℕ) → length (recordNow n w first rest) ≤ room → composeAnswer (back n w first rest) (recordNow n w first rest) room ≡ Done
+  asked-compose : (room : ℕ) → length now ≤ room → composeAnswer (inverseRecord made) now room ≡ Done
   unfolding composeAnswer composeQuestions
   asked-compose room l =
-      let wide : max (widthOf (back n w first rest)) (widthOf (recordNow n w first rest)) ≡ widthOf (recordNow n w first rest) =
-      omega (arith, inverse-width (product n w first rest), now-width) in
-      let long : recordLength (max (widthOf (back n w first rest)) (widthOf (recordNow n w first rest))) ≡ length (recordNow n w first rest) =
+      let wide : max (widthOf (inverseRecord made)) (widthOf now) ≡ widthOf now =
+      omega (arith, inverse-width made, now-width) in
+      let long : recordLength (max (widthOf (inverseRecord made)) (widthOf now)) ≡ length now =
       ap recordLength wide ∙ sym (now-formed .long) in
-      done-room _ _ room (done-both _ _ (formed-good (back n w first rest) (back-good .formed)) (formed-good (recordNow n w first rest) now-formed)) (omega arith)
+      done-room _ _ room (done-both _ _ (formed-good (inverseRecord made) (back-good .formed)) (formed-good now now-formed)) (omega arith)
 
   asked-apply : (s : List ℕ) → stringQuestions s ≡ Done → (room : ℕ) → stringLength ≤ room
-      → applyAnswer (composeRecord (back n w first rest) (recordNow n w first rest)) s room ≡ Done
+      → applyAnswer (composeRecord (inverseRecord made) now) s room ≡ Done
   unfolding applyAnswer applyQuestions
   asked-apply s e room l =
       done-room _ _ room
       (done-both _ _ (ap tableauQuestions bytes-back ∙ formed-good then (then-good .formed)) e) l
 
-  -- For every list of calls, every way to part it and every width w up to n, where each accepted a is valid and no wider than n.
-  pub way-back : WayBack n w first rest
-  way-back = record {
+  asked-call : (d : List ℕ) → length now ≤ length d → accepts now (record { a = inverseRecord made; destination = d }) ≡ true
+  unfolding accepts callAnswer isDone
+  asked-call d l = ap isDone (asked-compose (length d) l)
+
+  -- For every way to part a list of calls.
+  pub way-back-parted : WayBack (stepsOf start first) made then now
+  way-back-parted = record {
     inverts = asked-inverse;
     composes = asked-compose;
     applies = asked-apply;
     bytes = bytes-back;
+    accepted = asked-call;
+    returns = λ d l. next-is now _ (asked-call d l) ∙ bytes-back;
+    sends = each-applied n (stepsOf start first) first-good;
     strings = strings-back;
-    formed = formed-good (back n w first rest) (back-good .formed);
-    valid = good-valid back-good;
-    width = inverse-width (product n w first rest);
+    formed = formed-good (inverseRecord made) (back-good .formed);
+    valid = back-good .valid;
+    width = inverse-width made;
     left = inverse-left product-is-good;
     right = inverse-right product-is-good;
   }

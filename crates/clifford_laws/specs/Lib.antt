@@ -1,2 +1,3 @@
 pub mod WayBack
+pub mod Witnesses
 pub mod Readings

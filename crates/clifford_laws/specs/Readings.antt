@@ -3,7 +3,6 @@
 use Prim.Native.Nat.{ℕ, _+_, _*_, _-_}
 use mathlib.Core.Bool.{cond}
 use lib.Dec.{ltb}
-use mathlib.Core.Path.{_≡_}
 use mathlib.Core.List.{List, [], _∷_, _++_}
 use lib.ListN.{length, replicate}
 use Rattle.pauli.specs.declared.refusal.Outcome.{Outcome}
@@ -11,8 +10,8 @@ use Rattle.pauli.specs.Answers.{oneOrZero, replyTo}
 use Rattle.pauli.specs.Questions.{pairQuestions}
 use Rattle.pauli.specs.Rows.{phaseBytesProduct, productPhaseByte, productLetterByte}
 use Rattle.clifford_gates.specs.GateNumbers.{composeGate}
-use Rattle.clifford.specs.Tableaux.{recordValid, applyRecord, inverseRecord}
-use Rattle.clifford.specs.Questions.{tableauQuestions, applyAnswer, inverseAnswer}
+use Rattle.clifford.specs.Tableaux.{recordValid, applyRecord, composeRecord, inverseRecord}
+use Rattle.clifford.specs.Questions.{tableauQuestions, applyAnswer, composeAnswer, inverseAnswer}
 use Rattle.clifford.specs.GateQuestions.{composeGateQuestions}
 use Rattle.clifford.specs.GateAnswers.{gateRecord, recordName}
 
@@ -21,6 +20,7 @@ pub data Asked : Type 0 where
   letterProduct : ℕ → ℕ → Asked
   applied : List ℕ → List ℕ → Asked
   inverted : List ℕ → Asked
+  composed : List ℕ → List ℕ → Asked
   gateComposed : ℕ → ℕ → Asked
   valid : List ℕ → Asked
   named : List ℕ → Asked
@@ -35,6 +35,7 @@ answered (phaseProduct a b) = told (pairQuestions a b) (phaseBytesProduct a b) [
 answered (letterProduct a b) = told (pairQuestions a b) (4 * productPhaseByte a b + productLetterByte a b) []
 answered (applied t s) = told (applyAnswer t s 129) 0 (applyRecord t s)
 answered (inverted t) = told (inverseAnswer t 33025) 0 (inverseRecord t)
+answered (composed a b) = told (composeAnswer a b 33025) 0 (composeRecord a b)
 answered (gateComposed g h) = told (composeGateQuestions g h) (composeGate g h) []
 answered (valid t) = told (tableauQuestions t) (oneOrZero (recordValid t)) []
 answered (named t) = told (tableauQuestions t) (cond (ltb (recordName t) 24) (recordName t) 255) []
@@ -57,8 +58,12 @@ readings =
     reading (applied (gateRecord 4 0 0) (stringBytes 0 (3 ∷ []))) (0 ∷ 0 ∷ stringBytes 1 (3 ∷ [])) ∷  -- `h` on Y0: −Y0
     reading (applied (gateRecord 24 0 1) (stringBytes 0 (1 ∷ 2 ∷ []))) (0 ∷ 0 ∷ stringBytes 1 (3 ∷ 3 ∷ [])) ∷  -- `cx(0,1)` on X0 Z1: −Y0 Y1
     reading (inverted (gateRecord 14 0 0)) (0 ∷ 0 ∷ 1 ∷ 1 ∷ 3 ∷ 0 ∷ 2 ∷ []) ∷  -- inverse of `sz`: X to −Y, Z to Z
-    reading (gateComposed 14 4) (0 ∷ 17 ∷ []) ∷  -- `compose(sz,h)`: Fdg
-    reading (gateComposed 4 14) (0 ∷ 23 ∷ []) ∷  -- `compose(h,sz)`: F4dg
+    reading (composed (gateRecord 14 0 0) (gateRecord 4 0 0)) (0 ∷ 0 ∷ 1 ∷ 0 ∷ 2 ∷ 0 ∷ 3 ∷ []) ∷  -- `compose(sz,h)`: X to Z, Z to Y
+    reading (named (composeRecord (gateRecord 14 0 0) (gateRecord 4 0 0))) (0 ∷ 17 ∷ []) ∷  -- which is Fdg
+    reading (gateComposed 14 4) (0 ∷ 17 ∷ []) ∷  -- and so by number
+    reading (composed (gateRecord 4 0 0) (gateRecord 14 0 0)) (0 ∷ 0 ∷ 1 ∷ 1 ∷ 3 ∷ 0 ∷ 1 ∷ []) ∷  -- `compose(h,sz)`: X to −Y, Z to X
+    reading (named (composeRecord (gateRecord 4 0 0) (gateRecord 14 0 0))) (0 ∷ 23 ∷ []) ∷  -- which is F4dg
+    reading (gateComposed 4 14) (0 ∷ 23 ∷ []) ∷  -- and so by number
     reading (valid (0 ∷ [])) (0 ∷ 1 ∷ []) ∷  -- width 0 is valid
     reading (valid (1 ∷ 0 ∷ 1 ∷ 0 ∷ 1 ∷ [])) (0 ∷ 0 ∷ []) ∷  -- X to X, Z to X is not
     reading (valid (1 ∷ 2 ∷ 1 ∷ 0 ∷ 2 ∷ [])) (0 ∷ 0 ∷ []) ∷  -- X to +iX, Z to Z is not valid

@@ -1,9 +1,9 @@
 -- Steps and the way back (scope document, section of that name): lists of calls `compose(a, record)`, refused ones included.
-use Prim.Native.Nat.{ℕ, suc, max, _≤_}
+use Prim.Native.Nat.{ℕ, zero, suc, max, _≤_}
 use mathlib.Core.Path.{_≡_}
 use mathlib.Core.Bool.{Bool, true, false, cond}
-use mathlib.Core.List.{List, [], _∷_, _++_}
-use lib.ListN.{length, take}
+use mathlib.Core.List.{List, [], _∷_}
+use lib.ListN.{length, take, drop}
 use Rattle.pauli.specs.declared.refusal.Outcome.{Outcome}
 use Rattle.pauli.specs.declared.refusal.Outcome.the-variants.{Done, Refused}
 use Rattle.pauli.specs.Answers.{written}
@@ -70,36 +70,57 @@ unfoldable pub sentBy : List (List ℕ) → List ℕ → List ℕ
 sentBy [] s = s
 sentBy (a ∷ rest) s = sentBy rest (applyRecord a s)
 
--- The way back from the whole list, first and then rest, to the record after first. p is the product of the steps of rest from
--- the identity of width w, v its inverse.
-module _ (n w : ℕ) (first rest : List Call) where
-  abbrev pub recordThen : List ℕ
-  recordThen = recordAfter (identityRecord n) first
+-- each `apply` on that way is accepted
+pub data EachApplied (room : ℕ) : List (List ℕ) → List ℕ → Type 0 where
+  noneLeft : {s : List ℕ} → EachApplied room [] s
+  applied : {a s : List ℕ} {rest : List (List ℕ)} → applyAnswer a s room ≡ Done → EachApplied room rest (applyRecord a s) → EachApplied room (a ∷ rest) s
 
-  abbrev pub recordNow : List ℕ
-  recordNow = recordAfter (identityRecord n) (first ++ rest)
-
-  abbrev pub stepsThen : List (List ℕ)
-  stepsThen = stepsOf (identityRecord n) first
-
-  abbrev pub product : List ℕ
-  product = productOf w (stepsOf recordThen rest)
-
+-- The way back from the record now to the record then, which the steps earlier made. product is that of the steps since.
+module _ (earlier : List (List ℕ)) (product then now : List ℕ) where
   abbrev pub back : List ℕ
   back = inverseRecord product
 
   pub record WayBack : Type 0 where
     -- each call is accepted wherever the room suffices
     pub inverts : (room : ℕ) → length product ≤ room → inverseAnswer product room ≡ Done
-    pub composes : (room : ℕ) → length recordNow ≤ room → composeAnswer back recordNow room ≡ Done
-    pub applies : (s : List ℕ) → stringQuestions s ≡ Done → (room : ℕ) → stringLength ≤ room → applyAnswer (composeRecord back recordNow) s room ≡ Done
-    -- byte for byte, the record after first
-    pub bytes : composeRecord back recordNow ≡ recordThen
-    -- strings of all letters and phases go as by the steps of first
-    pub strings : (s : List ℕ) → stringQuestions s ≡ Done → applyRecord (composeRecord back recordNow) s ≡ sentBy stepsThen s
+    pub composes : (room : ℕ) → length now ≤ room → composeAnswer back now room ≡ Done
+    pub applies : (s : List ℕ) → stringQuestions s ≡ Done → (room : ℕ) → stringLength ≤ room → applyAnswer (composeRecord back now) s room ≡ Done
+    -- byte for byte, the record then
+    pub bytes : composeRecord back now ≡ then
+    -- as one call more of the list, into any destination that is long enough
+    pub accepted : (d : List ℕ) → length now ≤ length d → accepts now (record { a = back; destination = d }) ≡ true
+    pub returns : (d : List ℕ) → length now ≤ length d → nextRecord now (record { a = back; destination = d }) ≡ then
+    -- strings of all letters and phases go as by the earlier steps
+    pub sends : (s : List ℕ) → stringQuestions s ≡ Done → (room : ℕ) → stringLength ≤ room → EachApplied room earlier s
+    pub strings : (s : List ℕ) → stringQuestions s ≡ Done → applyRecord (composeRecord back now) s ≡ sentBy earlier s
     -- the inverse is a record, valid, of the product's width, and two-sided
     pub formed : tableauQuestions back ≡ Done
     pub valid : recordValid back ≡ true
     pub width : widthOf back ≡ widthOf product
     pub left : composeRecord back product ≡ identityRecord (widthOf product)
     pub right : composeRecord product back ≡ identityRecord (widthOf product)
+
+-- the calls up to step k
+unfoldable pub callsTo : List ℕ → List Call → ℕ → List Call
+callsTo r [] k = []
+callsTo r (c ∷ cs) zero = []
+callsTo r (c ∷ cs) (suc k) = c ∷ callsTo (nextRecord r c) cs (cond (accepts r c) k (suc k))
+
+module _ (n : ℕ) (calls : List Call) where
+  -- steps 1 to m
+  abbrev pub steps : List (List ℕ)
+  steps = stepsOf (identityRecord n) calls
+
+  -- the record after all calls, and the record after step k
+  abbrev pub recordNow : List ℕ
+  recordNow = recordAfter (identityRecord n) calls
+
+  abbrev pub recordThen : ℕ → List ℕ
+  recordThen k = recordAfter (identityRecord n) (callsTo (identityRecord n) calls k)
+
+-- For every list of calls whose steps are valid and no wider than n, every k from 0 to m, and every width w up to n: the way back
+-- to the record after step k, by the product of steps k+1 to m from the identity of width w.
+abbrev pub WayBackTheorem : Type 0
+WayBackTheorem =
+    (n : ℕ) → n ≤ 128 → (calls : List Call) → Steps n (steps n calls) → (k : ℕ) → k ≤ length (steps n calls) → (w : ℕ) → w ≤ n
+    → WayBack (take k (steps n calls)) (productOf w (drop k (steps n calls))) (recordThen n calls k) (recordNow n calls)

@@ -10,12 +10,12 @@ use Rattle.pauli_group.specs.PauliString.{qubits}
 use Rattle.pauli.specs.declared.refusal.Outcome.the-variants.{Done}
 use Rattle.clifford.specs.Layout.{recordLength, widthOf}
 use Rattle.clifford.specs.GateAnswers.{gateRecord}
-use Rattle.clifford.specs.Tableaux.{recordValid, identityRecord, composeRecord}
+use Rattle.clifford.specs.Tableaux.{recordValid, Good, identityRecord, composeRecord}
 use Rattle.clifford_laws.specs.WayBack.{Steps, productFrom, productOf}
 use Rattle.clifford_laws.specs.WayBack as back
 use Rattle.clifford_laws.proofs.GateRecords.{gate-good}
 use Rattle.clifford_laws.proofs.PlayedGates.{played-is, width-played}
-use Rattle.clifford.proofs.RecordLaws.{Good, identity-width, identity-good, compose-good, compose-width}
+use Rattle.clifford.proofs.RecordLaws.{identity-width, identity-good, compose-good, compose-width}
 use Rattle.clifford.proofs.TableauRecords.{record-small}
 use Rattle.gate_list.specs.Lists.{Play, listWidth, gatesOf}
 use Rattle.gate_list.specs.ListQuestions.{listQuestions}
@@ -61,7 +61,7 @@ product-valid {w} {t = t} small (more {p} {rest} f g) v =
     (product-valid small g (record { good = then-good small f (v .good) (v .width); width = then-width small f (v .good) (v .width) }))
 
 gates-steps : {w : ℕ} {ps : List Play} → w ≤ qubits → PlaysFit w ps → Steps w (tableauxOf ps)
-unfolding tableauxOf recordValid
+unfolding tableauxOf
 gates-steps small none = back.none
 gates-steps small (more f g) = back.step (record { valid = own-good small f .valid; narrow = gate-narrow small f }) (gates-steps small g)
 
@@ -82,7 +82,6 @@ module _ (l : List ℕ) (e : listQuestions l ≡ Done) where
   run-good = run-valid-of .good
 
   pub run-valid : recordValid (runRecord l) ≡ true
-  unfolding recordValid
   run-valid = run-good .valid
 
   pub run-width : widthOf (runRecord l) ≡ listWidth l
