@@ -32,7 +32,7 @@ use Rattle.clifford.specs.Rows.{rowQubit, rowLetter}
 use Rattle.clifford.specs.Tableaux.{composeRecord}
 use Rattle.clifford.specs.GateQuestions.{gateWidth}
 use Rattle.clifford.specs.GateAnswers.{gateRecord}
-use Rattle.clifford.specs.Playing.{twice, movedBy, secondQubit, gateOnRow, playable, played}
+use Rattle.clifford.specs.Playing.{twice, movedBy, secondQubit, gateOnRow, playable, played, GatePlayed}
 use Rattle.clifford.proofs.Joining.{joined-ext, length-below}
 use Rattle.clifford.proofs.TableauRows.{FormedRow, row-of-string, string-of-row, length-row, row-phase-at, row-within}
 use Rattle.clifford.proofs.TableauRecords.{row-part, part-formed, width-of, record-back, record-formed, same-record}
@@ -260,6 +260,9 @@ length-played g q r t = by (playable g q r t) refl
     by : (b : Bool) → playable g q r t ≡ b → length (cond b (eachRow (gateOnRow g q s) t) t) ≡ length t
     by true e = length-each (gateOnRow g q s) same t (playable-is g q r t e .on .long)
     by false e = refl
+
+pub played-same : {g q r : ℕ} {t e : List ℕ} {b : Bool} → GatePlayed g q r t e b → length e ≡ length t
+played-same {g} {q} {r} {t} p = ap length (p .bytes) ∙ length-played g q r t
 
 pub width-played : (g q r : ℕ) (t : List ℕ) → widthOf (played g q r t) ≡ widthOf t
 unfolding played eachRow

@@ -21,7 +21,7 @@ use Rattle.clifford.specs.Questions.{identityAnswer}
 use Rattle.clifford.specs.Tableaux.{identityRecord, composeRecord}
 use Rattle.clifford_laws.specs.WayBack.{productFrom, productOf}
 use Rattle.clifford.proofs.TableauAsking.{width-narrow}
-use Rattle.clifford_laws.proofs.PlayedGates.{played-is, played-formed, length-played, width-played}
+use Rattle.clifford_laws.proofs.PlayedGates.{played-is, played-formed, played-same, width-played}
 use Rattle.clifford.proofs.RecordLaws.{identity-width, identity-good}
 use Rattle.gate_list.specs.Lists.{Play, recordCount, byteOf, listWidth, nextOf, playOf, chainOf, playsOf, gatesOf}
 use Rattle.gate_list.specs.OrderedLists.{PlayFits, PlaysFit, none, more, Chain, ends, links}
@@ -173,9 +173,6 @@ pub record-played : (l : List ℕ) (i : ℕ) {a b g x y : ℕ} (t : List ℕ) {e
     → GatePlayed g x y t e f → e ≡ played (byteOf l i 0) (byteOf l i 1) (byteOf l i 2) t
 record-played l i {x = x} {y = y} t ea ex eb ey eg p =
     p .bytes ∙ ap (λ (k : ℕ). played k x y t) eg ∙ ap₂ (λ (j k : ℕ). played (byteOf l i 0) j k t) (ex .is ∙ ea) (ey .is ∙ eb)
-
-pub played-same : {g q r : ℕ} {t e : List ℕ} {f : Bool} → GatePlayed g q r t e f → length e ≡ length t
-played-same {g} {q} {r} {t} p = ap length (p .bytes) ∙ length-played g q r t
 
 pub ruleset record-plays = (own-byte, record-played, played-same, needs)
 
