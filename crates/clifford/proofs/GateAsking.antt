@@ -48,7 +48,7 @@ pub qubits-differ : {q r : ℕ} → (q ≡ r → ⊥) → Done ≡ differentQues
 unfolding differentQuestion
 qubits-differ {q} {r} h = asked-yes (SameQubit q) (ap not (ne-eqb q r h))
 
-are-different : (q r : ℕ) → differentQuestion q r ≡ Done → q ≢ r
+pub are-different : (q r : ℕ) → differentQuestion q r ≡ Done → q ≢ r
 unfolding differentQuestion
 are-different q r e = eqb-false q r (not-true (eqb q r) (ask-done (not (eqb q r)) (SameQubit q) e))
 

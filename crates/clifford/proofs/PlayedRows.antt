@@ -1,16 +1,18 @@
 -- A gate on each row of a record: its table, a row changed as the table says, all rows, and when the gate has a place in the record.
 use mathlib.Core.Path.{_≡_, refl, sym, ap, ap₂, _∙_, subst}
-use mathlib.Core.Bool.{Bool, true, false, cond, _&&_}
+use mathlib.Core.Bool.{Bool, true, false, cond, not, _&&_}
+use mathlib.Core.Logic.{_≢_}
 use mathlib.Core.List.{List, _∷_, _++_}
 use Prim.Native.Nat.{ℕ, zero, suc, min, _+_, _*_, _-_, _/_, _%_, _≤_, _<_}
 use native.Mathlib.Numerals.{add-one}
 use native.Mathlib.Omega.{arith}
+use native.Mathlib.Decide.{decLt}
 use lib.Bits.{bitXor}
 use lib.Dec.{T, ltb, leb, eqb}
 use lib.ListN.{length, getD, set, take, drop, length-set, length-drop, take-append-drop}
 use lib.Seq.{set-append-left, getD-take, length-take-le}
 use borrow.Author.Needs.{needs}
-use borrow.Author.Tests.{lt-ltb, le-ltb, le-leb, eq-eqb, ltb-true, leb-true, eqb-true}
+use borrow.Author.Tests.{lt-ltb, le-ltb, le-leb, eq-eqb, ne-eqb, ltb-true, leb-true, eqb-true, eqb-false, not-true, not-false}
 use borrow.Rule.Slice.PartMut.{putMid}
 use Rattle.pauli_group.specs.Phase.{Phase, PlusOne, MinusOne, PlusI, MinusI, _·_, negate, turn}
 use Rattle.pauli_group.specs.Letter.{Letter, letterMul, letterPhase, letterProduct}
@@ -27,7 +29,7 @@ use Rattle.pauli.proofs.Places.{from}
 use Rattle.pauli.proofs.Records.{letter-there}
 use Rattle.clifford.specs.Layout.{rowLength, rowOffset, recordLength, joined, widthOf, rowPart, letterIn, withPair, eachRow, OnRow}
 use Rattle.clifford.specs.Rows.{Sized, RowIndex}
-use Rattle.clifford.specs.Playing.{twice, movedBy, secondQubit, gateOnRow, playable, played, entryOf, imageIn, tableOf, readTable, tableOnRow, OnRows}
+use Rattle.clifford.specs.Playing.{twice, movedBy, secondQubit, gateOnRow, secondFits, playable, played, entryOf, imageIn, tableOf, readTable, tableOnRow, OnRows, GatePlayed}
 use Rattle.clifford.proofs.Joining.{joined-ext}
 use Rattle.clifford.proofs.TableauRecords.{row-room}
 use Rattle.clifford.proofs.RowBytes.{BytesTo, bytes-none, bytes-index, bytes-room, bytes-start, bytes-rest, bytes-more, bytes-end}
@@ -194,7 +196,7 @@ module _ {e : List ℕ} {q s w : ℕ} {t₀ : List ℕ} {i : ℕ} {t : List ℕ}
 
 pub ruleset plays = (played-none, played-length, played-narrow, played-all, played-index, played-start, played-row, played-more, needs)
 
--- ---- when the gate has a place in the record
+-- ---- the second qubit
 pub second-one : {g : ℕ} (q r : ℕ) → g < 24 → q ≡ secondQubit g q r
 unfolding secondQubit
 second-one {g} q r h = sym (ap (λ b. cond b q r) (lt-ltb g 24 h))
@@ -205,65 +207,112 @@ second-two {g} q r h = sym (ap (λ b. cond b q r) (le-ltb g 24 h))
 
 pub ruleset seconds = (second-one, second-two, needs)
 
-pub record Playable (g q s : ℕ) (t : List ℕ) : Type 0 where
-  pub gate : g < 38
-  pub on : OnRows q s (widthOf t) t
+-- whether it fits
+pub fits-none : {g : ℕ} (q r w : ℕ) → g < 24 → true ≡ secondFits g q r w
+unfolding secondFits
+fits-none {g} q r w h = sym (ap (λ b. cond b true (ltb r w && not (eqb q r))) (lt-ltb g 24 h))
+
+fits-tested : {g : ℕ} (q r w : ℕ) → 24 ≤ g → (ltb r w && not (eqb q r)) ≡ secondFits g q r w
+unfolding secondFits
+fits-tested {g} q r w h = sym (ap (λ b. cond b true (ltb r w && not (eqb q r))) (le-ltb g 24 h))
+
+pub fits-high : {g : ℕ} (q r w : ℕ) → 24 ≤ g → w ≤ r → false ≡ secondFits g q r w
+fits-high q r w h l = sym (ap (λ b. b && not (eqb q r)) (le-ltb r w l)) ∙ fits-tested q r w h
+
+pub fits-other : {g : ℕ} (q r w : ℕ) → 24 ≤ g → r < w → not (eqb q r) ≡ secondFits g q r w
+fits-other q r w h l = sym (ap (λ b. b && not (eqb q r)) (lt-ltb r w l)) ∙ fits-tested q r w h
+
+pub ruleset second-fitting = (fits-none, fits-high, fits-other, needs)
 
 and-parts : (a b : Bool) → (a && b) ≡ true → (a ≡ true) × (b ≡ true)
 and-parts true b e = (refl, e)
 and-parts false b e = (e, cc)
 
-pub playable-is : (g q s : ℕ) (t : List ℕ) → playable g q s t ≡ true → Playable g q s t
+fits-parts : {g : ℕ} (q r w : ℕ) → 24 ≤ g → secondFits g q r w ≡ true → (ltb r w ≡ true) × (not (eqb q r) ≡ true)
+fits-parts q r w h e = and-parts (ltb r w) (not (eqb q r)) (fits-tested q r w h ∙ e)
+
+fits-below : (g q r w : ℕ) → secondFits g q r w ≡ true → q < w → secondQubit g q r < w
+fits-below g q r w e h = elim (decLt g 24) [
+  | yes l ↦ omega (arith, second-one q r l)
+  | no l ↦ let m : 24 ≤ g = omega arith in omega (arith, second-two q r m, ltb-true r w (fits-parts q r w m e .0))
+]
+
+fits-yes : (g q r w : ℕ) → (24 ≤ g → r < w) → (24 ≤ g → q ≢ r) → secondFits g q r w ≡ true
+fits-yes g q r w hr d = elim (decLt g 24) [
+  | yes l ↦ sym (fits-none q r w l)
+  | no l ↦ let m : 24 ≤ g = omega arith in sym (fits-other q r w m (hr m)) ∙ ap not (ne-eqb q r (d m))
+]
+
+-- ---- when the gate has a place in the record
+pub record Playable (g q r : ℕ) (t : List ℕ) : Type 0 where
+  pub gate : g < 38
+  pub on : OnRows q (secondQubit g q r) (widthOf t) t
+  pub different : 24 ≤ g → q ≢ r
+
+pub playable-is : (g q r : ℕ) (t : List ℕ) → playable g q r t ≡ true → Playable g q r t
 unfolding playable
-playable-is g q s t e =
+playable-is g q r t e =
+    let w : ℕ = widthOf t in
     let first = and-parts (ltb g 38) _ e in
-    let second = and-parts (ltb q (widthOf t)) _ (first .1) in
-    let third = and-parts (ltb s (widthOf t)) _ (second .1) in
-    let fourth = and-parts (leb (widthOf t) 128) (eqb (length t) (recordLength (widthOf t))) (third .1) in
+    let second = and-parts (ltb q w) _ (first .1) in
+    let third = and-parts (secondFits g q r w) _ (second .1) in
+    let fourth = and-parts (leb w 128) (eqb (length t) (recordLength w)) (third .1) in
+    let here : q < w = ltb-true q w (second .0) in
     record {
       gate = ltb-true g 38 (first .0);
       on = record {
         wide = refl;
-        first = ltb-true q (widthOf t) (second .0);
-        second = ltb-true s (widthOf t) (third .0);
-        narrow = leb-true (widthOf t) 128 (fourth .0);
-        long = eqb-true (length t) (recordLength (widthOf t)) (fourth .1);
+        first = here;
+        second = fits-below g q r w (third .0) here;
+        narrow = leb-true w 128 (fourth .0);
+        long = eqb-true (length t) (recordLength w) (fourth .1);
       };
+      different = λ m. eqb-false q r (not-true (eqb q r) (fits-parts q r w m (third .0) .1));
     }
 
 -- all but the length is asked
-playable-by : (g q s : ℕ) {n : ℕ} (t : List ℕ) → n ≡ widthOf t → g < 38 → q < n → s < n → n ≤ 128 → playable g q s t ≡ eqb (length t) (recordLength n)
+playable-by : (g q r : ℕ) {n : ℕ} (t : List ℕ) → n ≡ widthOf t → g < 38 → q < n → secondFits g q r n ≡ true → n ≤ 128 → playable g q r t ≡ eqb (length t) (recordLength n)
 unfolding playable
-playable-by g q s {n} t e hg hq hs hn =
-    ap (λ (w : ℕ). ltb g 38 && (ltb q w && (ltb s w && (leb w 128 && eqb (length t) (recordLength w))))) (sym e)
-    ∙ ap₂ _&&_ (lt-ltb g 38 hg) (ap₂ _&&_ (lt-ltb q n hq) (ap₂ _&&_ (lt-ltb s n hs) (ap (λ b. b && eqb (length t) (recordLength n)) (le-leb n 128 hn))))
+playable-by g q r {n} t e hg hq hr hn =
+    ap (λ (w : ℕ). ltb g 38 && (ltb q w && (secondFits g q r w && (leb w 128 && eqb (length t) (recordLength w))))) (sym e)
+    ∙ ap₂ _&&_ (lt-ltb g 38 hg) (ap₂ _&&_ (lt-ltb q n hq) (ap₂ _&&_ hr (ap (λ b. b && eqb (length t) (recordLength n)) (le-leb n 128 hn))))
 
-pub playable-long : (g q s : ℕ) {n k : ℕ} (t : List ℕ) → n ≡ widthOf t → g < 38 → q < n → s < n → n ≤ 128 → Sized (recordLength n) k → eqb (length t) k ≡ playable g q s t
-playable-long g q s t e hg hq hs hn z = ap (eqb (length t)) (z .is) ∙ sym (playable-by g q s t e hg hq hs hn)
+pub playable-long : (g q r : ℕ) {n k : ℕ} {b : Bool} (t : List ℕ) → n ≡ widthOf t → g < 38 → q < n → b ≡ secondFits g q r n → not b ≡ false → n ≤ 128 → Sized (recordLength n) k
+    → eqb (length t) k ≡ playable g q r t
+playable-long g q r {b = b} t e hg hq eb hb hn z = ap (eqb (length t)) (z .is) ∙ sym (playable-by g q r t e hg hq (sym eb ∙ not-false b hb) hn)
 
-pub playable-yes : {g q s : ℕ} {t : List ℕ} → Playable g q s t → playable g q s t ≡ true
-playable-yes {g} {q} {s} {t} p = playable-by g q s t refl (p .gate) (p .on .first) (p .on .second) (p .on .narrow) ∙ eq-eqb (length t) (recordLength (widthOf t)) (p .on .long)
+pub playable-yes : (g q r : ℕ) (t : List ℕ) → g < 38 → q < widthOf t → (24 ≤ g → r < widthOf t) → (24 ≤ g → q ≢ r) → widthOf t ≤ 128 → length t ≡ recordLength (widthOf t)
+    → playable g q r t ≡ true
+playable-yes g q r t hg hq hr d hn long =
+    playable-by g q r t refl hg hq (fits-yes g q r (widthOf t) hr d) hn ∙ eq-eqb (length t) (recordLength (widthOf t)) long
 
-not-playable : (g q s : ℕ) (t : List ℕ) → (Playable g q s t → ⊥) → false ≡ playable g q s t
-not-playable g q s t never = by (playable g q s t) refl
+not-playable : (g q r : ℕ) (t : List ℕ) → (Playable g q r t → ⊥) → false ≡ playable g q r t
+not-playable g q r t never = by (playable g q r t) refl
   where
-    by : (b : Bool) → playable g q s t ≡ b → false ≡ b
-    by true e = absurd (never (playable-is g q s t e))
+    by : (b : Bool) → playable g q r t ≡ b → false ≡ b
+    by true e = absurd (never (playable-is g q r t e))
     by false e = refl
 
-module _ (g q s : ℕ) (t : List ℕ) where
-  pub no-gate : 38 ≤ g → false ≡ playable g q s t
-  no-gate h = not-playable g q s t (λ p. omega (arith, p .gate))
+module _ (g q r : ℕ) (t : List ℕ) where
+  pub no-gate : 38 ≤ g → false ≡ playable g q r t
+  no-gate h = not-playable g q r t (λ p. omega (arith, p .gate))
 
   module _ {n : ℕ} (e : n ≡ widthOf t) where
-    pub no-first : n ≤ q → false ≡ playable g q s t
-    no-first h = not-playable g q s t (λ p. omega (arith, p .on .first))
+    pub no-first : n ≤ q → false ≡ playable g q r t
+    no-first h = not-playable g q r t (λ p. omega (arith, p .on .first))
 
-    pub no-second : n ≤ s → false ≡ playable g q s t
-    no-second h = not-playable g q s t (λ p. omega (arith, p .on .second))
+    pub no-second : {b : Bool} → b ≡ secondFits g q r n → not b ≡ true → false ≡ playable g q r t
+    unfolding playable
+    no-second {b} eb h =
+        sym (without (ltb g 38) (ltb q (widthOf t)) _ (sym (ap (secondFits g q r) e) ∙ sym eb ∙ not-true b h))
+      where
+        without : (x y z : Bool) {s : Bool} → s ≡ false → (x && (y && (s && z))) ≡ false
+        without true true z e = ap (λ b. b && z) e
+        without true false z e = refl
+        without false y z e = refl
 
-    pub no-width : 128 < n → false ≡ playable g q s t
-    no-width h = not-playable g q s t (λ p. omega (arith, p .on .narrow))
+    pub no-width : 128 < n → false ≡ playable g q r t
+    no-width h = not-playable g q r t (λ p. omega (arith, p .on .narrow))
 
 pub ruleset playables = (no-gate, no-first, no-second, no-width, playable-long, needs)
 
@@ -276,28 +325,26 @@ table-on-rows : (g q s : ℕ) (t : List ℕ) → g < 38 → eachRow (tableOnRow 
 unfolding eachRow
 table-on-rows g q s t h = ap (λ (l : List ℕ). widthOf t ∷ l) (joined-ext (2 * widthOf t) _ _ (λ r l. table-on-row g q s (rowPart t r) h))
 
-module _ (g q s : ℕ) (t : List ℕ) {b : Bool} (e : b ≡ playable g q s t) where
-  fits : b ≡ true → Playable g q s t
-  fits h = playable-is g q s t (sym e ∙ h)
+module _ (g q r : ℕ) (t : List ℕ) {b : Bool} (e : b ≡ playable g q r t) where
+  fits : b ≡ true → Playable g q r t
+  fits h = playable-is g q r t (sym e ∙ h)
 
-  pub play-gate : b ≡ true → g < 38
-  play-gate h = fits h .gate
+  pub play-number : b ≡ true → g < 38
+  play-number h = fits h .gate
 
-  pub play-on : b ≡ true → {n : ℕ} → n ≡ widthOf t → OnRows q s n t
-  play-on h en = subst (λ (v : ℕ). OnRows q s v t) (sym en) (fits h .on)
+  pub play-on : b ≡ true → {s n : ℕ} → s ≡ secondQubit g q r → n ≡ widthOf t → OnRows q s n t
+  play-on h {s} {n} es en = subst (λ (v : ℕ). OnRows q s v t) (sym en) (subst (λ (v : ℕ). OnRows q v (widthOf t) t) (sym es) (fits h .on))
 
-  module _ (r : ℕ) (es : s ≡ secondQubit g q r) where
-    pub play-made : b ≡ true → {p d : List ℕ} → p ≡ tableOf g → d ≡ eachRow (tableOnRow p q s) t → d ≡ played g q r t
-    unfolding played
-    play-made h {p} {d} ep ed =
-        ed ∙ ap (λ (l : List ℕ). eachRow (tableOnRow l q s) t) ep ∙ table-on-rows g q s t (play-gate h)
-        ∙ ap (λ c. cond c (eachRow (gateOnRow g q s) t) t) (sym (sym e ∙ h))
-        ∙ ap (λ (j : ℕ). cond (playable g q j t) (eachRow (gateOnRow g q j) t) t) es
+  pub play-made : b ≡ true → {s : ℕ} {p d : List ℕ} → s ≡ secondQubit g q r → p ≡ tableOf g → d ≡ eachRow (tableOnRow p q s) t → GatePlayed g q r t d b
+  unfolding played
+  play-made h {s} {p} {d} es ep ed = record {
+    flag = e;
+    bytes = ed ∙ ap₂ (λ (l : List ℕ) (j : ℕ). eachRow (tableOnRow l q j) t) ep es ∙ table-on-rows g q (secondQubit g q r) t (play-number h)
+        ∙ ap (λ c. cond c (eachRow (gateOnRow g q (secondQubit g q r)) t) t) (sym (sym e ∙ h));
+  }
 
-    pub play-not : b ≡ false → t ≡ played g q r t
-    unfolding played
-    play-not h =
-        ap (λ c. cond c (eachRow (gateOnRow g q s) t) t) (sym (sym e ∙ h))
-        ∙ ap (λ (j : ℕ). cond (playable g q j t) (eachRow (gateOnRow g q j) t) t) es
+  pub play-not : b ≡ false → GatePlayed g q r t t b
+  unfolding played
+  play-not h = record { flag = e; bytes = ap (λ c. cond c (eachRow (gateOnRow g q (secondQubit g q r)) t) t) (sym (sym e ∙ h)) }
 
-pub ruleset playing = (play-gate, play-on, play-made, play-not, needs)
+pub ruleset playing = (play-number, play-on, play-made, play-not, needs)

@@ -280,10 +280,6 @@ module _ {a b : List ℕ} {w r : ℕ} {s k out : List ℕ} (o : ComposesBy a b w
 pub compose-none : {a b : List ℕ} {w : ℕ} {d : List ℕ} → Composes a b w d → RowsTo w (rowOf (compose (tableauOf a) (tableauOf b))) (set d 0 w) 0 (set d 0 w)
 compose-none {a} {b} {w} {d} o = rows-none w (rowOf (compose (tableauOf a) (tableauOf b))) d (composed-narrow (o .first) (o .second) (o .wide)) (o .room)
 
-pub compose-here : {a b : List ℕ} {w : ℕ} {d′ : List ℕ} {f : ℕ → PauliString} {d₀ : List ℕ} {r : ℕ} {d : List ℕ} {at : ℕ} → Composes a b w d′ → RowsTo w f d₀ r d → r < 2 * w
-    → Sized (rowOffset w r) at → ComposesRow a b w r (from at d)
-compose-here {d = d} {at = at} o m h s = record { first = o .first; second = o .second; wide = o .wide; own = h; room = rows-room d at m h s }
-
 pub compose-all : {a b : List ℕ} {w : ℕ} {d : List ℕ} {r : ℕ} {e : List ℕ} → Composes a b w d → RowsTo w (rowOf (compose (tableauOf a) (tableauOf b))) (set d 0 w) r e → 2 * w ≤ r
     → e ≡ written Done (tableauRecord (compose (tableauOf a) (tableauOf b))) d
 compose-all {a} {b} {w} {d} o m h =
@@ -308,4 +304,4 @@ pub ruleset composing = (send-room, send-made, row-sends, compose-letter, compos
 
 pub ruleset extend-loops = (extend-none, extend-here, extend-all, extend-first, rows-start, rows-index, rows-more, rows-length, needs)
 
-pub ruleset compose-loops = (compose-none, compose-here, compose-all, compose-first, compose-narrow, rows-start, rows-index, rows-more, rows-length, needs)
+pub ruleset compose-loops = (compose-none, compose-all, compose-first, compose-narrow, rows-room, rows-start, rows-index, rows-more, rows-length, needs)

@@ -223,26 +223,31 @@ pub place-some : {d : List ℕ} {q : ℕ} (i v : ℕ) → WorkPlace d q → 0 < 
 place-some {d} i v o = omega (arith, length-set d i v, o .place)
 
 -- ---- a work row multiplied by the image of a letter
--- the phase byte times i
-times-i : {d : List ℕ} {p : ℕ} → WellFormed (lettersIn d) d → p ≡ phaseBytesProduct (getD d 0 0) 2 → set d 0 p ≡ encodeString (lettersIn d) (scale PlusI (stringIn d))
-unfolding scale phaseBytesProduct phaseOf
-times-i {d} {p} f e =
+-- the phase byte times a phase
+times-phase : {d : List ℕ} {p : ℕ} (k : ℕ) → WellFormed (lettersIn d) d → p ≡ phaseBytesProduct (getD d 0 0) k
+    → set d 0 p ≡ encodeString (lettersIn d) (scale (phaseOf k) (stringIn d))
+unfolding scale phaseBytesProduct
+times-phase {d} {p} k f e =
     let w = lettersIn d in
-    row-is w (set d 0 p) (scale PlusI (stringIn d)) (length-set d 0 p ∙ f .long)
-    (getD-set-same d 0 p 0 (omega (arith, f .long)) ∙ e ∙ ap phaseByte (·-comm _ PlusI ∙ ap (λ x. PlusI · x) (sym (decode-phase w d))))
+    row-is w (set d 0 p) (scale (phaseOf k) (stringIn d)) (length-set d 0 p ∙ f .long)
+    (getD-set-same d 0 p 0 (omega (arith, f .long)) ∙ e ∙ ap phaseByte (·-comm _ (phaseOf k) ∙ ap (λ x. phaseOf k · x) (sym (decode-phase w d))))
     (λ c l. getD-set-other d 0 (suc c) p 0 (omega arith) ∙ sym (letter-there (getD d (suc c) 0) (f .small (suc c) (omega (arith, f .long)))) ∙ ap letterByte (sym (decode-letter w d c l)))
 
-turned-formed : {d : List ℕ} {p : ℕ} → WellFormed (lettersIn d) d → p ≡ phaseBytesProduct (getD d 0 0) 2 → WellFormed (lettersIn d) (set d 0 p)
-turned-formed {d} {p} f e = subst (WellFormed (lettersIn d)) (sym (times-i f e)) (encode-formed (lettersIn d) _)
+times-i : {d : List ℕ} {p : ℕ} → WellFormed (lettersIn d) d → p ≡ phaseBytesProduct (getD d 0 0) 2 → set d 0 p ≡ encodeString (lettersIn d) (scale PlusI (stringIn d))
+unfolding phaseOf
+times-i f e = times-phase 2 f e
 
-pub turned-work : {b d : List ℕ} {q p : ℕ} → WorkOnOwn b d q → p ≡ phaseBytesProduct (getD d 0 0) 2 → WorkOnRow b (set d 0 p) q
-turned-work {b} {d} {q} {p} o e =
+turned-formed : {d : List ℕ} {p : ℕ} (k : ℕ) → WellFormed (lettersIn d) d → p ≡ phaseBytesProduct (getD d 0 0) k → WellFormed (lettersIn d) (set d 0 p)
+turned-formed {d} {p} k f e = subst (WellFormed (lettersIn d)) (sym (times-phase k f e)) (encode-formed (lettersIn d) _)
+
+pub turned-work : {b d : List ℕ} {q p : ℕ} (k : ℕ) → WorkOnOwn b d q → p ≡ phaseBytesProduct (getD d 0 0) k → WorkOnRow b (set d 0 p) q
+turned-work {b} {d} {q} {p} k o e =
     let l : length (set d 0 p) ≡ length d = length-set d 0 p in
     let same : lettersIn d ≡ lettersIn (set d 0 p) = ap (λ (j : ℕ). j - 1) (sym l) in
     record {
       work = record {
         tableau = o .work .tableau;
-        row = subst (λ (w : ℕ). WellFormed w (set d 0 p)) same (turned-formed (o .work .row) e);
+        row = subst (λ (w : ℕ). WellFormed w (set d 0 p)) same (turned-formed k (o .work .row) e);
         wide = omega (arith, o .work .wide);
         narrow = omega (arith, o .work .narrow);
       };
@@ -315,10 +320,10 @@ times-both b d {e₁} {e₂} {q} {p} {n} o ep en k₁ k₂ =
     ∙ ap₂ (λ s u. encodeString w (mul s u)) made (row-z-at b q en)
     ∙ ap (encodeString w) (simp (scale-mul, mul-scale, mul-assoc))
 
-pub both-length : (b : List ℕ) {d e₁ e₂ : List ℕ} {q p n : ℕ} → WorkOnOwn b d q → p ≡ phaseBytesProduct (getD d 0 0) 2 → n ≡ widthOf b
+pub both-length : (b : List ℕ) {d e₁ e₂ : List ℕ} {q p n : ℕ} (k : ℕ) → WorkOnOwn b d q → p ≡ phaseBytesProduct (getD d 0 0) k → n ≡ widthOf b
     → e₁ ≡ rowTimes (set d 0 p) (rowOf (tableauOf b) q) → e₂ ≡ rowTimes e₁ (rowOf (tableauOf b) (n + q)) → length e₂ ≡ length d
-both-length b {d} {e₁} {e₂} {q} {p} o ep en k₁ k₂ =
-    let one : WorkRow b (set d 0 p) = turned-work o ep .work in
+both-length b {d} {e₁} {e₂} {q} {p} k o ep en k₁ k₂ =
+    let one : WorkRow b (set d 0 p) = turned-work k o ep .work in
     let two : WorkRow b e₁ = times-work _ one k₁ in
     length-times e₂ _ (two .row) k₂ ∙ length-times e₁ _ (one .row) k₁ ∙ length-set d 0 p
 

@@ -1,7 +1,7 @@
 -- A gate composed on the left of a tableau record, in place: each row changes its phase, and its letters on the gate's qubits.
 use Prim.Native.Nat.{ℕ, _+_, _*_, _/_, _%_, _≤_, _<_}
 use mathlib.Core.Path.{_≡_}
-use mathlib.Core.Bool.{Bool, cond, _&&_}
+use mathlib.Core.Bool.{Bool, true, cond, not, _&&_}
 use mathlib.Core.List.{List}
 use lib.Dec.{ltb, leb, eqb}
 use lib.ListN.{length, getD}
@@ -29,16 +29,24 @@ secondQubit g q r = cond (ltb g 24) q r
 unfoldable pub gateOnRow : ℕ → ℕ → ℕ → List ℕ → List ℕ
 gateOnRow g q s b = withPair q s (movedBy g (letterIn b q) (letterIn b s)) b
 
--- g is a gate, its qubits are below the width, and the record is as long as its width says
+-- the second qubit of a two-qubit gate is below the width w and another than the first; that of a one-qubit gate isn't looked at
+unfoldable pub secondFits : ℕ → ℕ → ℕ → ℕ → Bool
+secondFits g q r w = cond (ltb g 24) true (ltb r w && not (eqb q r))
+
+-- g is a gate, its qubits are below the width and different, and the record is as long as its width says
 unfoldable pub playable : ℕ → ℕ → ℕ → List ℕ → Bool
-playable g q s t =
-    ltb g 38 && (ltb q (widthOf t) && (ltb s (widthOf t) && (leb (widthOf t) 128 && eqb (length t) (recordLength (widthOf t)))))
+playable g q r t =
+    let w : ℕ = widthOf t in
+    ltb g 38 && (ltb q w && (secondFits g q r w && (leb w 128 && eqb (length t) (recordLength w))))
 
 -- the record after the gate; where the gate has no place in it, it stays
 unfoldable pub played : ℕ → ℕ → ℕ → List ℕ → List ℕ
-played g q r t =
-    let s : ℕ = secondQubit g q r in
-    cond (playable g q s t) (eachRow (gateOnRow g q s) t) t
+played g q r t = cond (playable g q r t) (eachRow (gateOnRow g q (secondQubit g q r)) t) t
+
+-- what the kernel promises of a record t: whether the gate was played, and the bytes e at exit
+pub record GatePlayed (g q r : ℕ) (t e : List ℕ) (b : Bool) : Type 0 where
+  pub flag : b ≡ playable g q r t
+  pub bytes : e ≡ played g q r t
 
 -- ---- the table of a gate: what it makes of the letters a and b is entry 4a + b
 

@@ -7,7 +7,7 @@ ghost use Rattle.pauli.specs.declared.refusal.Outcome.the-variants.{Done};
 ghost use Rattle.pauli.specs.Answers.{Written, written};
 ghost use Rattle.clifford.specs.Layout.{FormedTableau};
 ghost use Rattle.clifford.specs.Questions.{tableauQuestions};
-ghost use Rattle.clifford.specs.GateQuestions.{gateQuestion, differentQuestion, secondQuestions, gateWidth, onQubitsQuestions, onQubitsAnswer, onQubitQuestions, onQubitAnswer, composeGateQuestions};
+ghost use Rattle.clifford.specs.GateQuestions.{gateQuestion, secondQuestions, gateWidth, onQubitsQuestions, onQubitsAnswer, onQubitQuestions, onQubitAnswer, composeGateQuestions};
 ghost use Rattle.clifford.specs.GateAnswers.{gateReply, nameAnswer, GateAnswered, NameAnswered, gateRecord, oneQubitRecord, productRecord, recordName};
 ghost use Rattle.clifford.specs.GateRows.{GateOn, GateSpan, GateFits, OneFits, BothSmall, NameIs};
 use crate::gates::first_gate;
@@ -21,6 +21,8 @@ use crate::layout::letter_in_row;
 use crate::layout::record_length;
 use crate::layout::row_phase;
 use crate::layout::width;
+use crate::questions::check_different;
+use crate::questions::check_gate;
 use crate::questions::check_tableau;
 use pauli::algebra::PhasedLetter;
 use pauli::questions::check_qubit;
@@ -54,25 +56,6 @@ pub fn gate_reply(r: GateAnswer) -> Reply
 }
 
 // ---- questions
-
-// A gate, or an index of the 24 products, below the limit.
-fn check_gate(limit: usize, gate: usize) -> Outcome
-    ensures { λ r. ⌜ r ≡ gateQuestion limit gate ⌝ }
-{
-    if gate < limit {
-        return Outcome::Done;
-    }
-    Outcome::Refused(Refusal::Gate { record: 0 })
-}
-
-fn check_different(q: usize, r: usize) -> Outcome
-    ensures { λ o. ⌜ o ≡ differentQuestion q r ⌝ }
-{
-    if q == r {
-        return Outcome::Refused(Refusal::SameQubit { qubit: q });
-    }
-    Outcome::Done
-}
 
 // The second qubit, which is not looked at for a one-qubit gate.
 fn check_second(gate: usize, q: usize, r: usize) -> Outcome

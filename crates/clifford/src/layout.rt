@@ -15,7 +15,7 @@ pub(crate) fn wide(x: u8) -> usize
 }
 
 // The width of a record; no bytes are read as width 0.
-pub(crate) fn width(t: &[u8]) -> usize
+pub fn width(t: &[u8]) -> usize
     ensures { λ r. ⌜ r ≡ widthOf (now (t .entry)) ⌝ }
 {
     if t.len() == 0 {

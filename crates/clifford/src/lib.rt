@@ -6,7 +6,7 @@ mod composing;
 mod displaying;
 mod gates;
 mod inverting;
-mod layout;
+pub mod layout;
 pub mod playing;
 pub mod questions;
 mod sending;

@@ -2,7 +2,7 @@
 ghost use mathlib.Core.Path.{_≡_};
 ghost use Prim.Native.Nat.{_<_};
 ghost use Rattle.clifford.specs.Layout.{eachRow};
-ghost use Rattle.clifford.specs.Playing.{secondQubit, playable, played, tableOf, tableOnRow, OnRows};
+ghost use Rattle.clifford.specs.Playing.{secondQubit, secondFits, playable, tableOf, tableOnRow, OnRows, GatePlayed};
 use crate::layout::change_row;
 use crate::layout::record_length;
 use crate::layout::row_offset;
@@ -65,9 +65,22 @@ fn second_qubit(gate: usize, q: usize, r: usize) -> usize
     if gate < 24 { q } else { r }
 }
 
-// Whether the gate has a place in the record.
-fn is_playable(gate: usize, q: usize, s: usize, t: &[u8]) -> bool
-    ensures { λ r. ⌜ r ≡ playable gate q s (now (t .entry)) ⌝ }
+// Whether the second qubit of a two-qubit gate is below the width and another than the first.
+fn second_fits(gate: usize, q: usize, r: usize, width: usize) -> bool
+    ensures { λ b. ⌜ b ≡ secondFits gate q r width ⌝ }
+{
+    if gate < 24 {
+        return true;
+    }
+    if width <= r {
+        return false;
+    }
+    q != r
+}
+
+// Whether the gate has a place in the record. The rows are not looked at.
+fn is_playable(gate: usize, q: usize, r: usize, t: &[u8]) -> bool
+    ensures { λ b. ⌜ b ≡ playable gate q r (now (t .entry)) ⌝ }
 {
     let n = width(t);
     if 38 <= gate {
@@ -76,7 +89,7 @@ fn is_playable(gate: usize, q: usize, s: usize, t: &[u8]) -> bool
     if n <= q {
         return false;
     }
-    if n <= s {
+    if !second_fits(gate, q, r, n) {
         return false;
     }
     if 128 < n {
@@ -98,15 +111,18 @@ fn play_rows(table: &[u8; 16], q: usize, s: usize, width: usize, t: &mut [u8])
     }
 }
 
-// The gate's tableau composed on the left of the record t. Where the gate, its qubits or the length don't fit, t stays.
-pub fn play(gate: u8, q: usize, r: usize, t: &mut [u8])
-    ensures { λ _. ⌜ now (t .exit) ≡ played gate q r (now (t .entry)) ⌝ }
+// The gate's tableau composed on the left of the record t; the answer is whether it was. Where the gate, its qubits or the length
+// don't fit, t stays. The rows are not looked at before: a byte above 3 is read as 3.
+pub fn play_gate(gate: u8, q: usize, r: usize, t: &mut [u8]) -> bool
+    ensures { λ b. ⌜ GatePlayed gate q r (now (t .entry)) (now (t .exit)) b ⌝ }
 {
     let g = gate as usize;
-    let s = second_qubit(g, q, r);
-    if is_playable(g, q, s, t) {
+    let fits = is_playable(g, q, r, t);
+    if fits {
+        let s = second_qubit(g, q, r);
         let n = width(t);
         let table = gate_table(g);
         play_rows(&table, q, s, n, t);
     }
+    fits
 }

@@ -1,10 +1,11 @@
-// The questions on entry that are put to tableaux. Each answers Done, or the refusal.
+// The questions on entry that are put to tableaux and to gates. Each answers Done, or the refusal.
 ghost use mathlib.Core.Path.{_≡_};
 ghost use Prim.Native.Nat.{min};
 ghost use lib.ListN.{drop};
 ghost use Rattle.pauli.specs.Questions.{bytesQuestion};
 ghost use Rattle.clifford.specs.Layout.{recordLength};
 ghost use Rattle.clifford.specs.Questions.{widthQuestion, slotQuestion, tableauQuestions, composeQuestions};
+ghost use Rattle.clifford.specs.GateQuestions.{gateQuestion, differentQuestion};
 use crate::layout::record_length;
 use crate::layout::width;
 use pauli::refusal::Outcome;
@@ -80,4 +81,24 @@ pub fn check_tableaux(a: &[u8], b: &[u8]) -> Outcome
         return check_tableau(b);
     }
     first
+}
+
+// A gate, or an index of the 24 products, below the limit.
+pub fn check_gate(limit: usize, gate: usize) -> Outcome
+    ensures { λ r. ⌜ r ≡ gateQuestion limit gate ⌝ }
+{
+    if gate < limit {
+        return Outcome::Done;
+    }
+    Outcome::Refused(Refusal::Gate { record: 0 })
+}
+
+// Two qubits of a gate.
+pub fn check_different(q: usize, r: usize) -> Outcome
+    ensures { λ o. ⌜ o ≡ differentQuestion q r ⌝ }
+{
+    if q == r {
+        return Outcome::Refused(Refusal::SameQubit { qubit: q });
+    }
+    Outcome::Done
 }

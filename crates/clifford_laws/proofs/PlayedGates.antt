@@ -32,14 +32,14 @@ use Rattle.clifford.specs.Rows.{rowQubit, rowLetter}
 use Rattle.clifford.specs.Tableaux.{composeRecord}
 use Rattle.clifford.specs.GateQuestions.{gateWidth}
 use Rattle.clifford.specs.GateAnswers.{gateRecord}
-use Rattle.clifford.specs.Playing.{twice, movedBy, secondQubit, gateOnRow, playable, played}
+use Rattle.clifford.specs.Playing.{twice, movedBy, secondQubit, gateOnRow, playable, played, GatePlayed}
 use Rattle.clifford.proofs.Joining.{joined-ext, length-below}
 use Rattle.clifford.proofs.TableauRows.{FormedRow, row-of-string, string-of-row, length-row, row-phase-at, row-within}
 use Rattle.clifford.proofs.TableauRecords.{row-part, part-formed, width-of, record-back, record-formed, same-record}
 use Rattle.clifford.proofs.RecordWriting.{row-made, qubit-below}
 use Rattle.clifford.proofs.RecordLaws.{compose-formed}
 use Rattle.clifford.proofs.GateWriting.{gate-width}
-use Rattle.clifford.proofs.PlayedRows.{Playable, playable-is, playable-yes, second-one, second-two, length-pair, length-part}
+use Rattle.clifford.proofs.PlayedRows.{playable-is, playable-yes, second-one, second-two, length-pair, length-part}
 
 -- ---- one row: its bytes are changed as its string is
 module _ {w q s : ℕ} (i : PairImage) {b : List ℕ} (f : FormedRow w b) (hq : q < w) (hs : s < w) (same : q ≡ s → i .first ≡ i .second) where
@@ -233,11 +233,8 @@ module _ (g q r : ℕ) (t : List ℕ) (f : FormedTableau t) (hg : g < 38) (hq : 
   pub played-is : played g q r t ≡ composeRecord (gateRecord g q r) t
   unfolding played composeRecord gateRecord
   played-is =
-      ap (λ b. cond b (eachRow (gateOnRow g q s) t) t) (playable-yes here) ∙ rows-played
+      ap (λ b. cond b (eachRow (gateOnRow g q s) t) t) (playable-yes g q r t hg hq hr d (f .narrow) (f .long)) ∙ rows-played
       ∙ sym (same-record (compose (tableauOf (tableauRecord G)) T) (compose G T) (compose-same _ _ T T (record-back G (clifford .proper)) (same-refl T)))
-    where
-      here : Playable g q s t
-      here = record { gate = hg; on = record { wide = refl; first = hq; second = own-second; narrow = f .narrow; long = f .long } }
 
   pub played-formed : FormedTableau (played g q r t)
   unfolding gateRecord
@@ -252,7 +249,7 @@ length-each h same t long =
 
 pub length-played : (g q r : ℕ) (t : List ℕ) → length (played g q r t) ≡ length t
 unfolding played
-length-played g q r t = by (playable g q (secondQubit g q r) t) refl
+length-played g q r t = by (playable g q r t) refl
   where
     s : ℕ
     s = secondQubit g q r
@@ -260,13 +257,16 @@ length-played g q r t = by (playable g q (secondQubit g q r) t) refl
     same : (b : List ℕ) → length (gateOnRow g q s b) ≡ length b
     same b = unfold gateOnRow in length-pair q s _ b
 
-    by : (b : Bool) → playable g q s t ≡ b → length (cond b (eachRow (gateOnRow g q s) t) t) ≡ length t
-    by true e = length-each (gateOnRow g q s) same t (playable-is g q s t e .on .long)
+    by : (b : Bool) → playable g q r t ≡ b → length (cond b (eachRow (gateOnRow g q s) t) t) ≡ length t
+    by true e = length-each (gateOnRow g q s) same t (playable-is g q r t e .on .long)
     by false e = refl
+
+pub played-same : {g q r : ℕ} {t e : List ℕ} {b : Bool} → GatePlayed g q r t e b → length e ≡ length t
+played-same {g} {q} {r} {t} p = ap length (p .bytes) ∙ length-played g q r t
 
 pub width-played : (g q r : ℕ) (t : List ℕ) → widthOf (played g q r t) ≡ widthOf t
 unfolding played eachRow
-width-played g q r t = by (playable g q (secondQubit g q r) t)
+width-played g q r t = by (playable g q r t)
   where
     s : ℕ
     s = secondQubit g q r

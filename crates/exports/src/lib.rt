@@ -18,6 +18,7 @@ ghost use Rattle.clifford.specs.Questions.{tableauQuestions, imageQuestions, se
 ghost use Rattle.clifford.specs.Tableaux.{recordValid, setXRecord, setZRecord, identityRecord, applyRecord, composeRecord, extendRecord, inverseRecord, pauliRecord, supportBytes};
 ghost use Rattle.clifford.specs.GateQuestions.{gateQuestion, onQubitsAnswer, onQubitAnswer, composeGateQuestions};
 ghost use Rattle.clifford.specs.GateAnswers.{gateRecord, oneQubitRecord, productRecord, recordName};
+ghost use Rattle.gate_play.specs.PlayQuestions.{playQuestions};
 ghost use Rattle.gate_list.specs.Runs.{runAnswer, runRecord, stepCount};
 ghost use Rattle.gate_list.specs.Reports.{reportAnswer, reportText};
 ghost use Rattle.exports.specs.Replies.{Replied, RepliedWith, mulRecord, nameOr255};
@@ -260,6 +261,13 @@ pub extern "C" fn rc_from_clifford_rep(t: &[u8]) -> Reply
     ensures { λ r. ⌜ Replied (tableauQuestions (now (t .entry))) (nameOr255 (recordName (now (t .entry)))) r ⌝ }
 {
     gates::gate_reply(gates::from_clifford_rep(t))
+}
+
+#[no_mangle]
+pub extern "C" fn rc_play(t: &mut [u8], gate: u8, q0: usize, q1: usize) -> Reply
+    ensures { λ r. ⌜ RepliedWith (playQuestions (now (t .entry)) gate q0 q1) 0 (composeRecord (gateRecord gate q0 q1) (now (t .entry))) (now (t .entry)) (now (t .exit)) r ⌝ }
+{
+    refusal::outcome_reply(gate_play::play(t, gate, q0, q1))
 }
 
 // ---- lists

@@ -1,5 +1,6 @@
 -- The run: after each gate the record is the product so far, and the gates that are left stand on the rest of the chain.
 use mathlib.Core.Path.{_≡_, refl, sym, ap, ap₂, _∙_, subst}
+use mathlib.Core.Bool.{Bool}
 use mathlib.Core.List.{List, [], _∷_, _++_, append-nil}
 use Prim.Native.Nat.{ℕ, suc, _+_, _*_, _-_, _<_, _≤_}
 use native.Mathlib.Nat.{mul-le-mul-right}
@@ -15,12 +16,12 @@ use Rattle.pauli.specs.Answers.{written, Written}
 use Rattle.pauli.proofs.Asking.{passed, has-room}
 use Rattle.clifford.specs.Layout.{recordLength, rowLength, widthOf, FormedTableau}
 use Rattle.clifford.specs.GateAnswers.{gateRecord}
-use Rattle.clifford.specs.Playing.{played}
+use Rattle.clifford.specs.Playing.{played, GatePlayed}
 use Rattle.clifford.specs.Questions.{identityAnswer}
 use Rattle.clifford.specs.Tableaux.{identityRecord, composeRecord}
 use Rattle.clifford_laws.specs.WayBack.{productFrom, productOf}
 use Rattle.clifford.proofs.TableauAsking.{width-narrow}
-use Rattle.clifford_laws.proofs.PlayedGates.{played-is, played-formed, length-played, width-played}
+use Rattle.clifford_laws.proofs.PlayedGates.{played-is, played-formed, played-same, width-played}
 use Rattle.clifford.proofs.RecordLaws.{identity-width, identity-good}
 use Rattle.gate_list.specs.Lists.{Play, recordCount, byteOf, listWidth, nextOf, playOf, chainOf, playsOf, gatesOf}
 use Rattle.gate_list.specs.OrderedLists.{PlayFits, PlaysFit, none, more, Chain, ends, links}
@@ -168,13 +169,10 @@ pub ruleset runs = (
 )
 
 -- ---- one gate
-pub record-played : (l : List ℕ) (i : ℕ) {a b g x y : ℕ} (t : List ℕ) {e : List ℕ} → a ≡ byteOf l i 1 → ByteSized a x → b ≡ byteOf l i 2 → ByteSized b y → g ≡ byteOf l i 0
-    → e ≡ played g x y t → e ≡ played (byteOf l i 0) (byteOf l i 1) (byteOf l i 2) t
-record-played l i {x = x} {y = y} t ea ex eb ey eg ee =
-    ee ∙ ap (λ (k : ℕ). played k x y t) eg ∙ ap₂ (λ (j k : ℕ). played (byteOf l i 0) j k t) (ex .is ∙ ea) (ey .is ∙ eb)
-
-pub played-same : (g q r : ℕ) (t : List ℕ) {e : List ℕ} → e ≡ played g q r t → length e ≡ length t
-played-same g q r t h = ap length h ∙ length-played g q r t
+pub record-played : (l : List ℕ) (i : ℕ) {a b g x y : ℕ} (t : List ℕ) {e : List ℕ} {f : Bool} → a ≡ byteOf l i 1 → ByteSized a x → b ≡ byteOf l i 2 → ByteSized b y → g ≡ byteOf l i 0
+    → GatePlayed g x y t e f → e ≡ played (byteOf l i 0) (byteOf l i 1) (byteOf l i 2) t
+record-played l i {x = x} {y = y} t ea ex eb ey eg p =
+    p .bytes ∙ ap (λ (k : ℕ). played k x y t) eg ∙ ap₂ (λ (j k : ℕ). played (byteOf l i 0) j k t) (ex .is ∙ ea) (ey .is ∙ eb)
 
 pub ruleset record-plays = (own-byte, record-played, played-same, needs)
 

@@ -9,7 +9,7 @@ use crate::reading::next;
 use crate::reading::wide;
 use crate::reading::width;
 use clifford::clifford_rep::identity;
-use clifford::playing::play;
+use clifford::playing::play_gate;
 use clifford::questions::record_size;
 
 // The gate of record i.
@@ -19,7 +19,7 @@ fn play_record(list: &[u8], i: usize, t: &mut [u8])
 {
     let first = wide(byte(list, i, 1));
     let second = wide(byte(list, i, 2));
-    play(byte(list, i, 0), first, second, t);
+    play_gate(byte(list, i, 0), first, second, t);
 }
 
 // The gates on the chain, on the identity. The answer is their number.

@@ -1,4 +1,4 @@
-// Replays vectors from standard input on the functions of `clifford` and of `gate_list`. From `run_in` on
+// Replays vectors from standard input on the functions of `clifford`, `gate_play` and `gate_list`. From `run_in` on
 // the program is that of `replay_sample`.
 use clifford::clifford as gates;
 use clifford::clifford_rep;
@@ -59,6 +59,9 @@ fn call_gate(line: &[u8], case: Case, d: &mut [u8]) -> Reply {
     }
     if vectors::is_named(line, b"on_qubits") {
         return done(gates::on_qubits(g, case.n2 as usize, case.n3 as usize, d));
+    }
+    if vectors::is_named(line, b"play") {
+        return done(gate_play::play(d, g, case.n2 as usize, case.n3 as usize));
     }
     Reply::Unknown
 }

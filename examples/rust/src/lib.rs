@@ -227,6 +227,11 @@ pub fn on_qubit(gate: u8, q: usize, dst: &mut [u8]) -> Answer {
     answer(unsafe { raw::rc_on_qubit(gate, q, dst.as_mut_ptr(), dst.len()) })
 }
 
+/// Plays the gate on the tableau t, in t itself: what [`compose`] of the gate's tableau and t gives. A refusal leaves t as it was.
+pub fn play(t: &mut [u8], gate: u8, q0: usize, q1: usize) -> Answer {
+    answer(unsafe { raw::rc_play(t.as_mut_ptr(), t.len(), gate, q0, q1) })
+}
+
 /// The one-qubit gate that is h first, then g.
 pub fn gate_compose(g: u8, h: u8) -> Answer {
     answer(unsafe { raw::rc_gate_compose(g, h) })

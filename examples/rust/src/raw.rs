@@ -99,6 +99,7 @@ unsafe extern "C" {
     ) -> Reply;
     pub fn rc_on_qubits(gate: u8, q0: usize, q1: usize, dst: *mut u8, dst_len: usize) -> Reply;
     pub fn rc_on_qubit(gate: u8, q: usize, dst: *mut u8, dst_len: usize) -> Reply;
+    pub fn rc_play(t: *mut u8, t_len: usize, gate: u8, q0: usize, q1: usize) -> Reply;
     pub fn rc_gate_compose(g: u8, h: u8) -> Reply;
     pub fn rc_gate_inverse(g: u8) -> Reply;
     pub fn rc_from_clifford_rep(t: *const u8, t_len: usize) -> Reply;

@@ -22,6 +22,20 @@ fn a_bell_pair_is_shown() {
 }
 
 #[test]
+fn a_bell_pair_is_played_in_place() {
+    let mut pair = [0; tableau_length(2)];
+    identity(2, &mut pair).unwrap();
+    assert_eq!(play(&mut pair, H, 0, 0), Ok(0));
+    assert_eq!(play(&mut pair, CX, 0, 1), Ok(0));
+    assert_eq!(pair, bell());
+    let refused = |number, detail| Err(Refusal { number, detail });
+    assert_eq!(play(&mut pair, 38, 0, 1), refused(4, 0));
+    assert_eq!(play(&mut pair, CX, 0, 2), refused(5, 2));
+    assert_eq!(play(&mut pair, CX, 1, 1), refused(6, 1));
+    assert_eq!(pair, bell());
+}
+
+#[test]
 fn a_bell_pair_is_undone() {
     let (pair, mut back) = (bell(), [0; tableau_length(2)]);
     let (mut both, mut one) = (back, back);

@@ -3,6 +3,7 @@
 use crate::page::{Figure, Goal};
 use crate::plain;
 use crate::timing::least;
+use oracle::clifford::Clifford;
 use oracle::driver::records::{read_string, read_tableau, write_string, write_tableau};
 use oracle::vectors::Random;
 use renetcleat::{STRING_LENGTH, tableau_length};
@@ -18,6 +19,7 @@ pub fn all(random: &mut Random) -> Vec<Figure> {
     for width in [20, 64, 128] {
         figures.extend(of_tableaux(random, width, FULL));
     }
+    figures.push(play(random, 128));
     // The Rust's time goes by the letters that are not I, so a sparser tableau says something else.
     figures.extend(of_tableaux(random, 128, SPARSER));
     figures
@@ -123,6 +125,27 @@ fn compose(a: &[u8], b: &[u8]) -> Figure {
         ours: least(|| renetcleat::compose(a, b, &mut ours)),
         plain: least(|| plain::compose(a, b, &mut theirs)),
         goal: goal(a),
+    }
+}
+
+/// CX, its own inverse: after any even number of calls the record is as before.
+fn play(random: &mut Random, width: usize) -> Figure {
+    let record = valid_tableau(random, width, FULL);
+    let (gate, q0, q1) = (Clifford::CX, width / 3, width - 1);
+    let tableau = read_tableau(&record).unwrap();
+    let (mut ours, mut theirs) = (record.clone(), record.clone());
+    plain::prepare_gates();
+    renetcleat::play(&mut ours, gate as u8, q0, q1).unwrap();
+    plain::play(&mut theirs, gate as u8, q0, q1);
+    let step = || gate.on_qubits(q0, q1).compose(&tableau);
+    assert!(ours == theirs && write_tableau(&step()).as_ref() == Some(&ours));
+    Figure {
+        call: "play",
+        size: size(&record),
+        rust: least(step),
+        ours: least(|| renetcleat::play(&mut ours, gate as u8, q0, q1)),
+        plain: least(|| plain::play(&mut theirs, gate as u8, q0, q1)),
+        goal: Goal::Faster,
     }
 }
 

@@ -116,7 +116,8 @@ void plain_gate(unsigned gate, const uint8_t *tableau) {
     }
 }
 
-static void play(const uint8_t *gate, uint8_t *dst, size_t n) {
+/* A gate and its qubits, on every row of a tableau of width n. */
+void plain_play(const uint8_t *gate, uint8_t *dst, size_t n) {
     uint8_t *end = dst + 1 + 2 * n * (n + 1);
     size_t q0 = 1 + gate[1], q1 = 1 + gate[2];
     if (gate[0] < ONE_QUBIT_GATES) {
@@ -148,7 +149,7 @@ size_t plain_run(const uint8_t *list, uint8_t *dst) {
     }
     for (size_t at = list[4] + 256u * list[5]; at != 0; steps++) {
         const uint8_t *gate = list + 6 * at;
-        play(gate, dst, n);
+        plain_play(gate, dst, n);
         at = gate[4] + 256u * gate[5];
     }
     return steps;

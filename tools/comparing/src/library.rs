@@ -124,6 +124,7 @@ fn reply(call: &Call, b1: &mut Lent, b2: &mut Lent, d: &mut Lent) -> Reply {
             "single_qubit_clifford" => raw::rc_single_qubit_clifford(size(n1), size(n2), pd, ld),
             "on_qubits" => raw::rc_on_qubits(byte(n1), size(n2), size(n3), pd, ld),
             "on_qubit" => raw::rc_on_qubit(byte(n1), size(n2), pd, ld),
+            "play" => raw::rc_play(pd, ld, byte(n1), size(n2), size(n3)),
             "gate_compose" => raw::rc_gate_compose(byte(n1), byte(n2)),
             "gate_inverse" => raw::rc_gate_inverse(byte(n1)),
             "from_clifford_rep" => raw::rc_from_clifford_rep(p1, l1),

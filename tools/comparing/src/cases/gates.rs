@@ -1,7 +1,7 @@
 //! Gates by number.
 
 use crate::comparison::Comparison;
-use crate::inputs::EDGES;
+use crate::inputs::{EDGES, bad_tableaux, damaged, valid_tableau};
 use oracle::driver::Call;
 
 const ONE_QUBIT_GATES: u64 = 24;
@@ -15,6 +15,7 @@ pub fn all(compare: &mut Comparison) {
     any_qubits(compare);
     one_qubit(compare);
     refused(compare);
+    playing(compare);
 }
 
 /// All 24 x 24 products, and every other pair of bytes.
@@ -84,5 +85,79 @@ fn refused(compare: &mut Comparison) {
     }
     for index in EDGES {
         compare.some_room(&Call::new("single_qubit_clifford").n(&[index, 1]));
+    }
+}
+
+/// Every gate on tableaux of every width up to 8, of some up to 64, and of the widest.
+fn playing(compare: &mut Comparison) {
+    for width in 0..=8 {
+        for _ in 0..40 {
+            play_on(compare, width, GATES as usize + 2);
+        }
+    }
+    for width in [9, 16, 31, 64] {
+        play_on(compare, width, GATES as usize);
+    }
+    for width in [127, 128] {
+        play_on(compare, width, 3);
+    }
+    play_on_bad_bytes(compare);
+}
+
+/// A valid tableau, one with a byte changed, one of any bytes, and refused ones; so many gates on each.
+fn play_on(compare: &mut Comparison, width: usize, gates: usize) {
+    let random = &mut compare.random;
+    let valid = valid_tableau(random, width, 4 * width);
+    let other = damaged(random, &valid);
+    let any = random.any_tableau(width);
+    let bad = bad_tableaux(random, &valid);
+    let first = random.below(GATES as usize + 2);
+    for turn in 0..gates {
+        let gate = ((first + turn) % (GATES as usize + 2)) as u64;
+        for record in [&valid, &other, &any] {
+            play_gate(compare, record, gate);
+        }
+    }
+    for record in &bad {
+        play_gate(compare, record, first as u64);
+    }
+}
+
+/// Qubits inside the width, the same one twice, and at and around the width and the limits.
+fn play_gate(compare: &mut Comparison, record: &[u8], gate: u64) {
+    let width = u64::from(record.first().copied().unwrap_or(0));
+    let random = &mut compare.random;
+    let q0 = random.below(width.max(1) as usize) as u64;
+    let q1 = random.below(width.max(1) as usize) as u64;
+    let edge = random.pick(&EDGES);
+    let pairs = [
+        (q0, q1),
+        (q1, q1),
+        (width.wrapping_sub(1), 0),
+        (width, q1),
+        (q0, width),
+        (width, width),
+        (width + 1, width),
+        (q0, edge),
+        (edge, q1),
+    ];
+    for (q0, q1) in pairs {
+        compare.case(&Call::new("play").d(record).n(&[gate, q0, q1]));
+    }
+}
+
+/// A byte above 3 at every offset of small records.
+fn play_on_bad_bytes(compare: &mut Comparison) {
+    for width in 1..=4 {
+        let good = valid_tableau(&mut compare.random, width, 8 * width);
+        for place in 1..good.len() {
+            for byte in [4, 255] {
+                let mut record = good.clone();
+                record[place] = byte;
+                for gate in [4, 24, 38] {
+                    play_gate(compare, &record, gate);
+                }
+            }
+        }
     }
 }

@@ -76,6 +76,7 @@ pub fn needs(call: &Call) -> Result<usize, Refusal> {
             qubit(n2).map(|()| tableau_length(n2 as usize + 1))
         }
         "on_qubits" => on_qubits(n1, n2, n3),
+        "play" => play(call),
         "gate_compose" => gate(n1, 23).and(gate(n2, 23)).map(|()| 0),
         "gate_inverse" => gate(n1, 37).map(|()| 0),
         "run" => list(&call.b1).map(tableau_length),
@@ -178,6 +179,19 @@ fn on_qubits(number: u64, q0: u64, q1: u64) -> Result<usize, Refusal> {
     qubit(q1)?;
     ask(q0 != q1, 6, q0)?;
     Ok(tableau_length(q0.max(q1) as usize + 1))
+}
+
+/// The tableau in the destination, the gate, and its qubits, which the width bounds.
+fn play(call: &Call) -> Result<usize, Refusal> {
+    let width = tableau(&call.d)? as u64;
+    let [number, q0, q1] = call.n;
+    gate(number, 37)?;
+    ask(q0 < width, 5, q0)?;
+    if number > 23 {
+        ask(q1 < width, 5, q1)?;
+        ask(q0 != q1, 6, q0)?;
+    }
+    Ok(call.d.len())
 }
 
 /// Width 1 for no letters.

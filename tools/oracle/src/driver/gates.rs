@@ -45,6 +45,14 @@ fn on_qubit(call: &Call) -> Option<Answer> {
     of_tableau(&gate_of(call.n[0], ONE_QUBIT_GATES)?.on_qubit(below(call.n[1], QUBITS)?))
 }
 
+/// The gate's tableau composed on the left of the destination.
+fn play(call: &Call) -> Option<Answer> {
+    let tableau = read_tableau(&call.d)?;
+    let gate = gate_of(call.n[0], GATES)?;
+    let (q0, q1) = qubits_of(gate, call.n[1], call.n[2], tableau.num_qubits())?;
+    of_tableau(&gate.on_qubits(q0, q1).compose(&tableau))
+}
+
 fn single_qubit_clifford(call: &Call) -> Option<Answer> {
     let index = below(call.n[0], ONE_QUBIT_GATES)?;
     of_tableau(&CliffordRep::single_qubit_cliffords(below(call.n[1], QUBITS)?)[index])
@@ -66,6 +74,7 @@ pub fn answer(call: &Call) -> Option<Option<Answer>> {
         "single_qubit_clifford" => single_qubit_clifford(call),
         "on_qubits" => on_qubits(call),
         "on_qubit" => on_qubit(call),
+        "play" => play(call),
         "gate_compose" => compose(call),
         "gate_inverse" => gate_of(call.n[0], GATES).map(|gate| of_gate(gate.inverse())),
         "from_clifford_rep" => from_clifford_rep(call),

@@ -11,6 +11,7 @@ pub fn fill(book: &mut Book) {
     one_qubit(book);
     two_qubits(book);
     naming(book, &mut Random::new(5));
+    playing(book, &mut Random::new(6));
 }
 
 fn by_number(book: &mut Book) {
@@ -57,6 +58,37 @@ fn naming(book: &mut Book, random: &mut Random) {
     for width in [0, 2, 3, 7] {
         book.add(Call::new("from_clifford_rep").b1(&random.any_tableau(width)));
         book.add(Call::new("from_clifford_rep").b1(&random.valid_tableau(width, width)));
+    }
+}
+
+fn playing(book: &mut Book, random: &mut Random) {
+    book.comment("Gates played on tableaux, valid and not; a second qubit of a one-qubit gate is not looked at.");
+    for gate in 0..38 {
+        for width in [2, 3] {
+            let record = random.any_tableau(width);
+            let q0 = random.below(width);
+            let q1 = (q0 + 1 + random.below(width - 1)) % width;
+            book.add(
+                Call::new("play")
+                    .d(&record)
+                    .n(&[gate, q0 as u64, q1 as u64]),
+            );
+        }
+    }
+    for (gate, second) in [(4, 0), (14, 1), (23, u64::MAX)] {
+        book.add(
+            Call::new("play")
+                .d(&random.valid_tableau(1, 3))
+                .n(&[gate, 0, second]),
+        );
+    }
+    book.comment("Wide ones, with few letters.");
+    for (gate, width, q0, q1) in [(24, 33, 32, 0), (30, 127, 0, 126), (36, 128, 127, 64)] {
+        book.add(
+            Call::new("play")
+                .d(&random.valid_tableau(width, 6))
+                .n(&[gate, q0, q1]),
+        );
     }
 }
 

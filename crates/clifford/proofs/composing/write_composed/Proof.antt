@@ -1,9 +1,9 @@
 -- `composing::write_composed` meets its contract, by the laws of `RowsTo`.
-use Rattle.clifford.proofs.RecordWriting.{compose-loops}
 use Prim.Native.Nat.{_*_, _-_}
+use native.Mathlib.Omega.{arith}
 use Rattle.clifford_group.specs.Tableau.{compose}
 use Rattle.clifford.specs.Layout.{rowOf, tableauOf}
-use Rattle.clifford.proofs.RecordWriting.{RowsTo}
+use Rattle.clifford.proofs.RecordWriting.{RowsTo, compose-loops}
 use Rattle.clifford.proofs.composing.write_composed.Statement.{statement}
 use Rattle.clifford.proofs.composing.write_composed.Tie as tie
 
@@ -20,5 +20,6 @@ write-composed-spec =
     Inv-loop μ-loop
     (λ c. search compose-loops) (λ c. search compose-loops) (λ c. search compose-loops) (λ c. search compose-loops)
     (λ c. search compose-loops) (λ c. search compose-loops) (λ c. search compose-loops) (λ c. search compose-loops)
+    (λ c κs. record { first = search compose-loops; second = search compose-loops; wide = omega arith; own = search compose-loops; room = search compose-loops })
     (λ c. search compose-loops) (λ c. search compose-loops) (λ c. search compose-loops) (λ c. search compose-loops)
-    (λ c. search compose-loops) (λ c. search compose-loops))
+    (λ c. search compose-loops))

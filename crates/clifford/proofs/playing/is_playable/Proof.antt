@@ -10,6 +10,7 @@ is-playable-spec =
     (λ c κs. search playables)
     (λ c. search playables)
     (λ c. search playables)
+    (λ c κs. search playables)
     (λ c. search playables)
     (λ c. search playables)
     (λ c κs. search playables)
