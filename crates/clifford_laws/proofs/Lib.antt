@@ -3,3 +3,4 @@ pub mod WayBackSteps
 pub mod PlayedGates
 pub mod GateRecords
 pub mod Readings
+pub mod DisplayLengths
