@@ -88,7 +88,7 @@ text-fits o = record { fits = omega (arith, o .place, o .short) }
 pub ruleset text-puts = (text-put, text-fits, needs)
 
 -- ---- a number
-decimal-short : (n : ℕ) → n ≤ 128 → length (decimal n) ≤ 3
+pub decimal-short : (n : ℕ) → n ≤ 128 → length (decimal n) ≤ 3
 decimal-short n h = elim (decLt n 10) [
   | yes l ↦ omega (arith, ap length (decimal-one n l))
   | no l ↦ elim (decLt n 100) [
@@ -388,25 +388,6 @@ module _ {t d e f g : List ℕ} {n h a i k : ℕ} (x : Stored 0 (headerText n) d
       whole-text (stored-as (ap₂ (λ (j : ℕ) (v : ℕ). headerText j ++ (10 ∷ linesText (tableauOf t) v)) en end) (stored-join x (stored-join y (m .text))))
 
 pub ruleset line-loops = (wide-narrow, lines-room, lines-none, lines-fits, lines-next, lines-index, lines-place, lines-more, lines-same, lines-all, stored-same, needs)
-
--- a display text has less than 140,000 bytes
-lines-short : (t : Tableau) → t .width ≤ 128 → (k : ℕ) → k ≤ 2 * t .width → length (linesText t k) ≤ k * 543
-unfolding linesText joined
-lines-short t h zero l = omega arith
-lines-short t h (suc k) l =
-    let w = t .width in
-    omega (
-      arith,
-      length-append (joined k (λ i. lineText t (displayRow w i))) (lineText t (displayRow w k)),
-      lines-short t h k (omega arith),
-      line-short t (displayRow w k) (record { narrow = h; own = order-below w k (omega arith) }),
-    )
-
-pub display-short : (t : Tableau) → t .width ≤ 128 → length (displayText t) < 140000
-unfolding displayText
-display-short t h =
-    let w = t .width in
-    omega (arith, length-append (headerText w) (10 ∷ linesText t (2 * w)), header-short w h, lines-short t h (2 * w) (omega arith))
 
 pub text-counted : {w d e : List ℕ} {n : ℕ} → TextWritten w d e n → n ≡ length w
 text-counted a = a .count

@@ -4,3 +4,4 @@ pub mod PlayedGates
 pub mod GateRecords
 pub mod Readings
 pub mod Witnesses
+pub mod DisplayLengths

@@ -17,10 +17,11 @@ use Rattle.pauli.specs.SparseText.{decimal}
 use Rattle.pauli.specs.TextWriting.{Stored, TextWritten}
 use Rattle.pauli.proofs.Answers.{count-done, count-not}
 use Rattle.pauli.proofs.Asking.{room-is}
-use Rattle.pauli.proofs.Decimals.{decimal-one, decimal-two, decimal-three, decimal-more}
+use Rattle.pauli.proofs.Decimals.{decimal-one, decimal-more}
 use Rattle.pauli.proofs.StringTexts.{copied-whole, text-same}
 use Rattle.pauli.proofs.TextWrites.{stored-join, stored-as, stored-same, whole-text}
 use Rattle.clifford.specs.Display.{TextPlace, NumberPlace, newline}
+use Rattle.clifford.proofs.Displays.{decimal-short}
 use Rattle.gate_list.specs.Reports.{refusedText, atText, refusalText, refusalLine, LineNumbers, DetailPlace, Listed}
 
 -- ---- a numeral by its hundreds and two digits
@@ -33,18 +34,9 @@ decimal-hundreds n h =
     ∙ ap₂ (λ (x y : List ℕ). x ++ y) (decimal-more (n / 10) (omega arith) ∙ ap₂ (λ (x y : List ℕ). x ++ y) (ap decimal hundreds) (sym tens)) (sym ones)
     ∙ append-assoc (decimal (n / 100)) (decimal (n / 10 % 10)) (decimal (n % 10))
 
-short : (n : ℕ) → n ≤ 128 → length (decimal n) ≤ 3
-short n h = elim (decLt n 10) [
-  | yes l ↦ omega (arith, ap length (decimal-one n l))
-  | no l ↦ elim (decLt n 100) [
-    | yes m ↦ omega (arith, ap length (decimal-two n (omega arith) m))
-    | no m ↦ omega (arith, ap length (decimal-three n (omega arith) (omega arith)))
-  ]
-]
-
 pub detail-short : (n : ℕ) → n ≤ 4095 → length (decimal n) ≤ 9
 detail-short n h = elim (decLt n 100) [
-  | yes l ↦ omega (arith, short n (omega arith))
+  | yes l ↦ omega (arith, decimal-short n (omega arith))
   | no l ↦
       let rest = decimal (n / 10 % 10) ++ decimal (n % 10) in
       omega (
@@ -52,9 +44,9 @@ detail-short n h = elim (decLt n 100) [
         ap length (decimal-hundreds n (omega arith)),
         length-append (decimal (n / 100)) rest,
         length-append (decimal (n / 10 % 10)) (decimal (n % 10)),
-        short (n / 100) (omega arith),
-        short (n / 10 % 10) (omega arith),
-        short (n % 10) (omega arith),
+        decimal-short (n / 100) (omega arith),
+        decimal-short (n / 10 % 10) (omega arith),
+        decimal-short (n % 10) (omega arith),
       )
 ]
 
@@ -62,7 +54,7 @@ pub digit-tens : {k : ℕ} (n : ℕ) → k ≤ 1000 → NumberPlace k (n / 10 % 
 digit-tens n h = record { place = omega arith; small = omega arith }
 
 pub digit-ones : {k a : ℕ} (n : ℕ) {d e : List ℕ} → Stored k (decimal (n / 10 % 10)) d e a → k ≤ 1000 → NumberPlace a (n % 10)
-digit-ones n x h = record { place = omega (arith, x .place, short (n / 10 % 10) (omega arith)); small = omega arith }
+digit-ones n x h = record { place = omega (arith, x .place, decimal-short (n / 10 % 10) (omega arith)); small = omega arith }
 
 pub ruleset two-digits = (digit-tens, digit-ones, stored-join, stored-same, needs)
 
@@ -75,7 +67,7 @@ module _ {k n : ℕ} (o : DetailPlace k n) where
 
   module _ {d e : List ℕ} {a : ℕ} (x : Stored k (decimal (n / 100)) d e a) where
     pub detail-rest : a ≤ 1000
-    detail-rest = omega (arith, o .place, x .place, short (n / 100) (omega (arith, o .detail)))
+    detail-rest = omega (arith, o .place, x .place, decimal-short (n / 100) (omega (arith, o .detail)))
 
     pub detail-made : {g : List ℕ} {r : ℕ} → 100 ≤ n → Stored a (decimal (n / 10 % 10) ++ decimal (n % 10)) e g r → Stored k (decimal n) d g r
     detail-made h z = stored-as (sym (decimal-hundreds n h)) (stored-join x z)
@@ -93,7 +85,7 @@ module _ {n m : ℕ} (o : LineNumbers n m) where
 
     module _ {f : List ℕ} {b : ℕ} (y : Stored a (decimal n) e f b) where
       at-place : b ≤ 11
-      at-place = omega (arith, x .place, y .place, short n (omega (arith, o .number)))
+      at-place = omega (arith, x .place, y .place, decimal-short n (omega (arith, o .number)))
 
       pub line-at : TextPlace b atText
       line-at = record { place = omega (arith, at-place); short = omega arith }
@@ -136,7 +128,7 @@ number-small (Link at) = omega arith
 number-small (Loop at) = omega arith
 
 pub number-short : (r : Refusal) → length (decimal (refusalNumber r)) ≤ 3
-number-short r = short (refusalNumber r) (omega (arith, number-small r))
+number-short r = decimal-short (refusalNumber r) (omega (arith, number-small r))
 
 module _ (r : Refusal) {n m : ℕ} (en : n ≡ refusalNumber r) (em : m ≡ refusalDetail r) where
   pub refusal-numbers : Listed r → LineNumbers n m

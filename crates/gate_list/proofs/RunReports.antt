@@ -1,7 +1,7 @@
 -- What is written of a run: the display text of its record, or the text of the refusal.
 use mathlib.Core.Path.{_≡_, refl, sym, ap, _∙_, subst}
 use mathlib.Core.List.{List, [], _∷_, _++_}
-use Prim.Native.Nat.{ℕ, min, _-_, _<_, _≤_}
+use Prim.Native.Nat.{ℕ, min, _-_, _≤_}
 use native.Mathlib.Omega.{arith}
 use lib.ListN.{length, take, drop, length-append}
 use lib.Seq.{take-at}
@@ -15,10 +15,10 @@ use Rattle.pauli.specs.Questions.{roomQuestion}
 use Rattle.pauli.specs.SparseText.{decimal}
 use Rattle.pauli.proofs.Asking.{passed, has-room}
 use Rattle.clifford.specs.Display.{textOfTableau, displayAnswer, newline}
-use Rattle.clifford.specs.Layout.{recordLength, tableauOf}
-use Rattle.clifford.proofs.Displays.{display-short}
+use Rattle.clifford.specs.Layout.{recordLength}
 use Rattle.clifford.proofs.TableauAsking.{formed-good}
-use Rattle.clifford.proofs.TableauRecords.{record-small, width-of}
+use Rattle.clifford.proofs.TableauRecords.{record-small}
+use Rattle.clifford_laws.proofs.DisplayLengths.{valid-display-most}
 use Rattle.gate_list.specs.Lists.{listWidth}
 use Rattle.gate_list.specs.ListQuestions.{listQuestions}
 use Rattle.gate_list.specs.Reading.{ByteSized}
@@ -27,7 +27,7 @@ use Rattle.gate_list.specs.Runs.{runRecord, RunRoom, RunWritten}
 use Rattle.gate_list.proofs.AdmittedChains.{admitted-narrow}
 use Rattle.gate_list.proofs.ListRefusals.{refusal-listed}
 use Rattle.gate_list.proofs.RefusalTexts.{detail-short, number-short}
-use Rattle.gate_list.proofs.RunTableaux.{run-good, run-width, run-length}
+use Rattle.gate_list.proofs.RunTableaux.{run-good, run-valid, run-length}
 use Rattle.gate_list.proofs.RunAnswers.{own-size, run-same}
 
 -- ---- the run shown
@@ -79,22 +79,22 @@ module _ (l : List ℕ) {q : Outcome} (e : q ≡ listQuestions l) where
 
 pub ruleset reports = (report-shows, report-listed, report-run, report-refusal, needs)
 
--- ---- its length: 140,000 bytes are room for any report
-refusal-short : (r : Refusal) → Listed r → length (refusalText r) < 140000
+-- ---- its length: that of a valid tableau's text at most, and a refusal's is short
+refusal-short : (r : Refusal) → Listed r → length (refusalText r) ≤ 138557
 unfolding refusalText
 refusal-short r o =
     let n = decimal (refusalNumber r) in
     let d = decimal (refusalDetail r) in
     omega (arith, length-append n (atText ++ (d ++ (newline ∷ []))), length-append d (newline ∷ []), number-short r, detail-short (refusalDetail r) (o .detail))
 
-pub report-short : (l : List ℕ) → length (reportText l) < 140000
-unfolding reportText textAfter textOfTableau
-report-short l = by (listQuestions l) refl
+pub report-most : (l : List ℕ) → length (reportText l) ≤ 138557
+unfolding reportText textAfter
+report-most l = by (listQuestions l) refl
   where
-    by : (q : Outcome) → listQuestions l ≡ q → length (textAfter q (textOfTableau (runRecord l))) < 140000
-    by Done e = display-short (tableauOf (runRecord l)) (omega (arith, width-of (runRecord l), run-width l e, admitted-narrow l e))
+    by : (q : Outcome) → listQuestions l ≡ q → length (textAfter q (textOfTableau (runRecord l))) ≤ 138557
+    by Done e = valid-display-most (runRecord l) (formed-good (runRecord l) (run-good l e .formed)) (run-valid l e)
     by (Refused r) e = refusal-short r (refusal-listed l e)
 
-pub report-done : (l : List ℕ) (room : ℕ) → 140000 ≤ room → reportAnswer l room ≡ Done
+pub report-done : (l : List ℕ) (room : ℕ) → 138557 ≤ room → reportAnswer l room ≡ Done
 unfolding reportAnswer
-report-done l room h = sym (has-room (length (reportText l)) room (omega (arith, report-short l)))
+report-done l room h = sym (has-room (length (reportText l)) room (omega (arith, report-most l)))
