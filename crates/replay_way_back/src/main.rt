@@ -1,7 +1,9 @@
 // Plays lists of calls `compose(a, record)`, refused ones among them, and checks the way back on bytes after every call. A line
 // `identity` starts a list of the width of its first number, `mark` makes the record as it stands the one to come back to; the second
-// number of each line is the length of a record of that width.
+// number of both is the width of the identity that the product of the later steps starts from. `send` sends strings through a step's
+// own tableau, and the next `send` has its answers; `back` sends strings through the record that is brought back.
 use clifford::clifford_rep;
+use clifford::questions;
 use pauli::refusal;
 use pauli::rows;
 use vectors::Case;
@@ -21,14 +23,32 @@ fn is_done(r: refusal::Outcome) -> bool {
     false
 }
 
+fn wide(x: u8) -> usize {
+    x as usize
+}
+
+// The width of the record at the front of some bytes.
+fn width(t: &[u8]) -> usize {
+    if t.len() == 0 {
+        return 0;
+    }
+    wide(t[0])
+}
+
+// The record at the front of some bytes; all of them where they are too few.
+fn record_in(t: &[u8]) -> &[u8] {
+    let len = questions::record_size(width(t));
+    if t.len() < len {
+        return t;
+    }
+    &t[0..len]
+}
+
 fn is_composed_in(a: &[u8], b: &[u8], record: &[u8], out: &mut [u8]) -> bool {
-    if out.len() < record.len() {
+    if !is_done(clifford_rep::compose(a, b, out)) {
         return false;
     }
-    if !is_done(clifford_rep::compose(a, b, &mut out[0..record.len()])) {
-        return false;
-    }
-    vectors::same(&out[0..record.len()], record)
+    vectors::same(record_in(out), record)
 }
 
 // Whether a composed with b is this record.
@@ -37,24 +57,21 @@ fn is_composed(a: &[u8], b: &[u8], record: &[u8]) -> bool {
     is_composed_in(a, b, record, &mut out)
 }
 
-fn is_two_sided_in(n: usize, back: &[u8], product: &[u8], one: &mut [u8]) -> bool {
-    if one.len() < product.len() {
+fn is_two_sided_in(back: &[u8], product: &[u8], one: &mut [u8]) -> bool {
+    if !is_done(clifford_rep::identity(width(product), one)) {
         return false;
     }
-    if !is_done(clifford_rep::identity(n, &mut one[0..product.len()])) {
-        return false;
-    }
-    let due = &one[0..product.len()];
+    let due = record_in(one);
     if !is_composed(back, product, due) {
         return false;
     }
     is_composed(product, back, due)
 }
 
-// Whether the inverse undoes the product on both sides.
-fn is_two_sided(n: usize, back: &[u8], product: &[u8]) -> bool {
+// Whether the inverse undoes the product on both sides, to the identity of the product's width.
+fn is_two_sided(back: &[u8], product: &[u8]) -> bool {
     let mut one = vectors::field_room();
-    is_two_sided_in(n, back, product, &mut one)
+    is_two_sided_in(back, product, &mut one)
 }
 
 fn is_valid(t: &[u8]) -> bool {
@@ -65,68 +82,54 @@ fn is_valid(t: &[u8]) -> bool {
     false
 }
 
-// Whether a string sent through the record and then back goes as through the earlier record. Phase -i and every letter Y: each row
-// of each tableau has a part in it.
-fn are_strings_back(back: &[u8], now: &[u8], then: &[u8]) -> bool {
-    let sent = [3u8; 129];
-    let mut forth = [0u8; 129];
-    let mut there = [0u8; 129];
-    let mut due = [0u8; 129];
-    if !is_done(clifford_rep::apply(now, &sent, &mut forth)) {
-        return false;
-    }
-    if !is_done(clifford_rep::apply(back, &forth, &mut there)) {
-        return false;
-    }
-    if !is_done(clifford_rep::apply(then, &sent, &mut due)) {
-        return false;
-    }
-    vectors::same(&there, &due)
-}
-
-// Whether the inverse of the product brings the record now back to the record then.
-fn is_back(n: usize, then: &[u8], now: &[u8], product: &[u8]) -> bool {
-    let mut room = vectors::field_room();
-    if room.len() < product.len() {
-        return false;
-    }
-    let back = &mut room[0..product.len()];
-    if !is_done(clifford_rep::inverse(product, back)) {
-        return false;
-    }
+fn is_back_by(back: &[u8], then: &[u8], now: &[u8], product: &[u8]) -> bool {
     if !is_composed(back, now, then) {
         return false;
     }
-    if !is_two_sided(n, back, product) {
+    if !is_two_sided(back, product) {
         return false;
     }
-    if !is_valid(back) {
+    is_valid(back)
+}
+
+// Whether the inverse of the product brings the record now back to the record then.
+fn is_back(then: &[u8], now: &[u8], product: &[u8]) -> bool {
+    let mut back = vectors::field_room();
+    if !is_done(clifford_rep::inverse(product, &mut back)) {
         return false;
     }
-    are_strings_back(back, now, then)
+    is_back_by(record_in(&back), then, now, product)
 }
 
 // The record as it stands is the one to come back to; no step has been made from it.
-fn mark(n: usize, then: &mut [u8], now: &[u8], product: &mut [u8]) -> Reply {
+fn mark(w: usize, then: &mut [u8], now: &[u8], product: &mut [u8]) -> Reply {
     rows::copy(now, then);
-    told(clifford_rep::identity(n, product))
+    told(clifford_rep::identity(w, product))
 }
 
-fn extend_in(a: &[u8], product: &mut [u8], out: &mut [u8]) -> bool {
-    if out.len() < product.len() {
-        return false;
-    }
-    if !is_done(clifford_rep::compose(a, product, &mut out[0..product.len()])) {
-        return false;
-    }
-    rows::copy(out, product);
-    true
+// The record of a list at its start.
+fn start(
+    n: usize,
+    w: usize,
+    d: &mut [u8],
+    then: &mut [u8],
+    now: &mut [u8],
+    product: &mut [u8],
+) -> Reply {
+    let answer = clifford_rep::identity(n, d);
+    rows::copy(d, now);
+    mark(w, then, now, product);
+    told(answer)
 }
 
 // One more step on the left of the product.
 fn extend(a: &[u8], product: &mut [u8]) -> bool {
     let mut out = vectors::field_room();
-    extend_in(a, product, &mut out)
+    if !is_done(clifford_rep::compose(a, record_in(product), &mut out)) {
+        return false;
+    }
+    rows::copy(&out, product);
+    true
 }
 
 // What the call wrote is the record now.
@@ -140,19 +143,55 @@ fn step(a: &[u8], wrote: &[u8], now: &mut [u8], product: &mut [u8]) -> Reply {
 
 // A call on the record: a step where it is accepted.
 fn compose(a: &[u8], b: &[u8], d: &mut [u8], now: &mut [u8], product: &mut [u8]) -> Reply {
-    if !vectors::same(b, now) {
+    if !vectors::same(b, record_in(now)) {
         return Reply::Unknown;
     }
-    let answer = clifford_rep::compose(a, now, d);
+    let answer = clifford_rep::compose(a, record_in(now), d);
     if let refusal::Outcome::Done = answer {
         return step(a, d, now, product);
     }
     told(answer)
 }
 
+// Sends each string through a tableau.
+fn send(t: &[u8], strings: &[u8], d: &mut [u8]) -> Reply {
+    if d.len() != strings.len() {
+        return Reply::Unknown;
+    }
+    let mut at = 0;
+    while at < strings.len() {
+        if strings.len() - at < 129 {
+            return Reply::Unknown;
+        }
+        let end = at + 129;
+        if !is_done(clifford_rep::apply(t, &strings[at..end], &mut d[at..end])) {
+            return Reply::Unknown;
+        }
+        at = end;
+    }
+    Reply::Of(0, 0)
+}
+
+fn send_by(back: &[u8], now: &[u8], strings: &[u8], d: &mut [u8]) -> Reply {
+    let mut brought = vectors::field_room();
+    if !is_done(clifford_rep::compose(back, now, &mut brought)) {
+        return Reply::Unknown;
+    }
+    send(record_in(&brought), strings, d)
+}
+
+// Sends each string through the record that the inverse of the product brings back.
+fn send_back(now: &[u8], product: &[u8], strings: &[u8], d: &mut [u8]) -> Reply {
+    let mut back = vectors::field_room();
+    if !is_done(clifford_rep::inverse(product, &mut back)) {
+        return Reply::Unknown;
+    }
+    send_by(record_in(&back), now, strings, d)
+}
+
 fn call(
     line: &[u8],
-    n: usize,
+    case: Case,
     a: &[u8],
     b: &[u8],
     d: &mut [u8],
@@ -163,72 +202,27 @@ fn call(
     if vectors::is_named(line, b"compose") {
         return compose(a, b, d, now, product);
     }
+    if vectors::is_named(line, b"send") {
+        return send(a, b, d);
+    }
+    if vectors::is_named(line, b"back") {
+        return send_back(record_in(now), record_in(product), b, d);
+    }
     if vectors::is_named(line, b"mark") {
-        return mark(n, then, now, product);
+        return mark(case.n2 as usize, then, now, product);
     }
     if vectors::is_named(line, b"identity") {
-        let answer = clifford_rep::identity(n, d);
-        rows::copy(d, now);
-        mark(n, then, now, product);
-        return told(answer);
+        return start(case.n1 as usize, case.n2 as usize, d, then, now, product);
     }
     Reply::Unknown
 }
 
 // The reply as it is, where the way back holds after the call.
-fn held(reply: Reply, n: usize, then: &[u8], now: &[u8], product: &[u8]) -> Reply {
-    if is_back(n, then, now, product) {
+fn held(reply: Reply, then: &[u8], now: &[u8], product: &[u8]) -> Reply {
+    if is_back(record_in(then), record_in(now), record_in(product)) {
         return reply;
     }
     Reply::Unknown
-}
-
-// Plays one line on the records of its list.
-fn play(
-    line: &[u8],
-    n: usize,
-    a: &[u8],
-    b: &[u8],
-    d: &mut [u8],
-    then: &mut [u8],
-    now: &mut [u8],
-    product: &mut [u8],
-) -> Reply {
-    let reply = call(line, n, a, b, d, then, now, product);
-    held(reply, n, then, now, product)
-}
-
-// The records have the length that the line says.
-fn cut(
-    line: &[u8],
-    case: Case,
-    a: &[u8],
-    b: &[u8],
-    d: &mut [u8],
-    then: &mut [u8],
-    now: &mut [u8],
-    product: &mut [u8],
-) -> Reply {
-    let len = case.n2 as usize;
-    if then.len() < len {
-        return Reply::Unknown;
-    }
-    if now.len() < len {
-        return Reply::Unknown;
-    }
-    if product.len() < len {
-        return Reply::Unknown;
-    }
-    play(
-        line,
-        case.n1 as usize,
-        a,
-        b,
-        d,
-        &mut then[0..len],
-        &mut now[0..len],
-        &mut product[0..len],
-    )
 }
 
 fn run_in(
@@ -246,7 +240,7 @@ fn run_in(
     let b_len = case.b_len;
     let d_len = case.d_len;
     let e_len = case.e_len;
-    let reply = cut(
+    let reply = call(
         line,
         case,
         &a[0..a_len],
@@ -256,6 +250,7 @@ fn run_in(
         now,
         product,
     );
+    let reply = held(reply, then, now, product);
     vectors::compared(case, reply, &d[0..d_len], &e[0..e_len])
 }
 

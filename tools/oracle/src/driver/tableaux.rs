@@ -3,8 +3,8 @@
 use super::answer::{Answer, counted, written};
 use super::line::Call;
 use super::records::{
-    QUBITS, below, read_string, read_tableau, tableau_length, write_row, write_string,
-    write_tableau,
+    QUBITS, STRING_LENGTH, below, read_string, read_tableau, tableau_length, write_row,
+    write_string, write_tableau,
 };
 use crate::clifford_rep::CliffordRep;
 
@@ -61,6 +61,16 @@ fn apply(call: &Call) -> Option<Answer> {
     Some(written(write_string(&image)?))
 }
 
+/// `apply` of each string in turn.
+fn send(call: &Call) -> Option<Answer> {
+    let tableau = read_tableau(&call.b1)?;
+    let images = call.b2.chunks(STRING_LENGTH).map(|string| {
+        let image = tableau.apply(&read_string(string)?);
+        write_string(&image)
+    });
+    Some(written(images.collect::<Option<Vec<_>>>()?.concat()))
+}
+
 fn compose(call: &Call) -> Option<Answer> {
     of_tableau(&read_tableau(&call.b1)?.compose(&read_tableau(&call.b2)?))
 }
@@ -104,6 +114,7 @@ pub fn answer(call: &Call) -> Option<Option<Answer>> {
         "set_x_image" => set_image(call, Half::X),
         "set_z_image" => set_image(call, Half::Z),
         "apply" => apply(call),
+        "send" => send(call),
         "compose" => compose(call),
         "compose_each" => compose_each(call),
         "extended_to" => extended_to(call),

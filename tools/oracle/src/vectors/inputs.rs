@@ -42,6 +42,14 @@ impl Random {
         record
     }
 
+    /// Any letters below the width, and one letter on all other qubits: its line is short.
+    pub fn string_on(&mut self, phase: u8, width: usize) -> Vec<u8> {
+        let mut record = vec![phase];
+        record.extend((0..width).map(|_| self.below(4) as u8));
+        record.resize(STRING_LENGTH, self.below(4) as u8);
+        record
+    }
+
     /// `count` letters other than I, at random qubits (fewer where a qubit comes twice).
     pub fn sparse_string(&mut self, phase: u8, count: usize) -> Vec<u8> {
         let letters: Vec<(usize, u8)> = (0..count)

@@ -59,9 +59,9 @@ impl Book {
         self.write(call, &Answer::Refused(number, detail));
     }
 
-    /// A line that calls nothing.
-    pub fn add_marked(&mut self, call: &Call) {
-        self.write(call, &Answer::Value(0));
+    /// A line that is no call of the Rust, with what it should give.
+    pub fn add_due(&mut self, call: &Call, due: &Answer) {
+        self.write(call, due);
     }
 
     fn write(&mut self, call: &Call, answer: &Answer) {

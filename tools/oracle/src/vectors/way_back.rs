@@ -3,8 +3,14 @@
 use super::Book;
 use super::inputs::{Random, room};
 use crate::clifford_rep::CliffordRep;
+use crate::driver::answer::{Answer, written};
 use crate::driver::line::Call;
-use crate::driver::records::{read_tableau, tableau_length, write_tableau};
+use crate::driver::records::{
+    read_string, read_tableau, tableau_length, write_string, write_tableau,
+};
+
+/// How many strings are sent through a list, each with a phase of its own.
+const STRINGS: u8 = 4;
 
 pub fn fill(book: &mut Book) {
     let random = &mut Random::new(6);
@@ -25,44 +31,71 @@ pub fn fill(book: &mut Book) {
             })
             .collect();
         for mark in 0..=steps {
-            play(book, random, width, &tableaux, mark);
+            let products = match width {
+                0 | 128 => vec![width / 2],
+                _ => vec![width, random.below(width)],
+            };
+            for product in products {
+                play(book, random, width, product, &tableaux, mark);
+            }
         }
     }
 }
 
-/// The list, with the record after `mark` steps as the one to come back to.
-fn play(book: &mut Book, random: &mut Random, width: usize, tableaux: &[Vec<u8>], mark: usize) {
+/// The list, with the record after `mark` steps as the one to come back to. The product of the later steps starts from the identity
+/// of width `product`.
+fn play(
+    book: &mut Book,
+    random: &mut Random,
+    width: usize,
+    product: usize,
+    tableaux: &[Vec<u8>],
+    mark: usize,
+) {
     let length = tableau_length(width);
-    let call = |name: &str| Call::new(name).n(&[width as u64, length as u64]);
+    let start = |name: &str| Call::new(name).n(&[width as u64, product as u64]);
     book.comment(&format!(
-        "Width {width}, back to step {mark} of {}.",
+        "Width {width}, back to step {mark} of {}, by a product from width {product}.",
         tableaux.len()
     ));
-    book.add(call("identity").d(&room(length, 0)));
+    book.add(start("identity").d(&room(length, 0)));
     let mut record = write_tableau(&CliffordRep::identity(width)).unwrap();
+    let strings: Vec<Vec<u8>> = (0..STRINGS)
+        .map(|phase| random.string_on(phase, width))
+        .collect();
+    let mut sent = strings.clone();
     for (step, tableau) in tableaux.iter().enumerate() {
         if step == mark {
-            book.add_marked(&call("mark"));
+            book.add_due(&start("mark"), &Answer::Value(0));
         }
-        let on_record = call("compose").b2(&record);
+        let on_record = Call::new("compose").b2(&record);
         refused(book, random, &on_record, tableau, length);
         book.add(on_record.clone().b1(tableau).d(&room(length, step % 3)));
-        record = write_tableau(
-            &read_tableau(tableau)
-                .unwrap()
-                .compose(&read_tableau(&record).unwrap()),
-        )
-        .unwrap();
+        let step_tableau = read_tableau(tableau).unwrap();
+        record = write_tableau(&step_tableau.compose(&read_tableau(&record).unwrap())).unwrap();
+        if step < mark {
+            let call = Call::new("send").b1(tableau).b2(&sent.concat());
+            book.add(call.d(&room(sent.concat().len(), 0)));
+            for string in &mut sent {
+                let image = step_tableau.apply(&read_string(string).unwrap());
+                *string = write_string(&image).unwrap();
+            }
+        }
     }
     if mark == tableaux.len() {
-        book.add_marked(&call("mark"));
+        book.add_due(&start("mark"), &Answer::Value(0));
     }
     refused(
         book,
         random,
-        &call("compose").b2(&record),
+        &Call::new("compose").b2(&record),
         &tableaux[0],
         length,
+    );
+    let back = Call::new("back").b2(&strings.concat());
+    book.add_due(
+        &back.d(&room(sent.concat().len(), 0)),
+        &written(sent.concat()),
     );
 }
 
