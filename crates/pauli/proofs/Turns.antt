@@ -9,7 +9,7 @@ use lib.Bits.{bitXor, bitAnd, and-le-l}
 use mir.Syntax.{w8}
 use mir.Val.{Fits}
 use borrow.Author.Needs.{needs}
-use Rattle.pauli_group.specs.Phase.{Phase, PlusOne, PlusI, MinusI, negate, turn, _·_}
+use Rattle.pauli_group.specs.Phase.{Phase, PlusOne, MinusI, negate, turn, _·_}
 use Rattle.pauli_group.specs.Letter.{Letter, letterProduct, letterPhase, letterMul, anticommute}
 use Rattle.pauli_group.specs.Papers.{power}
 use Rattle.pauli_group.proofs.Finite.{letters, phases, law2}
@@ -47,7 +47,7 @@ letter-xor = by-pairs (λ a b. bitXor (letterByte a) (letterByte b)) (λ a b. le
 abbrev turnsOf : ℕ → ℕ → ℕ → ℕ → ℕ → ℕ
 turnsOf c d e x y = forY c x + forY d y + forY e (bitXor x y) + bitAnd x (y + y)
 
--- they are every product's phase
+-- whether they are every product's phase
 abbrev pub turns-test : ℕ → ℕ → ℕ → Bool
 turns-test c d e = letters .all (λ a. letters .all (λ b. phases .same (power (turnsOf c d e (letterByte a) (letterByte b))) (letterPhase a b)))
 
