@@ -37,14 +37,14 @@ pub record TextReading : Type 0 where
   pub text : List ℕ
   pub answer : TextAnswer
 
-abbrev pub reading : Reader → List ℕ → TextAnswer → TextReading
-reading r t a = record { reader = r; text = t; answer = a }
+abbrev pub textReading : Reader → List ℕ → TextAnswer → TextReading
+textReading r t a = record { reader = r; text = t; answer = a }
 
 abbrev pub refuses : Reader → String → ℕ → ℕ → TextReading
-refuses r t n d = reading r (bytesOf t) (refusal n d)
+refuses r t n d = textReading r (bytesOf t) (refusal n d)
 
 abbrev pub reads : Reader → String → String → TextReading
-reads r t s = reading r (bytesOf t) (string (bytesOf s))
+reads r t s = textReading r (bytesOf t) (string (bytesOf s))
 
 unfoldable pub textReadings : List TextReading
 textReadings =
@@ -105,15 +105,15 @@ textReadings =
     refuses dense "+ XYZ" 9 1 ∷
     refuses sparse "- iX0" 9 2 ∷
     -- overflow is tested, digits are not counted
-    reading sparse (bytesOf "X" ++ replicate 400 48 ++ bytesOf "5") (string (bytesOf "+X5")) ∷
+    textReading sparse (bytesOf "X" ++ replicate 400 48 ++ bytesOf "5") (string (bytesOf "+X5")) ∷
     refuses sparse "X18446744073709551619" 11 1 ∷
     refuses sparse "X18446744073709551615" 13 1 ∷
     -- 8 is asked of the whole text first; offsets count before trimming
-    reading sparse (bytesOf "Q" ++ (128 ∷ [])) (refusal 8 1) ∷
-    reading dense (bytesOf "Q" ++ (128 ∷ [])) (refusal 8 1) ∷
+    textReading sparse (bytesOf "Q" ++ (128 ∷ [])) (refusal 8 1) ∷
+    textReading dense (bytesOf "Q" ++ (128 ∷ [])) (refusal 8 1) ∷
     refuses sparse " Q" 9 1 ∷
     refuses dense " Q" 9 1 ∷
     -- a dense letter's place is its qubit
-    reading dense (replicate 127 73 ++ bytesOf "XI1i") (string (bytesOf "+X127")) ∷
-    reading dense (replicate 128 73 ++ bytesOf "X") (refusal 13 128) ∷
+    textReading dense (replicate 127 73 ++ bytesOf "XI1i") (string (bytesOf "+X127")) ∷
+    textReading dense (replicate 128 73 ++ bytesOf "X") (refusal 13 128) ∷
     []
