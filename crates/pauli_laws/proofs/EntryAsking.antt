@@ -149,13 +149,13 @@ pub all-before : {n : ℕ} {f : ℕ → Bool} → ((k : ℕ) → k < n → f k �
 all-before h = none-left (record { within = omega arith; none = h }) (omega arith)
 
 module _ (b : List ℕ) where
-  letters-let-by : ((j : ℕ) → entryLetter b j ≤ 3) → Done ≡ entryLettersQuestion b
+  entry-letters-let-by : ((j : ℕ) → entryLetter b j ≤ 3) → Done ≡ entryLettersQuestion b
   unfolding firstBadEntry entryCount
-  letters-let-by h = letters-good b (all-before (λ j l. le-ltb 3 (entryLetter b j) (h j))) (omega arith)
+  entry-letters-let-by h = letters-good b (all-before (λ j l. le-ltb 3 (entryLetter b j) (h j))) (omega arith)
 
-  qubits-let-by : ((j : ℕ) → entryQubit b j < 128) → Done ≡ entryQubitsQuestion b
+  entry-qubits-let-by : ((j : ℕ) → entryQubit b j < 128) → Done ≡ entryQubitsQuestion b
   unfolding firstHighEntry entryCount qubits
-  qubits-let-by h = qubits-good b (all-before (λ j l. lt-leb 128 (entryQubit b j) (h j))) (omega arith)
+  entry-qubits-let-by h = qubits-good b (all-before (λ j l. lt-leb 128 (entryQubit b j) (h j))) (omega arith)
 
   once-let-by : ((q : ℕ) → occurrences b q ≤ 1) → Done ≡ duplicateQuestion b
   unfolding duplicateQuestion smallestDuplicate
@@ -166,7 +166,7 @@ unfolding withPhaseQuestions entryQuestions
 entries-asked {es} {p} {room} small once enough =
     let b : List ℕ = entryBytes es in
     let pairs : Done ≡ entryLettersQuestion b andThen entryQubitsQuestion b =
-    passed (letters-let-by b (letter-bytes es)) refl (qubits-let-by b (qubit-bytes once)) in
+    passed (entry-letters-let-by b (letter-bytes es)) refl (entry-qubits-let-by b (qubit-bytes once)) in
     passed (passed (byte-good small) refl (passed (entries-even b (even-bytes es)) refl pairs)) refl
     (passed (once-let-by b (once-named once)) refl (has-room 129 room enough))
 

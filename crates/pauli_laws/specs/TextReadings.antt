@@ -17,7 +17,7 @@ pub data Reader : Type 0 where
   dense : Reader
   either : Reader
 
--- the number and the detail of a refusal, or the sparse text of the record written
+-- the number and the detail of a refusal, or the sparse text of the record written, which tells the record (`record-reads`)
 pub data TextAnswer : Type 0 where
   refusal : ℕ → ℕ → TextAnswer
   string : List ℕ → TextAnswer
