@@ -63,10 +63,10 @@ sparse-is PlusI t h k = refl
 sparse-is MinusI t h k = refl
 
 -- ---- every byte is below 128
-abbrev Ascii : List ℕ → Type 0
+abbrev pub Ascii : List ℕ → Type 0
 Ascii t = Each (λ c. c < 128) t
 
-ascii-asked : (t : List ℕ) → Ascii t → asciiQuestion t ≡ Done
+pub ascii-asked : (t : List ℕ) → Ascii t → asciiQuestion t ≡ Done
 unfolding asciiQuestion firstNotAscii
 ascii-asked t a = sym (asked-yes (NotAscii _) (le-leb (length t) _ (omega (arith, all))))
   where

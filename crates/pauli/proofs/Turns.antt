@@ -9,7 +9,7 @@ use lib.Bits.{bitXor, bitAnd, and-le-l}
 use mir.Syntax.{w8}
 use mir.Val.{Fits}
 use borrow.Author.Needs.{needs}
-use Rattle.pauli_group.specs.Phase.{Phase, PlusOne, PlusI, MinusI, negate, turn, _·_}
+use Rattle.pauli_group.specs.Phase.{Phase, PlusOne, MinusI, negate, turn, _·_}
 use Rattle.pauli_group.specs.Letter.{Letter, letterProduct, letterPhase, letterMul, anticommute}
 use Rattle.pauli_group.specs.Papers.{power}
 use Rattle.pauli_group.proofs.Finite.{letters, phases, law2}
@@ -43,12 +43,13 @@ letter-xor : (a b : Letter) → bitXor (letterByte a) (letterByte b) ≡ letterB
 unfolding letterMul letterProduct letterByte
 letter-xor = by-pairs (λ a b. bitXor (letterByte a) (letterByte b)) (λ a b. letterByte (letterMul a b)) tt
 
-abbrev turnsOf : ℕ → ℕ → ℕ
-turnsOf x y = forY 1 x + forY 1 y + forY 3 (bitXor x y) + bitAnd x (y + y)
+-- the turns of a place, with c and d for the factors Y and e for a product Y
+abbrev turnsOf : ℕ → ℕ → ℕ → ℕ → ℕ → ℕ
+turnsOf c d e x y = forY c x + forY d y + forY e (bitXor x y) + bitAnd x (y + y)
 
-letter-turns : (a b : Letter) → power (turnsOf (letterByte a) (letterByte b)) ≡ letterPhase a b
-unfolding letterPhase letterProduct letterByte turn power forY
-letter-turns = law2 letters letters phases (λ a b. power (turnsOf (letterByte a) (letterByte b))) letterPhase tt
+-- whether they are every product's phase
+abbrev pub turns-test : ℕ → ℕ → ℕ → Bool
+turns-test c d e = letters .all (λ a. letters .all (λ b. phases .same (power (turnsOf c d e (letterByte a) (letterByte b))) (letterPhase a b)))
 
 abbrev crossing : ℕ → ℕ → ℕ
 crossing x y = bitXor (bitAnd x (y + y)) (bitAnd y (x + x)) / 2
@@ -89,12 +90,15 @@ y-high k (suc (suc (suc n))) h = record { is = refl; small = omega arith }
 pub letter-is : {a b x y : ℕ} → LetterByte a x → LetterByte b y → bitXor x y ≡ letterByte (letterMul (letterOf a) (letterOf b))
 letter-is {a} {b} f g = rw (f .is, g .is) (letter-xor (letterOf a) (letterOf b))
 
-pub turns-fit : {a x y k m n : ℕ} → LetterByte a x → ForY 1 x k → ForY 1 y m → ForY 3 (bitXor x y) n → Fits w8 (k + m + n + bitAnd x (y + y))
-turns-fit {x = x} {y = y} f p q r = record { fits = omega (arith, and-le-l x (y + y), f .small, p .small, q .small, r .small) }
+pub turns-fit : {a x y z c d e k m n : ℕ} → LetterByte a x → ForY c x k → ForY d y m → ForY e z n → c + d + e ≤ 252 → Fits w8 (k + m + n + bitAnd x (y + y))
+turns-fit {x = x} {y = y} f p q r h = record { fits = omega (arith, and-le-l x (y + y), f .small, p .small, q .small, r .small) }
 
-pub turns-are : {a b x y k m n : ℕ} → LetterByte a x → LetterByte b y → ForY 1 x k → ForY 1 y m → ForY 3 (bitXor x y) n
+pub turns-are : {a b x y c d e k m n : ℕ} → LetterByte a x → LetterByte b y → ForY c x k → ForY d y m → ForY e (bitXor x y) n → T (turns-test c d e)
     → LetterTurns a b (k + m + n + bitAnd x (y + y))
-turns-are {a} {b} f g p q r = record { is = rw (p .is, q .is, r .is, f .is, g .is) (letter-turns (letterOf a) (letterOf b)) }
+turns-are {a} {b} {c = c} {d = d} {e = e} f g p q r t = record {
+  is = rw (p .is, q .is, r .is, f .is, g .is)
+      (law2 letters letters phases (λ a b. power (turnsOf c d e (letterByte a) (letterByte b))) letterPhase t (letterOf a) (letterOf b));
+}
 
 pub crossing-is : {a b x y : ℕ} → LetterByte a x → LetterByte b y → crossing x y ≡ anticommuting a b
 unfolding anticommuting

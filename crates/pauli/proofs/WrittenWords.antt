@@ -108,7 +108,7 @@ pub record EntryWord (w : List ℕ) : Type 0 where
   pub sign : isSign (getD w 0 0) ≡ false
   pub small : isSmallI (getD w 0 0) ≡ false
 
-any-more : (a b : Bool) → b ≡ true → (a || b) ≡ true
+pub any-more : (a b : Bool) → b ≡ true → (a || b) ≡ true
 any-more true b h = refl
 any-more false b h = h
 

@@ -1,9 +1,15 @@
--- `rows::times_turns` meets its contract.
+-- `rows::times_turns` meets its contract: the turns are tried on the sixteen products.
+use Rattle.pauli_group.specs.Phase.{turn}
+use Rattle.pauli_group.specs.Letter.{letterProduct, letterPhase}
+use Rattle.pauli_group.specs.Papers.{power}
+use Rattle.pauli.specs.Layout.{letterByte}
+use Rattle.pauli.specs.Turns.{forY}
 use Rattle.pauli.proofs.Turns.{places}
 use Rattle.pauli.proofs.rows.times_turns.Statement.{statement}
 use Rattle.pauli.proofs.rows.times_turns.Tie as tie
 
 pub times-turns-spec : {M : Type 1} → statement M
+unfolding letterPhase letterProduct letterByte turn power forY
 times-turns-spec =
     tie.close
     (tie.spec

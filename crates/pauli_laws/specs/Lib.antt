@@ -1,0 +1,4 @@
+pub mod QuotedText
+pub mod EntryLists
+pub mod DenseTexts
+pub mod TextReadings
