@@ -12,7 +12,7 @@ use Rattle.pauli_group.specs.Phase.{Phase, PlusOne, MinusOne, PlusI, MinusI, is
 use Rattle.pauli_group.specs.Letter.{Letter, I, Y}
 use Rattle.pauli_group.specs.PauliString.{PauliString, qubits, Within}
 use Rattle.clifford_group.specs.Tableau.{Tableau, isValid, Proper}
-use Rattle.clifford_group.proofs.Rows.{ofX, ofZ}
+use Rattle.clifford_group.specs.Conjugation.{ofX, ofZ}
 use Rattle.clifford_group.proofs.Valid.{test-valid}
 use Rattle.pauli.specs.declared.refusal.Outcome.the-variants.{Done}
 use Rattle.pauli.specs.SparseText.{decimal, digitsTo, prefixText, entryWord, wordsAt, entryWords, joined, bodyText, sparseTextTo, sparseText}
