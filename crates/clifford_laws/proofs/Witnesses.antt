@@ -84,17 +84,18 @@ compositions = record {
   sz-next = same-is (composeRecord szRecord afterTwo) afterThree tt;
 }
 
-record Replies : Type 0 where
-  one : callAnswer (identityRecord 1) (call hRecord 6) ≡ Done
-  one-bad : callAnswer hRecord badCall ≡ Refused (BadByte 2)
-  one-short : callAnswer hRecord shortCall ≡ Refused Room
-  first : callAnswer (identityRecord 2) (call cxRecord 13) ≡ Done
-  short : callAnswer cxRecord shortCall ≡ Refused Room
-  second : callAnswer cxRecord (call hRecord 13) ≡ Done
-  bad : callAnswer afterTwo badCall ≡ Refused (BadByte 2)
-  third : callAnswer afterTwo (call szRecord 14) ≡ Done
+-- which calls are accepted, and with what the others are refused
+pub record Replies : Type 0 where
+  pub one : callAnswer (identityRecord 1) (call hRecord 6) ≡ Done
+  pub one-bad : callAnswer hRecord badCall ≡ Refused (BadByte 2)
+  pub one-short : callAnswer hRecord shortCall ≡ Refused Room
+  pub first : callAnswer (identityRecord 2) (call cxRecord 13) ≡ Done
+  pub short : callAnswer cxRecord shortCall ≡ Refused Room
+  pub second : callAnswer cxRecord (call hRecord 13) ≡ Done
+  pub bad : callAnswer afterTwo badCall ≡ Refused (BadByte 2)
+  pub third : callAnswer afterTwo (call szRecord 14) ≡ Done
 
-replies : Replies
+pub replies : Replies
 unfolding callAnswer composeAnswer composeQuestions tableauQuestions widthQuestion lengthQuestion bytesQuestion firstBad ask _andThen_ roomQuestion recordLength rowLength firstPlace identityRecord tableauRecord encodeRow rowOf joined listed identityTableau single phaseByte letterByte qubits
 replies = record { one = refl; one-bad = refl; one-short = refl; first = refl; short = refl; second = refl; bad = refl; third = refl }
 

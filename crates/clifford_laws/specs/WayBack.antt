@@ -100,7 +100,7 @@ module _ (earlier : List (List ℕ)) (product then now : List ℕ) where
     pub left : composeRecord back product ≡ identityRecord (widthOf product)
     pub right : composeRecord product back ≡ identityRecord (widthOf product)
 
--- the calls up to step k
+-- the calls up to step k: the list up to its k-th accepted call
 unfoldable pub callsTo : List ℕ → List Call → ℕ → List Call
 callsTo r [] k = []
 callsTo r (c ∷ cs) zero = []
