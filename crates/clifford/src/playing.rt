@@ -10,7 +10,7 @@ use crate::layout::width;
 
 // What each gate makes of the letters a and b on its qubits, at 4a + b: 16 for a sign, and 4 times the first letter, and the second.
 // A one-qubit gate looks at the first letter alone and gives its image twice.
-const TABLES: [[u8; 16]; 38] = [
+const TABLES_1Q: [[u8; 16]; 24] = [
     [0, 0, 0, 0, 5, 5, 5, 5, 10, 10, 10, 10, 15, 15, 15, 15], // 0: I
     [0, 0, 0, 0, 5, 5, 5, 5, 26, 26, 26, 26, 31, 31, 31, 31], // 1: X
     [0, 0, 0, 0, 21, 21, 21, 21, 26, 26, 26, 26, 15, 15, 15, 15], // 2: Y
@@ -35,6 +35,9 @@ const TABLES: [[u8; 16]; 38] = [
     [0, 0, 0, 0, 26, 26, 26, 26, 31, 31, 31, 31, 5, 5, 5, 5], // 21: F3dg
     [0, 0, 0, 0, 10, 10, 10, 10, 31, 31, 31, 31, 21, 21, 21, 21], // 22: F4
     [0, 0, 0, 0, 31, 31, 31, 31, 5, 5, 5, 5, 26, 26, 26, 26], // 23: F4dg
+];
+
+const TABLES_2Q: [[u8; 16]; 14] = [
     [0, 1, 10, 11, 5, 4, 31, 14, 8, 9, 2, 3, 13, 12, 7, 22], // 24: CX
     [0, 9, 10, 3, 7, 30, 13, 4, 8, 1, 2, 11, 15, 6, 21, 12], // 25: CY
     [0, 9, 2, 11, 6, 15, 4, 29, 8, 1, 10, 3, 14, 23, 12, 5], // 26: CZ
@@ -55,7 +58,10 @@ fn gate_table(gate: usize) -> [u8; 16]
     requires { ⌜ gate < 38 ⌝ }
     ensures { λ r. ⌜ r ≡ tableOf gate ⌝ }
 {
-    TABLES[gate]
+    if gate < 24 {
+        return TABLES_1Q[gate];
+    }
+    TABLES_2Q[gate - 24]
 }
 
 // The second qubit of a gate; the qubit of a one-qubit gate stands for both.

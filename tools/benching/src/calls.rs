@@ -19,7 +19,7 @@ pub fn all(random: &mut Random) -> Vec<Figure> {
     for width in [20, 64, 128] {
         figures.extend(of_tableaux(random, width, FULL));
     }
-    figures.push(play(random, 128));
+    figures.push(play(&mut Random::new(9), 128));
     // The Rust's time goes by the letters that are not I, so a sparser tableau says something else.
     figures.extend(of_tableaux(random, 128, SPARSER));
     figures
@@ -128,7 +128,7 @@ fn compose(a: &[u8], b: &[u8]) -> Figure {
     }
 }
 
-/// CX, its own inverse: after any even number of calls the record is as before.
+/// CX on a full tableau.
 fn play(random: &mut Random, width: usize) -> Figure {
     let record = valid_tableau(random, width, FULL);
     let (gate, q0, q1) = (Clifford::CX, width / 3, width - 1);
