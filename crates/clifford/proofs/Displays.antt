@@ -267,7 +267,7 @@ order-fits {w} {i} o = record { fits = omega (arith, o .narrow, o .own) }
 
 pub ruleset orders = (order-even, order-odd, order-fits, needs)
 
-order-below : (w i : ℕ) → i < 2 * w → displayRow w i < 2 * w
+pub order-below : (w i : ℕ) → i < 2 * w → displayRow w i < 2 * w
 order-below w i h = elim (ℕ-discrete (i % 2) 0) [
   | yes e ↦ omega (arith, order-even w i e)
   | no e ↦ omega (arith, order-odd w i e)
@@ -388,11 +388,6 @@ module _ {t d e f g : List ℕ} {n h a i k : ℕ} (x : Stored 0 (headerText n) d
       whole-text (stored-as (ap₂ (λ (j : ℕ) (v : ℕ). headerText j ++ (10 ∷ linesText (tableauOf t) v)) en end) (stored-join x (stored-join y (m .text))))
 
 pub ruleset line-loops = (wide-narrow, lines-room, lines-none, lines-fits, lines-next, lines-index, lines-place, lines-more, lines-same, lines-all, stored-same, needs)
-
-pub text-counted : {w d e : List ℕ} {n : ℕ} → TextWritten w d e n → n ≡ length w
-text-counted a = a .count
-
-pub ruleset text-lengths = (text-counted, text-same, needs)
 
 -- ---- the questions, and what is written
 pub display-refused : (t : List ℕ) {r : Outcome} {x : Refusal} (room : ℕ) → r ≡ tableauQuestions t → r ≡ Refused x → r ≡ displayAnswer t room

@@ -23,23 +23,19 @@ use Rattle.clifford.specs.Layout as layout
 use Rattle.clifford.specs.Questions.{tableauQuestions}
 use Rattle.clifford.specs.Rows.{rowQubit, rowLetter}
 use Rattle.clifford.specs.Tableaux.{recordValid}
-use Rattle.clifford.proofs.Displays.{decimal-short, order-even, order-odd}
+use Rattle.clifford.proofs.Displays.{decimal-short, order-even, order-odd, order-below}
 use Rattle.clifford.proofs.TableauAsking.{tableau-formed, tableaux-admitted}
 use Rattle.clifford.proofs.TableauRecords.{row-x, row-z, rows-same, record-back, width-of}
 
 -- ---- a line: nine bytes, the digits of its qubit, and the image
-module _ (w i : ℕ) (h : i < 2 * w) where
-  qubit-of : rowQubit w (displayRow w i) ≡ i / 2
-  unfolding rowQubit
-  qubit-of = elim (ℕ-discrete (i % 2) 0) [
-    | yes e ↦ ap (λ (r : ℕ). rowQubit w r) (sym (order-even w i e)) ∙ ap (λ b. cond b (i / 2) (i / 2 - w)) (lt-ltb (i / 2) w (omega arith))
-    | no e ↦
-        let same : w + i / 2 - w ≡ i / 2 = omega arith in
-        ap (λ (r : ℕ). rowQubit w r) (sym (order-odd w i e)) ∙ ap (λ b. cond b (w + i / 2) (w + i / 2 - w)) (le-ltb (w + i / 2) w (omega arith)) ∙ same
-  ]
-
-  order-below : displayRow w i < 2 * w
-  order-below = elim (ℕ-discrete (i % 2) 0) [ yes e ↦ omega (arith, order-even w i e) | no e ↦ omega (arith, order-odd w i e) ]
+qubit-of : (w i : ℕ) → i < 2 * w → rowQubit w (displayRow w i) ≡ i / 2
+unfolding rowQubit
+qubit-of w i h = elim (ℕ-discrete (i % 2) 0) [
+  | yes e ↦ ap (λ (r : ℕ). rowQubit w r) (sym (order-even w i e)) ∙ ap (λ b. cond b (i / 2) (i / 2 - w)) (lt-ltb (i / 2) w (omega arith))
+  | no e ↦
+      let same : w + i / 2 - w ≡ i / 2 = omega arith in
+      ap (λ (r : ℕ). rowQubit w r) (sym (order-odd w i e)) ∙ ap (λ b. cond b (w + i / 2) (w + i / 2 - w)) (le-ltb (w + i / 2) w (omega arith)) ∙ same
+]
 
 label-length : (l : Letter) (q : ℕ) → length (labelText l q) ≡ 8 + length (decimal q)
 unfolding labelText generatorText

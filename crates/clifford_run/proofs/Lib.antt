@@ -1,1 +1,2 @@
 pub mod ProgramTexts
+pub mod ProgramReading

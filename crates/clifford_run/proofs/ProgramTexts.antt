@@ -9,7 +9,6 @@ use lib.Seq.{take-all, take-at}
 use borrow.Author.Needs.{needs}
 use Rattle.pauli.specs.declared.refusal.Refusal.{Refusal}
 use Rattle.pauli.specs.declared.refusal.Refusal.the-variants.{ListLength}
-use Rattle.pauli.specs.declared.refusal.Outcome.{Outcome}
 use Rattle.pauli.specs.declared.refusal.Outcome.the-variants.{Done, Refused}
 use Rattle.pauli.specs.declared.refusal.CountAnswer.{CountAnswer}
 use Rattle.pauli.specs.declared.refusal.CountAnswer.the-variants.{Count, NoCount}

@@ -1,5 +1,5 @@
 // Reads a gate list from standard input and writes the tableau of its run, or its refusal. No contract can say what is read or
-// written: what is handed on is said by the functions on slices.
+// written: what is handed to `write` is said by the contracts of the functions on slices.
 ghost use lib.ListN.{length, take};
 ghost use Rattle.clifford_run.specs.Program.{Buffers, InputRead, ReportRoom, ReportWritten, Owed};
 use gate_list::gate_list::report;
@@ -34,7 +34,7 @@ fn read_input(input: &mut [u8]) -> Input
 }
 
 // The report of a list at the front of the text; the answer is its length. There is room for any report, so none is refused.
-fn write_text(list: &[u8], text: &mut [u8]) -> usize
+fn make_report(list: &[u8], text: &mut [u8]) -> usize
     requires { ⌜ ReportRoom (now text) ⌝ }
     ensures { λ r. ⌜ ReportWritten (now (list .entry)) (now (text .entry)) (now (text .exit)) r ⌝ }
 {
@@ -45,8 +45,8 @@ fn write_text(list: &[u8], text: &mut [u8]) -> usize
     }
 }
 
-// Hands on the text that is owed to the first n bytes of the input.
-fn hand_on(input: &[u8], n: usize, text: &[u8])
+// Writes the text that is owed to the first n bytes of the input.
+fn write_report(input: &[u8], n: usize, text: &[u8])
     requires { ⌜ Owed (length (now input)) (take n (now input)) (now text) ⌝ }
 {
     if !io::write_all(STDOUT_FILENO, text) {
@@ -68,8 +68,8 @@ fn answer_input(input: &mut [u8], text: &mut [u8])
         );
         return;
     };
-    let length = write_text(&input[..n], text);
-    hand_on(input, n, &text[..length]);
+    let length = make_report(&input[..n], text);
+    write_report(input, n, &text[..length]);
 }
 
 // One byte more than the longest list has, so that a longer input is seen to be one; and room for any report (`report-most`).
