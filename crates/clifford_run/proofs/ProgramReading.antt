@@ -24,7 +24,7 @@ use Rattle.gate_list.specs.Lists.{recordCount, byteOf, listWidth, nextOf}
 use Rattle.gate_list.specs.Reports.{textAfter, reportText}
 use Rattle.gate_list.specs.Runs.{tableauxOf, runRecord}
 use Rattle.gate_list.proofs.ListReadings.{example, example-gates}
-use Rattle.clifford_run.specs.QuotedText.{bytesOf}
+use Rattle.pauli_laws.specs.QuotedText.{bytesOf}
 
 example-runs : listQuestions example ≡ Done
 unfolding ask _andThen_ widthQuestion qubits recordCount byteOf listWidth nextOf sizeQuestion headQuestion linkQuestion zerosQuestion gateQuestion qubitQuestion secondQuestions recordQuestions isMet chainQuestions listQuestions
