@@ -58,10 +58,10 @@ witnessed n w calls earlier later {product} {then} {now} n≤ w≤ trace good e 
     let present : recordNow n calls ≡ now = after-steps (identityRecord n) calls ∙ ap (productFrom (identityRecord n)) all ∙ trace-product trace in
     let made : productOf w (drop k (steps n calls)) ≡ product = ap (productOf w) (ap (drop k) all ∙ drop-at earlier later k refl) ∙ p in
     record {
-      all-steps = all;
-      after-earlier = past;
-      after-all = present;
-      of-later = p;
+      allSteps = all;
+      afterEarlier = past;
+      afterAll = present;
+      ofLater = p;
       way = rw (front, made, past, present) at (way-back n n≤ calls (subst (Steps n) (sym all) good) k few w w≤);
     }
 
@@ -138,5 +138,5 @@ order-matters e =
 
 pub record-changed : recordThen 2 threeSteps 1 ≡ recordNow 2 threeSteps → ⊥
 record-changed e =
-    let z : getD cxRecord 2 0 ≡ getD afterThree 2 0 = ap (λ (b : List ℕ). getD b 2 0) (sym (witness-between .after-earlier) ∙ e ∙ witness-between .after-all) in
+    let z : getD cxRecord 2 0 ≡ getD afterThree 2 0 = ap (λ (b : List ℕ). getD b 2 0) (sym (witness-between .afterEarlier) ∙ e ∙ witness-between .afterAll) in
     omega arith

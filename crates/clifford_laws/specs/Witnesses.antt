@@ -7,10 +7,10 @@ use Rattle.clifford_laws.specs.WayBack.{Call, productOf, WayBack, steps,
 
 -- the steps of the list, the records after the earlier ones and after all, the product of the later ones; and the way back
 pub record Witness (n w : ℕ) (calls : List Call) (earlier later : List (List ℕ)) (product then now : List ℕ) : Type 0 where
-  pub all-steps : steps n calls ≡ earlier ++ later
-  pub after-earlier : recordThen n calls (length earlier) ≡ then
-  pub after-all : recordNow n calls ≡ now
-  pub of-later : productOf w later ≡ product
+  pub allSteps : steps n calls ≡ earlier ++ later
+  pub afterEarlier : recordThen n calls (length earlier) ≡ then
+  pub afterAll : recordNow n calls ≡ now
+  pub ofLater : productOf w later ≡ product
   pub way : WayBack earlier product then now
 
 -- H and SZ on qubit 0, CX from 0 to 1
