@@ -15,7 +15,7 @@ use Rattle.pauli.specs.declared.refusal.Refusal.the-variants.{Qubit}
 use Rattle.pauli.specs.declared.refusal.Outcome.{Outcome}
 use Rattle.pauli.specs.declared.refusal.Outcome.the-variants.{Done, Refused}
 use Rattle.pauli.specs.Answers.{written}
-use Rattle.pauli.specs.Questions.{ask, _andThen_}
+use Rattle.pauli.specs.Questions.{_andThen_}
 use Rattle.pauli.proofs.Answers.{answers}
 use Rattle.pauli.proofs.Asking.{asked-yes, asked-no, ask-done, refused, passed, done-first, done-second}
 use Rattle.clifford.specs.Layout.{widthOf, FormedTableau}
