@@ -41,10 +41,10 @@
  *   19      does the chain end?                                            the record met again
  *
  * The one thing trusted
- *   A pointer is valid for its length: to be read, and to be written where it is not const. A destination overlaps no other buffer of
- *   the call; buffers that are only read may overlap. No call can find an overlap out: rc_inverse or rc_compose with one buffer in
- *   and out replies 0 and leaves wrong bytes. Where a length is 0 nothing is read or written through its pointer: pass the address
- *   of anything, but no null pointer.
+ *   A pointer is valid for its length: to be read, and to be written where it is not const. A destination overlaps no other buffer
+ *   of the call; buffers that are only read may overlap. No call can find an overlap out: rc_inverse or rc_compose with one buffer
+ *   in and out replies 0 and leaves wrong bytes. Where a length is 0 nothing is read or written through its pointer: pass the
+ *   address of anything, but no null pointer.
  */
 #ifndef RENETCLEAT_H
 #define RENETCLEAT_H
@@ -128,11 +128,11 @@ struct rc_reply rc_inverse(const uint8_t *t, size_t t_len, uint8_t *dst, size_t 
 struct rc_reply rc_is_valid(const uint8_t *t, size_t t_len);
 /* Writes the qubits that the tableau touches, rising, a byte each; the value is their count. */
 struct rc_reply rc_support_qubits(const uint8_t *t, size_t t_len, uint8_t *dst, size_t dst_len);
-/* Writes the tableau of conjugation by the string s; its phase is dropped. The width is 1 + the highest qubit with a letter, 1 where
- * there is none. */
+/* Writes the tableau of conjugation by the string s; its phase is dropped. The width is 1 + the highest qubit with a letter, 1
+ * where there is none. */
 struct rc_reply rc_from_pauli_string(const uint8_t *s, size_t s_len, uint8_t *dst, size_t dst_len);
-/* Writes the tableau's text, a line for each generator; the value is its length, at most RC_DISPLAY_MOST. No zero byte is put behind
- * it. */
+/* Writes the tableau's text, a line for each generator; the value is its length, at most RC_DISPLAY_MOST. No zero byte is put
+ * behind it. */
 struct rc_reply rc_display(const uint8_t *t, size_t t_len, uint8_t *dst, size_t dst_len);
 
 /* ---- gates */
@@ -144,25 +144,25 @@ struct rc_reply rc_single_qubit_clifford(size_t index, size_t qubit, uint8_t *ds
 struct rc_reply rc_on_qubits(uint8_t gate, size_t q0, size_t q1, uint8_t *dst, size_t dst_len);
 /* Writes the tableau of a one-qubit gate, of width q + 1. */
 struct rc_reply rc_on_qubit(uint8_t gate, size_t q, uint8_t *dst, size_t dst_len);
-/* Plays the gate on the tableau t, in t itself: the bytes are those that rc_compose writes of the gate's tableau (rc_on_qubits) and t, so t
- * acts first. Each qubit is below t's own width, or 5; two qubits differ, or 6; q1 is not looked at for gates 0 to 23. A refusal leaves
- * t as it was. Most of the time goes into the questions, which read t once: at width 128 it is some four to sixty times as fast as
- * rc_compose, which does more the wider the gate's tableau and the fuller t. */
+/* Plays the gate on the tableau t, in t itself: the bytes are those that rc_compose writes of the gate's tableau (rc_on_qubits)
+ * and t, so t acts first. Each qubit is below t's own width, or 5; two qubits differ, or 6; q1 is not looked at for gates 0 to 23.
+ * A refusal leaves t as it was. Most of the time goes into the questions, which read t once: at width 128 it is some four to sixty
+ * times as fast as rc_compose, which does more the wider the gate's tableau and the fuller t. */
 struct rc_reply rc_play(uint8_t *t, size_t t_len, uint8_t gate, size_t q0, size_t q1);
 /* The one-qubit gate that is h first, then g. */
 struct rc_reply rc_gate_compose(uint8_t g, uint8_t h);
 /* The gate's inverse. */
 struct rc_reply rc_gate_inverse(uint8_t g);
-/* The first of the gates 0 to 23 whose images match those of a tableau of width 1, or RC_NO_GATE. A phase other than -1 counts as +1, as
- * in PECOS: a gate is named for 96 records of width 1, of which 24 are a gate's own tableau and the others are not valid. */
+/* The first of the gates 0 to 23 whose images match those of a tableau of width 1, or RC_NO_GATE. A phase other than -1 counts as
+ * +1, as in PECOS: a gate is named for 96 records of width 1, of which 24 are a gate's own tableau and the others are not valid. */
 struct rc_reply rc_from_clifford_rep(const uint8_t *t, size_t t_len);
 
 /* ---- gate lists */
 
 /* Writes the tableau of all gates on the list's chain, of the list's width; the value is the number of steps. */
 struct rc_reply rc_run(const uint8_t *list, size_t list_len, uint8_t *dst, size_t dst_len);
-/* Writes what the program writes of the list: its run's display text, or "refused N at D" and a newline; the value is its length, at most
- * RC_REPORT_MOST. A list's refusal is text here: only 7 is ever replied. */
+/* Writes what the program writes of the list: its run's display text, or "refused N at D" and a newline; the value is its length,
+ * at most RC_REPORT_MOST. A list's refusal is text here: only 7 is ever replied. */
 struct rc_reply rc_report(const uint8_t *list, size_t list_len, uint8_t *out, size_t out_len);
 
 #ifdef __cplusplus
