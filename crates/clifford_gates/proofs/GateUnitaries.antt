@@ -14,7 +14,7 @@ use Rattle.pauli_group.proofs.Finite.{phases}
 use Rattle.pauli_group.proofs.PaperForms.{both, same-gaussian, same-matrix, equal-matrix}
 use Rattle.clifford_gates.specs.Gates.{OneQubit, oneQubitGates, TwoQubit, twoQubitGates, All}
 use Rattle.clifford_gates.specs.Unitaries.{addMatrix, sumOf, letterRoot, face, oneQubitForms, UpToFactor, adjoint, multiple, PositiveMultiple, Unitary}
-use Rattle.clifford_gates.specs.Unitaries.{blockAdjoint, blockMultiple, UnitaryPair, stateExchange}
+use Rattle.clifford_gates.specs.Unitaries.{blockAdjoint, blockMultiple, UnitaryPair, stateExchange, scaleBlocks, words, circuit, cnot, threeCnots, onParity, twoQubitCircuits}
 use Rattle.clifford_gates.proofs.GateTables.{is-true, contrary, all-of}
 use Rattle.clifford_gates.specs.Unitaries.{hadamard, phaseGate, word, oneQubitUnitaries, imageMatrix, Conjugates, Each, none, more}
 use Rattle.clifford_gates.specs.Unitaries.{Blocks, blockProduct, addBlocks, kronecker, pairMatrix, controlled, rootOf, exchange, gGate, twoQubitUnitaries, pairImageMatrix, ConjugatesPair}
@@ -51,15 +51,7 @@ module _ {A : Type 0} (of : Gaussian → A) (same : A → A → Bool) (equal : (
       let parts = both (ltb 0 (normOf m)) (is-multiple m) t in
       record { norm = normOf m; positive = ltb-true 0 (normOf m) (is-true _ (parts .0)); is = equal _ _ (parts .1) }
 
--- ---- one qubit
-abbrev unitary-test : Matrix → Bool
-unitary-test u = is-positive multiple same-matrix equal-matrix (λ m. m .a) (matrixProduct u (adjoint u))
-
-pub one-qubit-unitary : All Unitary oneQubitUnitaries
-unfolding oneQubitUnitaries word hadamard phaseGate multiple adjoint conjugateG matrixProduct scaleMatrix pauliMatrix phaseNumber addG mulG
-one-qubit-unitary =
-    all-of unitary-test (λ u. positive-is multiple same-matrix equal-matrix (λ m. m .a) (matrixProduct u (adjoint u))) oneQubitUnitaries tt
-
+-- ---- equal up to a factor, where `at n` reads an entry that is not 0 in n: the factors are the two entries there
 abbrev zeroG : Gaussian
 zeroG = gaussian (pos 0) (pos 0)
 
@@ -69,32 +61,42 @@ some z = not (same-gaussian z zeroG)
 not-zero : (z : Gaussian) → T (some z) → z ≡ zeroG → ⊥
 not-zero z t e = contrary (same-gaussian z zeroG) (subst (λ w. T (same-gaussian w zeroG)) (sym e) tt) t
 
--- the entry of m in the first row where n has one that is not 0: the factors are the two entries there
+module _ {A : Type 0} (times : Gaussian → A → A) (same : A → A → Bool) (equal : (m n : A) → T (same m n) → m ≡ n) (at : A → A → Gaussian) (m n : A) where
+  abbrev proportional : Bool
+  proportional = same (times (at n n) m) (times (at n m) n)
+
+  abbrev form-test : Bool
+  form-test = (some (at n n) && some (at n m)) && proportional
+
+  form-is : T form-test → UpToFactor times m n
+  form-is t =
+      let parts = both (some (at n n) && some (at n m)) proportional t in
+      let others = both (some (at n n)) (some (at n m)) (parts .0) in
+      record {
+        z = at n n;
+        w = at n m;
+        zSome = not-zero _ (others .0);
+        wSome = not-zero _ (others .1);
+        is = equal _ _ (parts .1);
+      }
+
+-- ---- one qubit
+abbrev unitary-test : Matrix → Bool
+unitary-test u = is-positive multiple same-matrix equal-matrix (λ m. m .a) (matrixProduct u (adjoint u))
+
+pub one-qubit-unitary : All Unitary oneQubitUnitaries
+unfolding oneQubitUnitaries word hadamard phaseGate multiple adjoint conjugateG matrixProduct scaleMatrix pauliMatrix phaseNumber addG mulG
+one-qubit-unitary =
+    all-of unitary-test (λ u. positive-is multiple same-matrix equal-matrix (λ m. m .a) (matrixProduct u (adjoint u))) oneQubitUnitaries tt
+
+-- the entry of m in the first row where n has one that is not 0
 abbrev entryBy : Matrix → Matrix → Gaussian
 entryBy n m = cond (some (n .a)) (m .a) (m .b)
 
-module _ (m n : Matrix) where
-  abbrev proportional : Bool
-  proportional = same-matrix (scaleMatrix (entryBy n n) m) (scaleMatrix (entryBy n m) n)
-
-  abbrev form-test : Bool
-  form-test = (some (entryBy n n) && some (entryBy n m)) && proportional
-
-  form-is : T form-test → UpToFactor m n
-  form-is t =
-      let parts = both (some (entryBy n n) && some (entryBy n m)) proportional t in
-      let others = both (some (entryBy n n)) (some (entryBy n m)) (parts .0) in
-      record {
-        z = entryBy n n;
-        w = entryBy n m;
-        zSome = not-zero _ (others .0);
-        wSome = not-zero _ (others .1);
-        is = equal-matrix _ _ (parts .1);
-      }
-
-pub one-qubit-forms : Each UpToFactor oneQubitUnitaries oneQubitForms
+pub one-qubit-forms : Each (UpToFactor scaleMatrix) oneQubitUnitaries oneQubitForms
 unfolding oneQubitUnitaries oneQubitForms word hadamard phaseGate sumOf letterRoot face imageMatrix addMatrix matrixProduct scaleMatrix pauliMatrix phaseNumber addG mulG
-one-qubit-forms = each-of form-test form-is oneQubitUnitaries oneQubitForms tt
+one-qubit-forms =
+    each-of (form-test scaleMatrix same-matrix equal-matrix entryBy) (form-is scaleMatrix same-matrix equal-matrix entryBy) oneQubitUnitaries oneQubitForms tt
 
 abbrev conjugates-x : Matrix → OneQubit → Bool
 conjugates-x u g = same-matrix (matrixProduct u (pauliMatrix X)) (matrixProduct (imageMatrix (g .x)) u)
@@ -148,6 +150,14 @@ g-own-inverse = positive-blocks-is (blockProduct gGate gGate) tt
 pub exchange-is : (p : Phase) → exchange p ≡ stateExchange p
 unfolding exchange stateExchange kronecker pairMatrix addBlocks addMatrix scaleMatrix pauliMatrix phaseNumber addG mulG
 exchange-is p = equal-blocks _ _ (phases .each (λ p. same-blocks (exchange p) (stateExchange p)) tt p)
+
+pub two-qubit-circuits : Each (UpToFactor scaleBlocks) twoQubitUnitaries twoQubitCircuits
+unfolding twoQubitUnitaries twoQubitCircuits circuit words cnot threeCnots onParity word phaseGate scaleBlocks controlled rootOf exchange gGate hadamard kronecker pairMatrix addBlocks addMatrix blockProduct matrixProduct scaleMatrix pauliMatrix phaseNumber addG mulG
+two-qubit-circuits =
+    each-of (form-test scaleBlocks same-blocks equal-blocks first-entry) (form-is scaleBlocks same-blocks equal-blocks first-entry) twoQubitUnitaries twoQubitCircuits tt
+  where
+    first-entry : Blocks → Blocks → Gaussian
+    first-entry n m = m .a .a
 
 -- U·P and P'·U are the same
 abbrev carries : Blocks → Blocks → Blocks → Bool

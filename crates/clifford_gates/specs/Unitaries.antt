@@ -109,12 +109,12 @@ oneQubitForms =
     []
 
 -- equal up to a factor: z·m = w·n for numbers z and w that are not 0
-pub record UpToFactor (m n : Matrix) : Type 0 where
+pub record UpToFactor {A : Type 0} (times : Gaussian → A → A) (m n : A) : Type 0 where
   pub z : Gaussian
   pub w : Gaussian
   pub zSome : z ≡ zero1 → ⊥
   pub wSome : w ≡ zero1 → ⊥
-  pub is : scaleMatrix z m ≡ scaleMatrix w n
+  pub is : times z m ≡ times w n
 
 -- ---- unitary: u·u† is a positive multiple of the identity, so u is a unitary matrix times a root
 
@@ -208,12 +208,70 @@ stateExchange p =
 unfoldable pub gGate : Blocks
 gGate = blockProduct (controlled Z) (blockProduct (kronecker hadamard hadamard) (controlled Z))
 
--- gates 24 to 37; Gdg is G. Each is written in the letters of its name: no other form is needed
+-- gates 24 to 37, each in the letters of its name
 unfoldable pub twoQubitUnitaries : List Blocks
 twoQubitUnitaries =
-    controlled X ∷ controlled Y ∷ controlled Z ∷ exchange PlusOne ∷
-    rootOf MinusI X ∷ rootOf PlusI X ∷ rootOf MinusI Y ∷ rootOf PlusI Y ∷ rootOf MinusI Z ∷ rootOf PlusI Z ∷
-    exchange PlusI ∷ exchange MinusI ∷ gGate ∷ gGate ∷ []
+    controlled X ∷  -- CX
+    controlled Y ∷  -- CY
+    controlled Z ∷  -- CZ
+    exchange PlusOne ∷  -- SWAP
+    rootOf MinusI X ∷  -- SXX = 1 - i·XX
+    rootOf PlusI X ∷  -- SXXdg = 1 + i·XX
+    rootOf MinusI Y ∷  -- SYY = 1 - i·YY
+    rootOf PlusI Y ∷  -- SYYdg = 1 + i·YY
+    rootOf MinusI Z ∷  -- SZZ = 1 - i·ZZ
+    rootOf PlusI Z ∷  -- SZZdg = 1 + i·ZZ
+    exchange PlusI ∷  -- ISWAP
+    exchange MinusI ∷  -- ISWAPdg
+    gGate ∷  -- G
+    gGate ∷  -- Gdg
+    []
+
+-- ---- the same matrices as circuits of H, S and CZ, up to a factor: two gates exchanged above are not exchanged here
+
+unfoldable pub scaleBlocks : Gaussian → Blocks → Blocks
+scaleBlocks z m = record { a = scaleMatrix z (m .a); b = scaleMatrix z (m .b); c = scaleMatrix z (m .c); d = scaleMatrix z (m .d) }
+
+-- a word on each qubit
+unfoldable pub words : List WordGate → List WordGate → Blocks
+words v w = kronecker (word v) (word w)
+
+-- one after another, the rightmost acts first
+unfoldable pub circuit : List Blocks → Blocks
+circuit [] = pairMatrix PlusOne I I
+circuit (m ∷ ms) = blockProduct m (circuit ms)
+
+unfoldable pub cnot : Blocks
+cnot = circuit (words [] (H ∷ []) ∷ controlled Z ∷ words [] (H ∷ []) ∷ [])
+
+-- the exchange by three CNOTs, the middle one turned round
+unfoldable pub threeCnots : Blocks
+threeCnots = circuit (cnot ∷ words (H ∷ []) (H ∷ []) ∷ cnot ∷ words (H ∷ []) (H ∷ []) ∷ cnot ∷ [])
+
+-- a word on the parity of the two qubits
+unfoldable pub onParity : List WordGate → Blocks
+onParity w = circuit (cnot ∷ words [] w ∷ cnot ∷ [])
+
+abbrev inverseS : List WordGate
+inverseS = S ∷ S ∷ S ∷ []
+
+unfoldable pub twoQubitCircuits : List Blocks
+twoQubitCircuits =
+    cnot ∷  -- CX
+    circuit (words [] (S ∷ []) ∷ cnot ∷ words [] inverseS ∷ []) ∷  -- CY
+    controlled Z ∷  -- CZ
+    threeCnots ∷  -- SWAP
+    circuit (words (H ∷ []) (H ∷ []) ∷ onParity (S ∷ []) ∷ words (H ∷ []) (H ∷ []) ∷ []) ∷  -- SXX
+    circuit (words (H ∷ []) (H ∷ []) ∷ onParity inverseS ∷ words (H ∷ []) (H ∷ []) ∷ []) ∷  -- SXXdg
+    circuit (words (S ∷ H ∷ []) (S ∷ H ∷ []) ∷ onParity (S ∷ []) ∷ words (H ∷ inverseS) (H ∷ inverseS) ∷ []) ∷  -- SYY
+    circuit (words (S ∷ H ∷ []) (S ∷ H ∷ []) ∷ onParity inverseS ∷ words (H ∷ inverseS) (H ∷ inverseS) ∷ []) ∷  -- SYYdg
+    onParity (S ∷ []) ∷  -- SZZ
+    onParity inverseS ∷  -- SZZdg
+    circuit (threeCnots ∷ controlled Z ∷ words (S ∷ []) (S ∷ []) ∷ []) ∷  -- ISWAP
+    circuit (threeCnots ∷ controlled Z ∷ words inverseS inverseS ∷ []) ∷  -- ISWAPdg
+    circuit (controlled Z ∷ words (H ∷ []) (H ∷ []) ∷ controlled Z ∷ []) ∷  -- G
+    circuit (controlled Z ∷ words (H ∷ []) (H ∷ []) ∷ controlled Z ∷ []) ∷  -- Gdg
+    []
 
 unfoldable pub pairImageMatrix : PairImage → Blocks
 pairImageMatrix i = pairMatrix (i .phase) (i .first) (i .second)
