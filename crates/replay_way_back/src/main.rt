@@ -3,6 +3,7 @@
 // number of both is the width of the identity that the product of the later steps starts from. `send` sends strings through a step's
 // own tableau, and the next `send` has its answers; `back` sends strings through the record that is brought back.
 use clifford::clifford_rep;
+use clifford::layout::width;
 use clifford::questions;
 use pauli::refusal;
 use pauli::rows;
@@ -21,18 +22,6 @@ fn is_done(r: refusal::Outcome) -> bool {
         return true;
     }
     false
-}
-
-fn wide(x: u8) -> usize {
-    x as usize
-}
-
-// The width of the record at the front of some bytes.
-fn width(t: &[u8]) -> usize {
-    if t.len() == 0 {
-        return 0;
-    }
-    wide(t[0])
 }
 
 // The record at the front of some bytes; all of them where they are too few.
