@@ -12,7 +12,7 @@ use borrow.Author.Needs.{needs}
 use borrow.Author.Tests.{lt-ltb, le-ltb}
 use Rattle.pauli_group.specs.PauliString.{qubits}
 use Rattle.clifford_gates.specs.GateTableaux.{onQubit}
-use Rattle.clifford_gates.specs.GateNumbers.{oneQubitGate, gateTableau, composeGate, inverseGate, inverseNumbers, singleQubitClifford, productGates}
+use Rattle.clifford_gates.specs.GateNumbers.{oneQubitGate, gateTableau, inverseGate, inverseNumbers, productGates}
 use Rattle.clifford_gates.proofs.GateNames.{gate-one}
 use Rattle.clifford_gates.proofs.GateInverses.{inverse-numbers}
 use Rattle.clifford_gates.proofs.Products24.{products, product-small}
@@ -20,7 +20,7 @@ use Rattle.pauli.specs.declared.refusal.Refusal.{Refusal}
 use Rattle.pauli.specs.declared.refusal.Outcome.{Outcome}
 use Rattle.pauli.specs.declared.refusal.Outcome.the-variants.{Done, Refused}
 use Rattle.pauli.specs.Answers.{replyTo, written}
-use Rattle.pauli.specs.Questions.{_andThen_, qubitQuestion, roomQuestion}
+use Rattle.pauli.specs.Questions.{_andThen_, roomQuestion}
 use Rattle.pauli.proofs.Answers.{answers}
 use Rattle.pauli.proofs.Asking.{refused, passed, done-first, done-second, qubit-below, room-is}
 use Rattle.clifford.specs.declared.clifford.GateAnswer.{GateAnswer}
@@ -28,9 +28,9 @@ use Rattle.clifford.specs.declared.clifford.GateAnswer.the-variants.{Nam
 use Rattle.clifford.specs.Layout.{recordLength, tableauRecord, FormedTableau}
 use Rattle.clifford.specs.Questions.{tableauQuestions}
 use Rattle.clifford.specs.Rows.{Sized}
-use Rattle.clifford.specs.GateQuestions.{gateQuestion, gateWidth, onQubitQuestions, onQubitAnswer, composeGateQuestions}
-use Rattle.clifford.specs.GateAnswers.{gateReply, gateAnswer, nameAnswer, GateAnswered, NameAnswered, oneQubitRecord, gateRecord, productRecord}
-use Rattle.clifford.specs.GateRows.{GateOn, OneFits, BothSmall, WritesGate, NameIs}
+use Rattle.clifford.specs.GateQuestions.{gateQuestion, onQubitQuestions, onQubitAnswer, composeGateQuestions}
+use Rattle.clifford.specs.GateAnswers.{gateReply, gateAnswer, nameAnswer, GateAnswered, NameAnswered, oneQubitRecord, productRecord}
+use Rattle.clifford.specs.GateRows.{OneFits, BothSmall, WritesGate, NameIs}
 use Rattle.clifford.proofs.TableauRecords.{same-record}
 use Rattle.clifford.proofs.TableauAsking.{tableau-formed}
 use Rattle.clifford.proofs.GateAsking.{gate-below, width-one}

@@ -1,6 +1,6 @@
 -- The questions put to gates, and what they let by.
-use mathlib.Core.Path.{_≡_, refl, sym, ap, _∙_, subst}
-use mathlib.Core.Bool.{Bool, true, false, cond, not}
+use mathlib.Core.Path.{_≡_, sym, ap, _∙_, subst}
+use mathlib.Core.Bool.{cond, not}
 use mathlib.Core.Logic.{_≢_}
 use mathlib.Core.List.{List}
 use Prim.Native.Nat.{ℕ, suc, max, _+_, _≤_, _<_}
@@ -10,21 +10,21 @@ use lib.ListN.{length}
 use mir.Syntax.{w64}
 use mir.Val.{Fits}
 use borrow.Author.Needs.{needs}
-use borrow.Author.Tests.{lt-ltb, le-ltb, eq-eqb, ne-eqb, ltb-true, ltb-false, eqb-false, not-true}
+use borrow.Author.Tests.{lt-ltb, le-ltb, eq-eqb, ne-eqb, ltb-true, eqb-false, not-true}
 use Rattle.pauli.specs.declared.refusal.Refusal.{Refusal}
 use Rattle.pauli.specs.declared.refusal.Refusal.the-variants.{Gate, SameQubit}
 use Rattle.pauli.specs.declared.refusal.Outcome.{Outcome}
 use Rattle.pauli.specs.declared.refusal.Outcome.the-variants.{Done, Refused}
 use Rattle.pauli.specs.Answers.{written}
-use Rattle.pauli.specs.Questions.{ask, _andThen_, qubitQuestion, roomQuestion}
+use Rattle.pauli.specs.Questions.{_andThen_, qubitQuestion, roomQuestion}
 use Rattle.pauli.proofs.Answers.{answers}
 use Rattle.pauli.proofs.Asking.{asked-yes, asked-no, ask-done, refused, passed, done-first, done-second, qubit-below, room-is}
 use Rattle.clifford_gates.specs.GateNumbers.{gateTableau}
 use Rattle.clifford.specs.Layout.{recordLength, tableauRecord}
 use Rattle.clifford.specs.Rows.{Sized}
-use Rattle.clifford.specs.GateQuestions.{gateQuestion, differentQuestion, secondQuestions, gateWidth, onQubitsQuestions, onQubitsAnswer, onQubitQuestions, onQubitAnswer, composeGateQuestions}
+use Rattle.clifford.specs.GateQuestions.{gateQuestion, differentQuestion, secondQuestions, gateWidth, onQubitsQuestions, onQubitsAnswer, onQubitQuestions}
 use Rattle.clifford.specs.GateAnswers.{gateRecord}
-use Rattle.clifford.specs.GateRows.{GateOn, GateSpan, GateFits, OneFits, BothSmall, WritesGate}
+use Rattle.clifford.specs.GateRows.{GateOn, GateSpan, GateFits, WritesGate}
 use Rattle.clifford.proofs.GateWriting.{width-narrow}
 
 -- ---- one question

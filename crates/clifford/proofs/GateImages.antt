@@ -7,9 +7,9 @@ use native.Mathlib.Omega.{arith}
 use lib.ListN.{length, getD}
 use borrow.Author.Needs.{needs}
 use Rattle.pauli_group.specs.Phase.{PlusI, _·_}
-use Rattle.pauli_group.specs.Letter.{Letter, letterMul, letterPhase}
+use Rattle.pauli_group.specs.Letter.{letterMul, letterPhase}
 use Rattle.clifford_gates.specs.Gates.{Image, OneQubit, PairImage, TwoQubit}
-use Rattle.clifford_gates.specs.GateNumbers.{oneQubitGate, twoQubitGate}
+use Rattle.clifford_gates.specs.GateNumbers.{twoQubitGate}
 use Rattle.clifford_gates.specs.Updates.{timesI, letterImage}
 use Rattle.pauli.specs.Layout.{phaseByte, phaseOf, letterByte, letterOf}
 use Rattle.pauli.specs.Rows.{phaseBytesProduct, productPhaseByte, productLetterByte, letterBytesProduct}

@@ -1,6 +1,6 @@
 -- Gates found by their images, and the answers that name a gate.
-use mathlib.Core.Path.{_≡_, refl, sym, ap, ap₂, _∙_, subst}
-use mathlib.Core.Bool.{Bool, true, false, cond, not, _&&_, true≢false}
+use mathlib.Core.Path.{_≡_, refl, sym, ap, ap₂, _∙_}
+use mathlib.Core.Bool.{Bool, true, false, cond, _&&_, true≢false}
 use mathlib.Core.List.{List, [], _∷_}
 use Prim.Native.Nat.{ℕ, zero, suc, _+_, _-_, _≤_, _<_}
 use native.Mathlib.Nat.{not-suc-le-zero, le-of-suc-le-suc}
@@ -9,19 +9,18 @@ use native.Mathlib.Omega.{arith}
 use lib.Dec.{eqb, ltb}
 use lib.ListN.{length, getD}
 use borrow.Author.Needs.{needs}
-use borrow.Author.Tests.{eq-eqb, ne-eqb, lt-ltb, le-ltb}
+use borrow.Author.Tests.{eq-eqb, ne-eqb}
 use Rattle.pauli_group.specs.Phase.{Phase, PlusOne, MinusOne, PlusI, MinusI, isReal, _·_}
-use Rattle.pauli_group.specs.Letter.{Letter, I, X, Z, Y}
+use Rattle.pauli_group.specs.Letter.{Letter}
 use Rattle.pauli_group.specs.PauliString.{PauliString}
 use Rattle.pauli_group.proofs.Finite.{letters, bools, law2}
 use Rattle.clifford_group.specs.Tableau.{Tableau, hasX, hasZ}
 use Rattle.clifford_gates.specs.Gates.{Image, OneQubit, oneQubit, oneQubitGates, ValidImages, All}
 use Rattle.clifford_gates.specs.GateTableaux.{unchanged}
-use Rattle.clifford_gates.specs.GateNumbers.{oneQubitGate, isMinus, sameBit, sameLetter, sameImage, sameImages, matchesImage, matches, firstWith, nameOf, composeGate, inverseGate, inverseNumbers}
+use Rattle.clifford_gates.specs.GateNumbers.{oneQubitGate, isMinus, sameBit, sameLetter, sameImage, sameImages, matchesImage, matches, firstWith, nameOf, composeGate}
 use Rattle.clifford_gates.specs.Updates.{letterImage, scaled, sentImage, composeImages}
 use Rattle.clifford_gates.proofs.GateTables.{one-qubit-valid}
 use Rattle.clifford_gates.proofs.GateNames.{compose-name}
-use Rattle.clifford_gates.proofs.GateInverses.{inverse-numbers}
 use Rattle.pauli.specs.declared.algebra.PhasedLetter.{PhasedLetter}
 use Rattle.pauli.specs.Layout.{phaseByte, phaseOf, letterByte, letterOf}
 use Rattle.pauli.specs.Rows.{phaseBytesProduct}

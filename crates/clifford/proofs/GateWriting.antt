@@ -10,31 +10,31 @@ use lib.Dec.{ltb, eqb}
 use lib.ListN.{length, set, take, drop, replicate}
 use borrow.Author.Needs.{needs}
 use borrow.Author.Tests.{lt-ltb, le-ltb, eq-eqb, ne-eqb, ltb-false}
-use Rattle.pauli_group.specs.Phase.{Phase, PlusOne}
+use Rattle.pauli_group.specs.Phase.{Phase}
 use Rattle.pauli_group.specs.Letter.{Letter, I, X, Z}
 use Rattle.pauli_group.specs.PauliString.{PauliString, mul, scale, identityString, single, Within}
 use Rattle.pauli_group.proofs.Strings.{scale-mul, identity-mul, mul-identity, scale-one, within-scale, within-single, within-mul, within-identity}
 use Rattle.clifford_group.specs.Tableau.{Tableau, rowImage}
 use Rattle.clifford_group.proofs.Singles.{single-I}
-use Rattle.clifford_gates.specs.Gates.{Image, OneQubit, oneQubitGates, PairImage, TwoQubit}
+use Rattle.clifford_gates.specs.Gates.{Image, oneQubitGates, PairImage}
 use Rattle.clifford_gates.specs.GateTableaux.{imageString, gateOnEach, unchanged, onQubit, pairString, pairRow, onQubits}
 use Rattle.clifford_gates.specs.GateNumbers.{oneQubitGate, twoQubitGate, gateTableau}
 use Rattle.clifford_gates.specs.Updates.{letterImage}
 use Rattle.pauli.specs.declared.algebra.PhasedLetter.{PhasedLetter}
 use Rattle.pauli.specs.declared.refusal.Outcome.the-variants.{Done}
 use Rattle.pauli.specs.Answers.{written}
-use Rattle.pauli.specs.Layout.{phaseByte, phaseOf, letterByte, letterOf, encodeString, decodeString, WellFormed}
+use Rattle.pauli.specs.Layout.{phaseOf, letterByte, letterOf, encodeString}
 use Rattle.pauli.proofs.Places.{from}
 use Rattle.pauli.proofs.Records.{phase-back, phase-small, letter-back, length-encode}
 use Rattle.clifford.specs.declared.gates.PairBytes.{PairBytes}
 use Rattle.clifford.specs.declared.gates.RowImage.{RowImage}
-use Rattle.clifford.specs.Layout.{rowLength, rowOffset, recordLength, rowOf, tableauRecord}
+use Rattle.clifford.specs.Layout.{rowOffset, rowOf, tableauRecord}
 use Rattle.clifford.specs.Rows.{Sized, Finished, ClearRow, WorkPlace, rowQubit, rowLetter, rowTimes, rowWritten, clearedRow, lettersIn, stringIn}
 use Rattle.clifford.specs.Writing.{IsGenerator}
 use Rattle.clifford.specs.GateQuestions.{gateWidth}
 use Rattle.clifford.specs.GateRows.{ImageOf, PairOf, generatorImage, TakesTwo, rowImageString, OneRow, pairOn, RowImageOf, GateOn, ImageAsked, PutsImage, WritesGate, WritesGateRow, WritesGateBy}
-use Rattle.clifford.proofs.RecordWriting.{RowsTo, rows-none, rows-all, rows-room, rows-start, rows-index, rows-more, rows-length, encoded-row, encoded-formed, put-row, put-room, zeros-long, some-room, letter-of-row, qubit-below, row-made}
-use Rattle.clifford.proofs.Sendings.{length-cleared, cleared-formed, decoded-clear}
+use Rattle.clifford.proofs.RecordWriting.{RowsTo, rows-none, rows-all, rows-room, rows-start, rows-index, rows-more, rows-length, encoded-row, put-row, put-room, zeros-long, some-room, letter-of-row, qubit-below, row-made}
+use Rattle.clifford.proofs.Sendings.{length-cleared, cleared-formed}
 use Rattle.clifford.proofs.WorkRows.{length-times, times-formed}
 use Rattle.clifford.proofs.PauliTableaux.{generator-is}
 

@@ -1,14 +1,13 @@
 -- Images set: the questions, and the record with one row replaced.
 use mathlib.Core.Path.{_≡_, refl, sym, ap, ap₂, _∙_, subst}
 use mathlib.Core.Bool.{Bool, true, false, cond, _&&_}
-use mathlib.Core.List.{List, [], _∷_, _++_, append-nil}
+use mathlib.Core.List.{List, _++_, append-nil}
 use Prim.Native.Nat.{ℕ, zero, suc, _+_, _*_, _-_, _≤_, _<_}
-use native.Mathlib.Nat.{not-suc-le-zero}
 use native.Mathlib.Numerals.{add-one}
 use native.Mathlib.Omega.{arith}
 use native.Mathlib.Decide.{decLt, ℕ-discrete}
-use lib.Dec.{ltb, leb, eqb}
-use lib.ListN.{length, getD, take, drop, length-take, length-drop, drop-of-length-le}
+use lib.Dec.{leb, eqb}
+use lib.ListN.{length, getD, take, drop, length-take, drop-of-length-le}
 use lib.Seq.{getD-take}
 use mir.Syntax.{w64}
 use mir.Val.{Fits}
@@ -24,8 +23,8 @@ use Rattle.pauli.specs.declared.refusal.Refusal.the-variants.{ImageWidth}
 use Rattle.pauli.specs.declared.refusal.Outcome.{Outcome}
 use Rattle.pauli.specs.declared.refusal.Outcome.the-variants.{Done, Refused}
 use Rattle.pauli.specs.Answers.{written}
-use Rattle.pauli.specs.Layout.{phaseOf, letterOf, decodeString, stringOf, WellFormed}
-use Rattle.pauli.specs.Questions.{ask, _andThen_, stringQuestions}
+use Rattle.pauli.specs.Layout.{phaseOf, letterOf, stringOf}
+use Rattle.pauli.specs.Questions.{_andThen_, stringQuestions}
 use Rattle.pauli.proofs.Answers.{answers}
 use Rattle.pauli.proofs.Asking.{asked-yes, asked-no, ask-done, refused, passed, done-first, done-second, string-formed}
 use Rattle.pauli.proofs.Places.{NoneBefore, none-more, none-found, none-left, first-before, from, length-from}
@@ -35,7 +34,7 @@ use Rattle.clifford.specs.Images.{notI, hasLetter, withXImage, withZImag
 use Rattle.clifford.specs.Questions.{tableauQuestions, applyQuestions, lowestOutside, insideQuestion, slotQuestion, setQuestions}
 use Rattle.clifford.specs.Rows.{Sized, RowIndex, Finished, Beside, withRow, rowWritten, lettersIn, stringIn}
 use Rattle.clifford.specs.Tableaux.{setXRecord, setZRecord}
-use Rattle.clifford.specs.Writing.{Setting, SetsRow, Sets}
+use Rattle.clifford.specs.Writing.{SetsRow, Sets}
 use Rattle.clifford.proofs.RecordWriting.{RowsTo, rows-own, rows-kept-to, rows-more, rows-end}
 use Rattle.clifford.proofs.TableauAsking.{tableau-formed, slot-is}
 use Rattle.clifford.proofs.TableauRows.{row-there}

@@ -11,31 +11,28 @@ use lib.ListN.{length, getD, set, take, drop, replicate}
 use mir.Syntax.{w64}
 use mir.Val.{Fits}
 use borrow.Author.Needs.{needs}
-use Rattle.pauli_group.specs.Phase.{Phase, sign}
-use Rattle.pauli_group.specs.Letter.{Letter, I, X, Z, Y, anticommute}
+use Rattle.pauli_group.specs.Phase.{sign}
+use Rattle.pauli_group.specs.Letter.{Letter, X, Z, anticommute}
 use Rattle.pauli_group.specs.PauliString.{PauliString, qubits, mul, scale, identityString, single, commutationSign, Within}
 use Rattle.pauli_group.proofs.Laws.{anticommute-self}
 use Rattle.pauli_group.proofs.Strings.{scale-mul, identity-mul, sign-single, within-scale, within-single}
-use Rattle.clifford_group.specs.Tableau.{Tableau}
 use Rattle.pauli.specs.declared.refusal.Refusal.{Refusal}
 use Rattle.pauli.specs.declared.refusal.Outcome.{Outcome}
 use Rattle.pauli.specs.declared.refusal.Outcome.the-variants.{Done, Refused}
 use Rattle.pauli.specs.Answers.{written}
 use Rattle.pauli.specs.Layout.{phaseByte, phaseOf, letterByte, letterOf, encodeString, decodeString, stringOf, WellFormed}
-use Rattle.pauli.specs.Questions.{_andThen_, stringQuestions, roomQuestion}
+use Rattle.pauli.specs.Questions.{stringQuestions, roomQuestion}
 use Rattle.pauli.proofs.Answers.{answers}
 use Rattle.pauli.proofs.Asking.{refused, passed, done-first, done-second, string-formed, room-is}
 use Rattle.pauli.proofs.Places.{from}
-use Rattle.pauli.proofs.Records.{phase-back, phase-small, letter-back, decode-letter}
-use Rattle.clifford.specs.Layout.{rowLength, rowOffset, recordLength, rowOf, tableauRecord}
+use Rattle.pauli.proofs.Records.{phase-back, phase-small}
+use Rattle.clifford.specs.Layout.{rowOffset, recordLength, rowOf, tableauRecord}
 use Rattle.clifford.specs.Images.{notI, hasLetter, spanTo, pauliTableau}
 use Rattle.clifford.specs.Questions.{pauliAnswer}
 use Rattle.clifford.specs.Rows.{Sized, Finished, ClearRow, WorkPlace, rowQubit, rowLetter, rowTimes, rowWritten, clearedRow, signByte, lettersIn, stringIn}
-use Rattle.clifford.specs.Tableaux.{pauliRecord}
 use Rattle.clifford.specs.Writing.{Span, IsGenerator, SignsTo, Signs, SignsRow, SignsBy}
 use Rattle.clifford.proofs.RecordWriting.{RowsTo, rows-none, rows-all, rows-room, rows-start, rows-index, rows-more, rows-length, put-row, put-room, zeros-long, some-room, letter-of-row, qubit-below, row-made}
 use Rattle.clifford.proofs.Sendings.{length-cleared, cleared-formed, decoded-clear}
-use Rattle.clifford.proofs.WorkRows.{length-times, times-formed}
 use Rattle.clifford.proofs.ImageSetting.{letter-of, byte-letter}
 
 -- ---- the width

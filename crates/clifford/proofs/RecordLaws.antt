@@ -1,16 +1,16 @@
 -- Laws of tableaux carried to their records: composition, identity and inverse, byte for byte, and strings sent through them.
-use mathlib.Core.Path.{_≡_, refl, sym, ap, ap₂, _∙_, subst}
+use mathlib.Core.Path.{_≡_, refl, sym, ap, ap₂, _∙_}
 use mathlib.Core.List.{List}
 use Prim.Native.Nat.{ℕ, max, _≤_}
 use native.Mathlib.Omega.{arith}
 use lib.ListN.{length}
 use Rattle.pauli_group.specs.PauliString.{PauliString, qubits, Within}
-use Rattle.clifford_group.specs.Tableau.{Tableau, identityTableau, apply, compose, inverse, Proper, Clifford, Same}
+use Rattle.clifford_group.specs.Tableau.{Tableau, identityTableau, apply, compose, inverse, Clifford, Same}
 use Rattle.clifford_group.proofs.Apply.{apply-within}
 use Rattle.clifford_group.proofs.Compose.{width-compose, apply-compose, compose-assoc, identity-compose, proper-compose, clifford-compose}
 use Rattle.clifford_group.proofs.Identity.{width-identity, apply-identityTableau, proper-identity, clifford-identity}
 use Rattle.clifford_group.proofs.Inverse.{width-inverse, proper-inverse, compose-inverse, clifford-inverse, inverse-compose}
-use Rattle.clifford_group.proofs.Same.{same-refl, same-sym, same-trans, apply-same, isValid-same, compose-same}
+use Rattle.clifford_group.proofs.Same.{same-refl, apply-same, isValid-same, compose-same}
 use Rattle.pauli.specs.declared.refusal.Outcome.the-variants.{Done}
 use Rattle.pauli.specs.Layout.{stringOf, stringRecord}
 use Rattle.pauli.specs.Questions.{stringQuestions}

@@ -1,23 +1,21 @@
 -- Strings sent through a tableau: what the loop over the letters has made before a qubit.
 use mathlib.Core.Path.{_≡_, refl, sym, ap, ap₂, _∙_, subst}
 use mathlib.Core.List.{List}
-use Prim.Native.Nat.{ℕ, zero, suc, _+_, _*_, _-_, _≤_, _<_}
+use Prim.Native.Nat.{ℕ, zero, suc, _+_, _-_, _≤_, _<_}
 use native.Mathlib.Numerals.{add-one}
 use native.Mathlib.Omega.{arith}
 use native.Mathlib.Decide.{ℕ-discrete}
 use lib.ListN.{length, getD}
 use borrow.Author.Needs.{needs}
-use Rattle.pauli_group.specs.Phase.{Phase, PlusOne}
-use Rattle.pauli_group.specs.Letter.{Letter, I}
 use Rattle.pauli_group.specs.PauliString.{PauliString, qubits, mul, scale, identityString, Within}
-use Rattle.pauli_group.proofs.Strings.{mul-identity, identity-mul, within-mul, within-scale, within-identity, scale-one}
+use Rattle.pauli_group.proofs.Strings.{mul-identity, identity-mul, within-scale, within-identity, scale-one}
 use Rattle.clifford_group.specs.Tableau.{Tableau, imageOf, applyTo, apply}
 use Rattle.clifford_group.proofs.Images.{image-I, within-image}
 use Rattle.clifford_group.proofs.Apply.{applyTo-start}
 use Rattle.pauli.specs.Layout.{phaseOf, letterOf, encodeString, decodeString, WellFormed}
 use Rattle.pauli.proofs.Records.{length-encode, encode-formed, decode-encode, encode-decode, decode-within, decode-letter, decode-phase}
-use Rattle.clifford.specs.Layout.{widthOf, tableauOf, FormedTableau}
-use Rattle.clifford.specs.Rows.{WorkRow, WorkOnQubit, ClearRow, Sends, SendsLetter, clearedRow, rowTimes, lettersIn, stringIn}
+use Rattle.clifford.specs.Layout.{tableauOf}
+use Rattle.clifford.specs.Rows.{WorkOnQubit, ClearRow, Sends, SendsLetter, clearedRow, rowTimes, lettersIn, stringIn}
 use Rattle.clifford.proofs.TableauRecords.{proper-of, width-of}
 use Rattle.clifford.proofs.WorkRows.{decoded-times, times-formed, length-times}
 

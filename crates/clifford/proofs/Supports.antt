@@ -2,7 +2,7 @@
 use mathlib.Core.Path.{_≡_, refl, sym, ap, ap₂, _∙_, subst}
 use mathlib.Core.Bool.{Bool, true, false, cond, not, _&&_, _||_}
 use mathlib.Core.List.{List, [], _∷_, _++_, append-nil}
-use Prim.Native.Nat.{ℕ, zero, suc, _+_, _*_, _-_, _≤_, _<_}
+use Prim.Native.Nat.{ℕ, zero, suc, _+_, _-_, _≤_, _<_}
 use native.Mathlib.Nat.{not-suc-le-zero}
 use native.Mathlib.Numerals.{add-one}
 use native.Mathlib.Omega.{arith}
@@ -12,7 +12,6 @@ use lib.ListN.{length, getD, set, drop, length-set, length-drop, length-append}
 use lib.Seq.{getD-drop, drop-drop}
 use borrow.Author.Needs.{needs}
 use borrow.Author.Tests.{eq-eqb, ne-eqb}
-use Rattle.pauli_group.specs.Phase.{Phase, PlusOne}
 use Rattle.pauli_group.specs.Letter.{Letter, I, X, Z, Y}
 use Rattle.pauli_group.specs.PauliString.{PauliString, single}
 use Rattle.clifford_group.specs.Tableau.{Tableau, allTo}
@@ -20,7 +19,7 @@ use Rattle.pauli.specs.declared.refusal.Refusal.{Refusal}
 use Rattle.pauli.specs.declared.refusal.Outcome.{Outcome}
 use Rattle.pauli.specs.declared.refusal.Outcome.the-variants.{Done, Refused}
 use Rattle.pauli.specs.Answers.{written, CountWritten}
-use Rattle.pauli.specs.Questions.{_andThen_, roomQuestion}
+use Rattle.pauli.specs.Questions.{roomQuestion}
 use Rattle.pauli.proofs.Asking.{refused, passed, done-first, done-second, room-is}
 use Rattle.pauli.specs.declared.refusal.CountAnswer.the-variants.{Count}
 use Rattle.pauli.proofs.Answers.{count-done, count-not}
@@ -28,7 +27,7 @@ use Rattle.clifford.specs.Questions.{tableauQuestions, supportAnswer}
 use Rattle.clifford.specs.Tableaux.{supportBytes}
 use Rattle.clifford.proofs.TableauAsking.{tableau-formed, checked}
 use Rattle.pauli.specs.Layout.{phaseOf, letterByte, letterOf}
-use Rattle.pauli.proofs.Records.{letter-there, letter-small}
+use Rattle.pauli.proofs.Records.{letter-there}
 use Rattle.clifford.specs.Layout.{rowLength, rowOf, rowPart, widthOf, tableauOf, FormedTableau}
 use Rattle.clifford.specs.Images.{notI, hasLetter}
 use Rattle.clifford.specs.Rows.{OwnRow, OwnQubit, OwnQubits, rowLetters}

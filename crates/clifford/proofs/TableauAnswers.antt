@@ -1,28 +1,27 @@
 -- The answers of the functions that write tableaux and images: what the questions let by, and what is then written.
 use mathlib.Core.Path.{_≡_, refl, sym, ap, ap₂, _∙_, subst}
 use mathlib.Core.List.{List, [], _∷_, _++_}
-use Prim.Native.Nat.{ℕ, zero, suc, _+_, _*_, _-_, _≤_, _<_, max}
+use Prim.Native.Nat.{ℕ, _-_, _≤_, _<_, max}
 use native.Mathlib.Omega.{arith}
-use native.Mathlib.Nat.{not-suc-le-zero}
-use lib.ListN.{length, take, drop, replicate, length-take, length-drop}
+use lib.ListN.{length, take, drop, replicate, length-take}
 use borrow.Author.Needs.{needs}
 use borrow.Rule.Slice.PartMut.{putMid}
 use Rattle.pauli_group.specs.Letter.{X, Z}
-use Rattle.pauli_group.specs.PauliString.{PauliString, qubits, single}
-use Rattle.clifford_group.specs.Tableau.{Tableau, identityTableau, imageOf, apply, widen, compose, Same}
+use Rattle.pauli_group.specs.PauliString.{qubits}
+use Rattle.clifford_group.specs.Tableau.{Tableau, identityTableau, apply, widen, Same}
 use Rattle.clifford_group.proofs.Images.{image-above}
 use Rattle.pauli.specs.declared.refusal.Refusal.{Refusal}
 use Rattle.pauli.specs.declared.refusal.Outcome.{Outcome}
 use Rattle.pauli.specs.declared.refusal.Outcome.the-variants.{Done, Refused}
 use Rattle.pauli.specs.Answers.{written}
-use Rattle.pauli.specs.Layout.{stringLength, encodeString, decodeString, stringOf, stringRecord, WellFormed}
+use Rattle.pauli.specs.Layout.{encodeString, decodeString, stringOf, stringRecord, WellFormed}
 use Rattle.pauli.specs.Questions.{_andThen_, stringQuestions, roomQuestion}
 use Rattle.pauli.proofs.Answers.{answers}
 use Rattle.pauli.proofs.Asking.{refused, passed, done-first, done-second, string-formed, room-is, record-bytes, questions}
 use Rattle.clifford.specs.Layout.{recordLength, rowLength, widthOf, tableauOf, tableauRecord, FormedTableau}
 use Rattle.clifford.specs.Questions.{widthQuestion, tableauQuestions, identityAnswer, applyQuestions, applyAnswer, composeQuestions, composeAnswer, extendQuestions, extendAnswer}
 use Rattle.clifford.specs.Rows.{Sized, Sends, lettersIn, stringIn}
-use Rattle.clifford.specs.Tableaux.{identityRecord, applyRecord, composeRecord, extendRecord}
+use Rattle.clifford.specs.Tableaux.{identityRecord, applyRecord, extendRecord}
 use Rattle.clifford.specs.Writing.{Applies, Identifies, Extends, ExtendsTo, Composes, ComposesTo}
 use Rattle.clifford.proofs.TableauRecords.{same-record, width-of}
 use Rattle.clifford.proofs.TableauAsking.{tableau-formed, width-is, width-done}

@@ -1,15 +1,13 @@
 -- The questions put to tableaux: what is let by, and what an answer says of the bytes.
 use mathlib.Core.Path.{_≡_, refl, sym, ap, _∙_}
 use mathlib.Core.List.{List, [], _∷_}
-use Prim.Native.Nat.{ℕ, zero, suc, min, _+_, _*_, _-_, _<_, _≤_}
-use native.Mathlib.Nat.{not-suc-le-zero}
+use Prim.Native.Nat.{ℕ, min, _+_, _*_, _-_, _<_, _≤_}
 use native.Mathlib.Omega.{arith}
-use lib.Dec.{ltb, leb, eqb}
+use lib.Dec.{ltb}
 use lib.ListN.{length, getD, drop, length-drop}
 use lib.Seq.{getD-drop}
 use mir.Syntax.{w64}
 use mir.Val.{Fits}
-use borrow.Author.Needs.{needs}
 use borrow.Author.Tests.{lt-leb, le-leb, lt-ltb, le-ltb, eq-eqb, ne-eqb, eqb-true, leb-true, ltb-true, ltb-false}
 use Rattle.pauli_group.specs.PauliString.{qubits}
 use Rattle.clifford_group.specs.Tableau.{Tableau, Proper}

@@ -1,13 +1,12 @@
 -- Images handed out: the row's own part of the record, and no bytes exactly where the questions refuse.
-use mathlib.Core.Path.{_≡_, refl, sym, ap, ap₂, _∙_, subst}
+use mathlib.Core.Path.{_≡_, refl, sym, ap, _∙_}
 use mathlib.Core.List.{List, []}
-use Prim.Native.Nat.{ℕ, zero, suc, _+_, _*_, _-_, _≤_, _<_}
+use Prim.Native.Nat.{ℕ, _+_, _*_, _<_}
 use native.Mathlib.Omega.{arith}
-use lib.ListN.{length, take, drop}
+use lib.ListN.{length}
 use mir.Syntax.{w64}
 use mir.Val.{Fits}
 use borrow.Author.Needs.{needs}
-use Rattle.clifford_group.specs.Tableau.{Tableau}
 use Rattle.pauli.specs.declared.refusal.Refusal.{Refusal}
 use Rattle.pauli.specs.declared.refusal.Outcome.{Outcome}
 use Rattle.pauli.specs.declared.refusal.Outcome.the-variants.{Done, Refused}
@@ -17,7 +16,7 @@ use Rattle.clifford.specs.Answers.{partAnswer, CountAnswered}
 use Rattle.clifford.specs.Layout.{rowLength, rowOffset, encodeRow, rowOf, widthOf, rowPart, tableauOf}
 use Rattle.pauli.specs.declared.refusal.CountAnswer.{CountAnswer}
 use Rattle.pauli.specs.declared.refusal.CountAnswer.the-variants.{Count, NoCount}
-use Rattle.pauli.specs.Answers.{countAnswer, countReply, replyTo}
+use Rattle.pauli.specs.Answers.{countAnswer, countReply}
 use Rattle.pauli.proofs.Answers.{count-told}
 use Rattle.clifford.specs.Questions.{tableauQuestions, slotQuestion, imageQuestions}
 use Rattle.clifford.specs.Rows.{OwnRow, RowIndex, Sized}

@@ -1,15 +1,15 @@
 -- Laws of the layout of tableaux: both round trips, rows and their parts, and sizes.
 use mathlib.Core.Path.{_≡_, refl, sym, ap, ap₂, _∙_, subst}
 use mathlib.Core.Bool.{cond}
-use mathlib.Core.List.{List, [], _∷_, _++_}
+use mathlib.Core.List.{List, [], _∷_}
 use Prim.Native.Nat.{ℕ, zero, suc, _+_, _*_, _-_, _≤_, _<_}
-use native.Mathlib.Nat.{not-suc-le-zero, mul-le-mul-right, le-trans}
+use native.Mathlib.Nat.{not-suc-le-zero, mul-le-mul-right}
 use native.Mathlib.Omega.{arith}
 use native.Mathlib.Decide.{decLt}
-use lib.ListN.{length, getD, take, drop, length-take, length-drop}
+use lib.ListN.{length, getD, take, drop, length-drop}
 use lib.Seq.{take-all, getD-take, getD-drop, length-take-le}
 use borrow.Author.Tests.{lt-ltb, le-ltb}
-use Rattle.pauli_group.specs.PauliString.{PauliString, qubits, Within}
+use Rattle.pauli_group.specs.PauliString.{qubits, Within}
 use Rattle.clifford_group.specs.Tableau.{Tableau, Proper, Same}
 use Rattle.clifford_group.proofs.Same.{same-sym, same-trans}
 use Rattle.clifford.specs.Layout.{rowLength, encodeRow, decodeRow, rowOffset, recordLength, rowOf, joined, tableauRecord, widthOf, rowPart, tableauOf, FormedTableau}

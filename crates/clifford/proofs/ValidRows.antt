@@ -1,40 +1,35 @@
 -- Validity, read off the rows of a record.
-use mathlib.Core.Path.{_≡_, refl, sym, ap, ap₂, _∙_, subst}
+use mathlib.Core.Path.{_≡_, refl, sym, ap, ap₂, _∙_}
 use mathlib.Core.Bool.{Bool, true, false, cond, not, _&&_}
 use mathlib.Core.List.{List}
-use Prim.Native.Nat.{ℕ, zero, suc, min, _+_, _*_, _-_, _%_, _≤_, _<_}
+use Prim.Native.Nat.{ℕ, zero, suc, _+_, _*_, _%_, _≤_, _<_}
 use native.Mathlib.Nat.{not-suc-le-zero}
 use native.Mathlib.Numerals.{add-one}
 use native.Mathlib.Omega.{arith}
 use native.Mathlib.Decide.{ℕ-discrete}
 use lib.Dec.{eqb, ltb}
 use lib.ListN.{length, getD, drop, length-drop}
-use mir.Syntax.{w64}
-use mir.Val.{Fits}
 use borrow.Author.Needs.{needs}
 use borrow.Author.Tests.{le-ltb}
 use Rattle.pauli_group.specs.Phase.{isReal}
-use Rattle.pauli_group.specs.Letter.{Letter, I, anticommute}
+use Rattle.pauli_group.specs.Letter.{anticommute}
 use Rattle.pauli_group.specs.PauliString.{PauliString, qubits, countTo, anticommutingPlaces, commute, Within}
 use Rattle.pauli_group.proofs.Laws.{anticommute-I}
 use Rattle.pauli_group.proofs.Products.{countTo-ext}
 use Rattle.clifford_group.specs.Tableau.{Tableau, allTo, validQubit, validPair, isValid}
-use Rattle.pauli.specs.declared.refusal.Outcome.{Outcome}
-use Rattle.pauli.specs.declared.refusal.Outcome.the-variants.{Done}
 use Rattle.pauli.specs.declared.refusal.Flag.the-variants.{Yes, No}
 use Rattle.pauli.specs.Answers.{yesOrNo}
-use Rattle.pauli.specs.Layout.{phaseOf, letterOf}
+use Rattle.pauli.specs.Layout.{phaseOf}
 use Rattle.pauli.specs.Rows.{letterAt, placesOf, shorter}
 use Rattle.pauli.proofs.Answers.{answers}
 use Rattle.pauli.proofs.Places.{from, from-is}
 use Rattle.pauli.proofs.RowProducts.{count-exact}
-use Rattle.clifford.specs.Layout.{rowLength, decodeRow, rowOf, rowPart, widthOf, tableauOf, FormedTableau}
-use Rattle.clifford.specs.Questions.{tableauQuestions}
+use Rattle.clifford.specs.Layout.{rowLength, rowOf, rowPart, widthOf, tableauOf, FormedTableau}
 use Rattle.clifford.specs.Rows.{OwnRow, OwnRows, OwnQubit, OwnQubits, rowLetters}
 use Rattle.clifford.specs.Tableaux.{recordValid}
 use Rattle.clifford.proofs.TableauRows.{row-phase-at, row-letter-at, row-within}
 use Rattle.clifford.proofs.TableauRecords.{row-x, row-z, row-part, part-formed, width-of}
-use Rattle.clifford.proofs.TableauAsking.{tableau-formed, checked}
+use Rattle.clifford.proofs.TableauAsking.{checked}
 
 -- ---- the phase and the letters of a row
 pub part-some : {b p : List ℕ} {r : ℕ} → OwnRow b r → p ≡ rowPart b r → 0 < length p

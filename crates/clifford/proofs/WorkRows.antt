@@ -1,14 +1,13 @@
 -- Work rows: multiplied by rows and by letters, and written into a record.
 use mathlib.Core.Path.{_≡_, refl, sym, ap, ap₂, _∙_, subst}
 use mathlib.Core.Bool.{cond}
-use mathlib.Core.List.{List, [], _∷_, _++_}
-use Prim.Native.Nat.{ℕ, zero, suc, min, _+_, _*_, _-_, _≤_, _<_}
-use native.Mathlib.Nat.{not-suc-le-zero, mul-le-mul-right, le-trans}
+use mathlib.Core.List.{List, _++_}
+use Prim.Native.Nat.{ℕ, zero, suc, _+_, _*_, _-_, _≤_, _<_}
+use native.Mathlib.Nat.{not-suc-le-zero}
 use native.Mathlib.Numerals.{add-one}
 use native.Mathlib.Omega.{arith}
-use native.Mathlib.Decide.{decLt, ℕ-discrete}
-use lib.Dec.{ltb, eqb}
-use lib.ListN.{length, getD, set, take, drop, length-set, length-drop}
+use native.Mathlib.Decide.{ℕ-discrete}
+use lib.ListN.{length, getD, set, take, drop, length-set}
 use lib.Seq.{ext-getD, take-all, getD-set-same, getD-set-other}
 use mir.Syntax.{w64}
 use mir.Val.{Fits}
@@ -16,18 +15,18 @@ use borrow.Author.Needs.{needs}
 use borrow.Author.Tests.{lt-ltb, le-ltb, eq-eqb, ne-eqb}
 use Rattle.pauli_group.specs.Phase.{Phase, PlusOne, PlusI, _·_}
 use Rattle.pauli_group.specs.Letter.{Letter, I, X, Z, Y, letterMul, letterPhase}
-use Rattle.pauli_group.specs.PauliString.{PauliString, qubits, mul, scale, identityString, single, phaseOfLetters, productTo, Within}
+use Rattle.pauli_group.specs.PauliString.{PauliString, qubits, mul, scale, identityString, single, phaseOfLetters, Within}
 use Rattle.pauli_group.proofs.Laws.{·-comm, ·-one, letterMul-I, letterPhase-I}
 use Rattle.pauli_group.proofs.Products.{productTo-at}
 use Rattle.pauli_group.proofs.Strings.{mul-identity, scale-mul, mul-scale, mul-assoc, within-mul, within-scale}
-use Rattle.clifford_group.specs.Tableau.{Tableau, imageOf, rowImage}
+use Rattle.clifford_group.specs.Tableau.{imageOf, rowImage}
 use Rattle.clifford_group.proofs.Images.{image-own, image-above, image-I}
 use Rattle.pauli.specs.Layout.{phaseByte, phaseOf, letterByte, letterOf, encodeString, decodeString, WellFormed}
 use Rattle.pauli.specs.declared.algebra.PhasedLetter.{PhasedLetter}
 use Rattle.pauli.specs.Rows.{phaseBytesProduct, letterBytesProduct, productPhaseByte, productLetterByte, rowProduct, copied, shorter}
 use Rattle.pauli.proofs.Records.{phase-back, phase-there, letter-there, length-encode, encode-phase, encode-letter, encode-formed, decode-encode, encode-decode, decode-within, decode-letter, decode-phase}
 use Rattle.pauli.proofs.StringProducts.{row-product-is}
-use Rattle.clifford.specs.Layout.{rowLength, encodeRow, decodeRow, rowOffset, recordLength, rowOf, widthOf, rowPart, tableauOf, FormedTableau}
+use Rattle.clifford.specs.Layout.{rowLength, rowOffset, recordLength, rowOf, widthOf, rowPart, tableauOf}
 use Rattle.clifford.specs.Rows.{Sized, RowIndex, OwnRow, WorkRow, WorkOnRow, WorkOnQubit, WorkOnOwn, WorkOnLetter, WorkPlace, ClearRow, Finished, clearedRow, rowQubit, rowLetter, rowTimes, rowWritten, lettersIn, stringIn}
 use Rattle.clifford.proofs.TableauRows.{row-of-string, string-of-row, row-formed}
 use Rattle.clifford.proofs.TableauRecords.{row-x, row-z, row-part, row-room, record-small, part-formed, proper-of, width-of}

@@ -7,7 +7,7 @@ ghost use Rattle.pauli.specs.declared.refusal.Outcome.the-variants.{Done};
 ghost use Rattle.pauli.specs.Answers.{Written, written};
 ghost use Rattle.clifford.specs.Layout.{FormedTableau};
 ghost use Rattle.clifford.specs.Questions.{tableauQuestions};
-ghost use Rattle.clifford.specs.GateQuestions.{gateQuestion, secondQuestions, gateWidth, onQubitsQuestions, onQubitsAnswer, onQubitQuestions, onQubitAnswer, composeGateQuestions};
+ghost use Rattle.clifford.specs.GateQuestions.{gateQuestion, secondQuestions, onQubitsQuestions, onQubitsAnswer, onQubitQuestions, onQubitAnswer, composeGateQuestions};
 ghost use Rattle.clifford.specs.GateAnswers.{gateReply, nameAnswer, GateAnswered, NameAnswered, gateRecord, oneQubitRecord, productRecord, recordName};
 ghost use Rattle.clifford.specs.GateRows.{GateOn, GateSpan, GateFits, OneFits, BothSmall, NameIs};
 use crate::gates::first_gate;

@@ -2,8 +2,7 @@
 use mathlib.Core.Path.{_≡_, refl, sym, ap, ap₂, _∙_, subst}
 use mathlib.Core.Bool.{Bool}
 use mathlib.Core.List.{List, [], _∷_, _++_, append-nil}
-use Prim.Native.Nat.{ℕ, suc, _+_, _*_, _-_, _<_, _≤_}
-use native.Mathlib.Nat.{mul-le-mul-right}
+use Prim.Native.Nat.{ℕ, suc, _+_, _-_, _<_, _≤_}
 use native.Mathlib.Omega.{arith}
 use lib.ListN.{length, drop, drop-of-length-le}
 use mir.Val.{Fits}
@@ -14,7 +13,7 @@ use Rattle.pauli.specs.declared.refusal.Outcome.{Outcome}
 use Rattle.pauli.specs.declared.refusal.Outcome.the-variants.{Done}
 use Rattle.pauli.specs.Answers.{written, Written}
 use Rattle.pauli.proofs.Asking.{passed, has-room}
-use Rattle.clifford.specs.Layout.{recordLength, rowLength, widthOf, FormedTableau}
+use Rattle.clifford.specs.Layout.{recordLength, widthOf, FormedTableau}
 use Rattle.clifford.specs.GateAnswers.{gateRecord}
 use Rattle.clifford.specs.Playing.{played, GatePlayed}
 use Rattle.clifford.specs.Questions.{identityAnswer}

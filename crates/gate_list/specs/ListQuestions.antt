@@ -1,6 +1,6 @@
 -- The questions put to a gate list (scope document, "Questions on entry", the paragraph "List"), in their order.
-use Prim.Native.Nat.{ℕ, zero, suc, _*_, _-_, _%_}
-use mathlib.Core.Bool.{Bool, true, false, cond, not, _&&_, _||_}
+use Prim.Native.Nat.{ℕ, zero, suc, _-_, _%_}
+use mathlib.Core.Bool.{Bool, false, cond, not, _&&_, _||_}
 use mathlib.Core.List.{List, [], _∷_}
 use lib.Dec.{eqb, ltb, leb}
 use lib.ListN.{length}

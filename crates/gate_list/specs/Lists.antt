@@ -1,9 +1,9 @@
 -- Gate lists (scope document, "Gate list"): "Records of six bytes: gate, qubit, second qubit (0 for a one-qubit gate), 0, next index
 -- low byte, high byte. Record 0 is the head: 0, width, 0, 0, next. Next 0 ends the chain."
 use Prim.Native.Nat.{ℕ, zero, suc, _+_, _*_, _-_, _/_}
-use mathlib.Core.Bool.{Bool, true, cond, _&&_}
+use mathlib.Core.Bool.{cond}
 use mathlib.Core.List.{List, [], _∷_}
-use lib.Dec.{eqb, ltb}
+use lib.Dec.{eqb}
 use lib.ListN.{length, getD}
 
 abbrev pub recordSize : ℕ

@@ -1,6 +1,5 @@
 // The questions put to a list and to its records. Each answers Done, or the refusal.
 ghost use mathlib.Core.Path.{_≡_};
-ghost use Rattle.pauli.specs.Questions.{_andThen_};
 ghost use Rattle.gate_list.specs.Lists.{byteOf};
 ghost use Rattle.gate_list.specs.ListQuestions.{sizeQuestion, headQuestion, linkQuestion, zerosQuestion, gateQuestion, qubitQuestion, secondQuestions, recordQuestions};
 ghost use Rattle.gate_list.specs.Reading.{OwnRecord, zerosRight, differentQuestion, twoQuestions};

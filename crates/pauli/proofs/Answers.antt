@@ -8,13 +8,11 @@ use Rattle.pauli.specs.declared.algebra.PhasedLetter.{PhasedLetter}
 use Rattle.pauli.specs.declared.refusal.Refusal.{Refusal}
 use Rattle.pauli.specs.declared.refusal.Outcome.{Outcome}
 use Rattle.pauli.specs.declared.refusal.Outcome.the-variants.{Done, Refused}
-use Rattle.pauli.specs.declared.refusal.Product.{Product}
 use Rattle.pauli.specs.declared.refusal.Product.the-variants.{Multiplied, NoProduct}
 use Rattle.pauli.specs.declared.refusal.ByteAnswer.{ByteAnswer}
 use Rattle.pauli.specs.declared.refusal.ByteAnswer.the-variants.{Byte, NoByte}
 use Rattle.pauli.specs.declared.refusal.Flag.{Flag}
-use Rattle.pauli.specs.declared.refusal.Flag.the-variants.{Yes, No, NoFlag}
-use Rattle.pauli.specs.declared.refusal.CountAnswer.{CountAnswer}
+use Rattle.pauli.specs.declared.refusal.Flag.the-variants.{NoFlag}
 use Rattle.pauli.specs.declared.refusal.CountAnswer.the-variants.{Count, NoCount}
 use Rattle.pauli.specs.declared.refusal.LetterAnswer.{LetterAnswer}
 use Rattle.pauli.specs.declared.refusal.LetterAnswer.the-variants.{Phased, NoLetter}

@@ -4,19 +4,19 @@ use mathlib.Core.Bool.{Bool, true, false}
 use mathlib.Core.List.{List, _++_}
 use Prim.Native.Nat.{ℕ, _+_, _≤_, _<_}
 use native.Mathlib.Omega.{arith}
-use lib.Dec.{eqb, ltb, leb}
+use lib.Dec.{eqb, ltb}
 use lib.ListN.{length, getD, drop}
 use borrow.Author.Tests.{eqb-true, leb-true, ltb-true, le-leb, lt-leb, lt-ltb, le-ltb, eq-eqb, ne-eqb, ltb-false}
 use borrow.Author.Needs.{needs}
 use Rattle.pauli_group.specs.PauliString.{PauliString, qubits}
 use Rattle.pauli.specs.declared.refusal.Refusal.{Refusal}
-use Rattle.pauli.specs.declared.refusal.Refusal.the-variants.{Length, BadByte, Qubit, Room, Duplicate}
+use Rattle.pauli.specs.declared.refusal.Refusal.the-variants.{Length, BadByte, Qubit, Room}
 use Rattle.pauli.specs.declared.refusal.Outcome.{Outcome}
 use Rattle.pauli.specs.declared.refusal.Outcome.the-variants.{Done, Refused}
 use Rattle.pauli.specs.Answers.{written}
-use Rattle.pauli.specs.Layout.{stringLength, WellFormed, stringRecord, stringOf, encodeString, decodeString}
-use Rattle.pauli.specs.Questions.{ask, _andThen_, firstBad, bytesQuestion, byteQuestion, pairQuestions, stringQuestions, stringsQuestions, qubitQuestion, roomQuestion}
-use Rattle.pauli.proofs.Places.{first-le, first-is, first-before}
+use Rattle.pauli.specs.Layout.{WellFormed, stringRecord, stringOf}
+use Rattle.pauli.specs.Questions.{ask, _andThen_, firstBad, bytesQuestion, byteQuestion, stringQuestions, qubitQuestion, roomQuestion}
+use Rattle.pauli.proofs.Places.{first-is, first-before}
 use Rattle.pauli.proofs.Records.{encode-formed, encode-decode}
 
 -- ---- one question

@@ -1,18 +1,17 @@
 -- Dense text: its end, its letters, and the record that is written from them.
 use mathlib.Core.Path.{_≡_, refl, sym, ap, ap₂, _∙_}
-use mathlib.Core.Bool.{Bool, true, false, cond, not, _||_}
-use mathlib.Core.List.{List, [], _∷_, _++_, append-nil}
-use Prim.Native.Nat.{ℕ, zero, suc, max, _+_, _-_, _<_, _≤_}
-use native.Mathlib.Nat.{not-suc-le-zero}
+use mathlib.Core.Bool.{Bool, true, false, not, _||_}
+use mathlib.Core.List.{List, _∷_, _++_, append-nil}
+use Prim.Native.Nat.{ℕ, suc, max, _+_, _-_, _<_, _≤_}
 use native.Mathlib.Numerals.{add-one}
 use native.Mathlib.Omega.{arith}
-use lib.Dec.{ltb, eqb}
-use lib.ListN.{length, getD, take, drop, set, length-take, length-drop, drop-of-length-le, List·getD-eq-default}
+use lib.Dec.{ltb}
+use lib.ListN.{length, getD, take, drop, set, length-take, length-drop, drop-of-length-le}
 use lib.Seq.{drop-cons, take-all}
 use borrow.Author.Needs.{needs}
-use borrow.Author.Tests.{eq-eqb, ne-eqb, lt-ltb, le-ltb}
+use borrow.Author.Tests.{ne-eqb, lt-ltb, le-ltb}
 use borrow.Rule.Slice.PartMut.{putMid}
-use Rattle.pauli_group.specs.PauliString.{PauliString, qubits}
+use Rattle.pauli_group.specs.PauliString.{qubits}
 use Rattle.pauli.specs.declared.refusal.Refusal.{Refusal}
 use Rattle.pauli.specs.declared.refusal.Refusal.the-variants.{NotLetter, TextQubit}
 use Rattle.pauli.specs.declared.refusal.Outcome.{Outcome}
@@ -20,14 +19,14 @@ use Rattle.pauli.specs.declared.refusal.Outcome.the-variants.{Done, Refu
 use Rattle.pauli.specs.declared.text.Head.{Head}
 use Rattle.pauli.specs.Answers.{written, Written}
 use Rattle.pauli.specs.Places.{listed, firstPlace}
-use Rattle.pauli.specs.Layout.{phaseByte, letterByte, letterOf, encodeString, stringRecord}
-use Rattle.pauli.specs.Questions.{ask, _andThen_, roomQuestion}
+use Rattle.pauli.specs.Layout.{phaseByte, encodeString, stringRecord}
+use Rattle.pauli.specs.Questions.{_andThen_, roomQuestion}
 use Rattle.pauli.specs.Reading.{EndRead, HeadRead, lettersNamed, DenseAt, DenseFit}
 use Rattle.pauli.specs.Text.{isSpace, isIdentity, letterNamed, textEnd, textPhase, bodyStart, asciiQuestion, denseBody, denseLetter, letterQuestions, denseQuestions, denseString, fromDenseQuestions, denseRecord}
 use Rattle.pauli.proofs.Answers.{answers, written-done}
-use Rattle.pauli.proofs.Asking.{andThen-assoc, asked-yes, asked-no, refused, passed, done-first, done-second, room-is, record-bytes}
+use Rattle.pauli.proofs.Asking.{andThen-assoc, asked-yes, asked-no, refused, passed, done-second, room-is, record-bytes}
 use Rattle.pauli.proofs.EntryStrings.{put-record}
-use Rattle.pauli.proofs.Places.{NoneBefore, none-start, none-more, none-found, none-left, length-listed, getD-listed, listed-ext, Filled, filled-none, filled-step, filled-length, filled-room, filled-all}
+use Rattle.pauli.proofs.Places.{none-start, none-more, none-found, none-left, length-listed, getD-listed, listed-ext, Filled, filled-none, filled-step, filled-length, filled-room, filled-all}
 use Rattle.pauli.proofs.Records.{letter-there}
 use Rattle.pauli.proofs.SparseReading.{letter-small}
 use Rattle.pauli.proofs.TextBytes.{not-on, not-off}

@@ -1,19 +1,18 @@
 -- `from_str`: its rule is the same as any digit in the text, and its answer is that of the reader it picks.
-use mathlib.Core.Path.{_≡_, refl, sym, ap, ap₂, _∙_, subst}
-use mathlib.Core.Bool.{Bool, true, false, cond, not, _&&_, _||_}
+use mathlib.Core.Path.{_≡_, refl, sym, ap, _∙_, subst}
+use mathlib.Core.Bool.{Bool, true, false, cond, _&&_, _||_}
 use mathlib.Core.List.{List, [], _∷_}
 use mathlib.Core.Logic.{_⊎_, inl, inr}
-use Prim.Native.Nat.{ℕ, zero, suc, _+_, _<_, _≤_}
+use Prim.Native.Nat.{ℕ, _+_, _<_, _≤_}
 use native.Mathlib.Numerals.{add-one}
 use native.Mathlib.Omega.{arith}
 use lib.Dec.{leb, eqb}
 use lib.ListN.{length, getD, drop, drop-of-length-le}
 use lib.Seq.{drop-cons, drop-nil}
 use borrow.Author.Needs.{needs}
-use borrow.Author.Tests.{leb-true, eqb-true, lt-leb, le-leb}
+use borrow.Author.Tests.{leb-true, eqb-true}
 use Rattle.pauli.specs.declared.refusal.Outcome.{Outcome}
 use Rattle.pauli.specs.Answers.{Written}
-use Rattle.pauli.specs.Places.{firstPlace}
 use Rattle.pauli.specs.Questions.{_andThen_, roomQuestion}
 use Rattle.pauli.specs.Layout.{stringRecord}
 use Rattle.pauli.specs.Text.{isSpace, isDigit, isSign, isSmallI, leadingSpaces, textStart, withoutSigns, withoutI, anyDigit, isSparse, textQuestions, textString, fromSparseQuestions, sparseRecord, fromDenseQuestions, denseRecord, fromStrQuestions, textRecord, sparseQuestions, denseQuestions, sparseString, denseString}

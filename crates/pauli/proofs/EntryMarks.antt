@@ -2,28 +2,25 @@
 use mathlib.Core.Path.{_≡_, refl, sym, ap, ap₂, _∙_}
 use mathlib.Core.Bool.{Bool, true, false, cond}
 use mathlib.Core.Logic.{_≢_}
-use mathlib.Core.List.{List, [], _∷_, _++_}
+use mathlib.Core.List.{List}
 use Prim.Native.Nat.{ℕ, zero, suc, _+_, _*_, _-_, _/_, _%_, _<_, _≤_}
-use native.Mathlib.Nat.{not-suc-le-zero}
 use native.Mathlib.Numerals.{add-one}
-use native.Mathlib.Decide.{ℕ-discrete, decLt}
+use native.Mathlib.Decide.{ℕ-discrete}
 use native.Mathlib.Omega.{arith}
 use lib.Dec.{ltb, leb, eqb}
 use lib.ListN.{length, getD, set, replicate, length-set, getD-replicate, length-replicate}
 use lib.Seq.{ext-getD, getD-set-same, getD-set-other}
 use borrow.Author.Needs.{needs}
-use borrow.Author.Tests.{lt-ltb, le-ltb, le-leb, lt-leb, eq-eqb, ne-eqb, leb-true, ltb-false, leb-false, eqb-true}
-use Rattle.pauli_group.specs.Letter.{Letter, I}
-use Rattle.pauli_group.specs.PauliString.{PauliString, qubits, countTo}
-use Rattle.pauli.specs.declared.refusal.Refusal.{Refusal}
-use Rattle.pauli.specs.declared.refusal.Refusal.the-variants.{Length, BadByte, Qubit, Duplicate}
-use Rattle.pauli.specs.declared.refusal.Outcome.{Outcome}
+use borrow.Author.Tests.{lt-ltb, le-ltb, le-leb, lt-leb, eq-eqb, ne-eqb, leb-true, ltb-false, leb-false}
+use Rattle.pauli_group.specs.Letter.{I}
+use Rattle.pauli_group.specs.PauliString.{qubits, countTo}
+use Rattle.pauli.specs.declared.refusal.Refusal.the-variants.{Length, BadByte, Qubit}
 use Rattle.pauli.specs.declared.refusal.Outcome.the-variants.{Done, Refused}
-use Rattle.pauli.specs.Places.{listed, firstPlace}
+use Rattle.pauli.specs.Places.{firstPlace}
 use Rattle.pauli.specs.Layout.{letterOf, letterByte}
 use Rattle.pauli.specs.Entries.{entryCount, entryLetter, entryQubit, occurrences, entryOf, entriesString}
 use Rattle.pauli.specs.Marks.{markMore, markTo, marksTo, firstTwice, unmarked, MarkFits, Unmarked}
-use Rattle.pauli.specs.Questions.{ask, _andThen_, byteQuestion, evenQuestion, firstBadEntry, entryLettersQuestion, firstHighEntry, entryQubitsQuestion, entryQuestions, smallestDuplicate, duplicateQuestion}
+use Rattle.pauli.specs.Questions.{byteQuestion, evenQuestion, firstBadEntry, entryLettersQuestion, firstHighEntry, entryQubitsQuestion, entryQuestions, smallestDuplicate}
 use Rattle.pauli.proofs.Asking.{asked-yes, asked-no, ask-done, done-first, done-second}
 use Rattle.pauli.proofs.Places.{length-listed, getD-listed, first-le, first-is, first-before, first-has}
 use Rattle.pauli.proofs.Records.{letter-there}

@@ -1,8 +1,7 @@
 -- Strings made from entries: the questions in their order, and the record that is written from the marks.
 use mathlib.Core.Path.{_≡_, refl, sym, ap, ap₂, _∙_}
-use mathlib.Core.Bool.{Bool, true, false, cond}
 use mathlib.Core.List.{List, [], _∷_, _++_, append-nil}
-use Prim.Native.Nat.{ℕ, zero, suc, min, _+_, _-_, _<_, _≤_}
+use Prim.Native.Nat.{ℕ, _<_, _≤_}
 use native.Mathlib.Nat.{not-suc-le-zero}
 use native.Mathlib.Omega.{arith}
 use lib.Dec.{leb}
@@ -11,17 +10,17 @@ use lib.Seq.{take-all}
 use borrow.Author.Needs.{needs}
 use borrow.Author.Tests.{le-leb, lt-leb, leb-true}
 use borrow.Rule.Slice.PartMut.{putMid}
-use Rattle.pauli_group.specs.PauliString.{PauliString, qubits}
+use Rattle.pauli_group.specs.PauliString.{qubits}
 use Rattle.pauli.specs.declared.refusal.Refusal.{Refusal}
 use Rattle.pauli.specs.declared.refusal.Refusal.the-variants.{Duplicate}
 use Rattle.pauli.specs.declared.refusal.Outcome.{Outcome}
 use Rattle.pauli.specs.declared.refusal.Outcome.the-variants.{Done, Refused}
 use Rattle.pauli.specs.Answers.{written, Written}
 use Rattle.pauli.specs.Places.{listed}
-use Rattle.pauli.specs.Layout.{phaseByte, phaseOf, letterByte, encodeString, stringRecord}
+use Rattle.pauli.specs.Layout.{letterByte, encodeString, stringRecord}
 use Rattle.pauli.specs.Entries.{entryCount, entryLetter, entriesString}
 use Rattle.pauli.specs.Marks.{marksTo, firstTwice, unmarked, Unmarked, marksQuestion, Blank, EntriesRead, lettersMarked, MarksFit}
-use Rattle.pauli.specs.Questions.{ask, _andThen_, byteQuestion, evenQuestion, entryLettersQuestion, entryQubitsQuestion, entryQuestions, smallestDuplicate, duplicateQuestion, roomQuestion, withPhaseQuestions}
+use Rattle.pauli.specs.Questions.{ask, _andThen_, byteQuestion, entryQuestions, smallestDuplicate, duplicateQuestion, roomQuestion, withPhaseQuestions}
 use Rattle.pauli.specs.Rows.{shorter}
 use Rattle.pauli.specs.Strings.{entriesRecord}
 use Rattle.pauli.proofs.Answers.{answers, written-done}

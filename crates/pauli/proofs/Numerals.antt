@@ -2,20 +2,20 @@
 use mathlib.Core.Path.{_≡_, refl, sym, ap, ap₂, _∙_}
 use mathlib.Core.Bool.{Bool, true, false, cond, not, _&&_}
 use mathlib.Core.List.{List, [], _∷_}
-use Prim.Native.Nat.{ℕ, zero, suc, _+_, _*_, _-_, _/_, _^_, _<_, _≤_}
+use Prim.Native.Nat.{ℕ, _+_, _*_, _-_, _/_, _^_, _<_, _≤_}
 use native.Mathlib.Numerals.{add-one}
 use native.Mathlib.Omega.{arith}
-use lib.Dec.{ltb, leb, eqb}
-use lib.ListN.{length, getD, take, drop, drop-of-length-le}
+use lib.Dec.{ltb}
+use lib.ListN.{length, getD, drop, drop-of-length-le}
 use lib.Seq.{drop-cons}
 use borrow.Author.Needs.{needs}
-use borrow.Author.Tests.{eq-eqb, ne-eqb, lt-ltb, le-ltb, leb-true, le-leb, lt-leb}
+use borrow.Author.Tests.{eq-eqb, ne-eqb, lt-ltb, le-ltb}
 use Rattle.pauli.specs.declared.text.Numeral.{Numeral}
 use Rattle.pauli.specs.declared.text.Numeral.the-variants.{Value, NotNumber}
 use Rattle.pauli.specs.Reading.{DigitValue, numeralIf, areDigits, digitsNumeral, indexNumeral}
 use Rattle.pauli.specs.Text.{isDigit, allDigits, digitsValue, withoutPlus, indexValue, isIndex}
 use Rattle.pauli.proofs.Places.{from, from-is}
-use Rattle.pauli.proofs.TextBytes.{digit-low, digit-high, digit-mid}
+use Rattle.pauli.proofs.TextBytes.{digit-low, digit-high}
 
 -- ---- one digit
 never-both : {b : Bool} → false ≡ b → b ≡ true → ⊥

@@ -1,15 +1,14 @@
 -- Rows multiplied and compared place by place: what a loop has done before a place, and what a caller reads off the contracts.
 use mathlib.Core.Path.{_≡_, refl, sym, ap, ap₂, _∙_}
-use mathlib.Core.Bool.{Bool, cond}
-use mathlib.Core.List.{List, [], _∷_, _++_}
-use Prim.Native.Nat.{ℕ, zero, suc, min, _+_, _-_, _%_, _<_, _≤_, zero-le}
+use mathlib.Core.List.{List, _++_}
+use Prim.Native.Nat.{ℕ, zero, suc, _+_, _-_, _%_, _<_, _≤_, zero-le}
 use native.Mathlib.Numerals.{add-one}
 use native.Mathlib.Omega.{arith}
-use lib.ListN.{length, take, drop, getD, set, length-append, length-drop, List·getD-append}
+use lib.ListN.{length, drop, getD, set, length-append, length-drop, List·getD-append}
 use lib.Seq.{getD-drop, getD-append-add}
 use borrow.Author.Needs.{needs}
-use Rattle.pauli_group.specs.Phase.{Phase, PlusOne, _·_}
-use Rattle.pauli_group.specs.Letter.{Letter, letterPhase, letterMul, anticommute}
+use Rattle.pauli_group.specs.Phase.{_·_}
+use Rattle.pauli_group.specs.Letter.{letterPhase, letterMul, anticommute}
 use Rattle.pauli_group.specs.PauliString.{productTo, countTo}
 use Rattle.pauli_group.specs.Papers.{power}
 use Rattle.pauli_group.proofs.Laws.{·-assoc, ·-one}

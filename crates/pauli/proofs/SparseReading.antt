@@ -1,14 +1,14 @@
 -- Sparse text read token by token: an index, one entry, and the tokens that are left.
 use mathlib.Core.Path.{_≡_, refl, sym, ap, ap₂, _∙_, subst}
-use mathlib.Core.Bool.{Bool, true, false, cond, not, _&&_, _||_}
-use mathlib.Core.List.{List, [], _∷_, _++_, append-nil, append-assoc}
-use Prim.Native.Nat.{ℕ, zero, suc, _+_, _-_, _/_, _*_, _<_, _≤_}
+use mathlib.Core.Bool.{Bool, true, false, cond, not, _||_}
+use mathlib.Core.List.{List, [], _∷_}
+use Prim.Native.Nat.{ℕ, zero, suc, _+_, _-_, _<_, _≤_}
 use native.Mathlib.Nat.{not-suc-le-zero}
 use native.Mathlib.Numerals.{add-one}
 use native.Mathlib.Omega.{arith}
 use lib.Dec.{ltb, eqb}
-use lib.ListN.{length, getD, take, drop, set, length-take, length-drop, length-append, drop-of-length-le, List·getD-append}
-use lib.Seq.{drop-drop, getD-take, getD-drop, drop-cons, getD-append-add}
+use lib.ListN.{length, getD, take, drop, length-take, length-drop, drop-of-length-le}
+use lib.Seq.{drop-drop, getD-take, getD-drop, drop-cons}
 use borrow.Author.Needs.{needs}
 use borrow.Author.Tests.{lt-ltb, le-ltb, ltb-true}
 use Rattle.pauli_group.specs.PauliString.{qubits}
@@ -25,7 +25,6 @@ use Rattle.pauli.specs.Questions.{ask, _andThen_}
 use Rattle.pauli.specs.Reading.{Skipped, numeralIf, indexNumeral, indexAnswer, entryAfter, WordAt, LetterAt, OneEntry, HighEntry, EntryRead}
 use Rattle.pauli.specs.Text.{isSpace, letterNamed, leadingSpaces, leadingWord, Token, token, tokens, isIndex, indexValue, indexQuestions, hasIndex, attachedQuestions, attachedEntry, apartEntry, tokenQuestions, tokenEntries}
 use Rattle.pauli.proofs.Asking.{asked-yes, asked-no, refused, passed}
-use Rattle.pauli.proofs.Cases.{at-case}
 use Rattle.pauli.specs.Places.{firstPlace}
 use Rattle.pauli.proofs.Places.{first-has}
 use Rattle.pauli.proofs.Tokens.{word-here, refused-first, done-then, tokens-skip, tokens-word, not-letter, attached-questions, attached-entries, no-index, apart-questions, apart-entries}

@@ -1,27 +1,23 @@
 -- Strings from sparse text: the questions in their order, and the record that is written from the marks.
-use mathlib.Core.Path.{_≡_, refl, sym, ap, _∙_, subst}
+use mathlib.Core.Path.{_≡_, sym, ap, _∙_, subst}
 use mathlib.Core.List.{List, _∷_, _++_}
 use Prim.Native.Nat.{ℕ, _≤_}
 use native.Mathlib.Omega.{arith}
-use lib.Dec.{leb}
 use lib.ListN.{length, drop}
 use borrow.Author.Needs.{needs}
-use Rattle.pauli_group.specs.PauliString.{qubits}
 use Rattle.pauli.specs.declared.refusal.Refusal.{Refusal}
-use Rattle.pauli.specs.declared.refusal.Refusal.the-variants.{Duplicate}
 use Rattle.pauli.specs.declared.refusal.Outcome.{Outcome}
 use Rattle.pauli.specs.declared.refusal.Outcome.the-variants.{Done, Refused}
 use Rattle.pauli.specs.declared.text.Head.{Head}
 use Rattle.pauli.specs.Answers.{written, Written}
-use Rattle.pauli.specs.Entries.{entryCount, entryLetter, entriesString}
-use Rattle.pauli.specs.Layout.{phaseByte, stringRecord}
+use Rattle.pauli.specs.Entries.{entryCount, entriesString}
+use Rattle.pauli.specs.Layout.{stringRecord}
 use Rattle.pauli.specs.Marks.{marksTo, marksQuestion, Blank, lettersMarked, MarksFit}
-use Rattle.pauli.specs.Questions.{ask, _andThen_, duplicateQuestion, roomQuestion}
+use Rattle.pauli.specs.Questions.{_andThen_, duplicateQuestion, roomQuestion}
 use Rattle.pauli.specs.Reading.{HeadRead, BodyAt, GoodEntries, TokensRead, SparseAt, SparseRead}
 use Rattle.pauli.specs.Text.{tokenEntries, textPhase, bodyStart, asciiQuestion, tokens, tokenQuestions, sparseTokens, sparseEntries, sparseQuestions, sparseString, fromSparseQuestions, sparseRecord}
 use Rattle.pauli.proofs.Answers.{answers, written-done}
 use Rattle.pauli.proofs.Asking.{andThen-assoc, refused, passed, done-first, done-second, room-is}
-use Rattle.pauli.proofs.EntryMarks.{first-duplicate}
 use Rattle.pauli.proofs.EntryStrings.{marks-question, marked-bytes, marked-fit, not-done}
 use Rattle.pauli.proofs.Records.{phase-small}
 

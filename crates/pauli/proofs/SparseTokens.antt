@@ -1,24 +1,23 @@
 -- All tokens of a sparse text: what has been read and marked before a place.
-use mathlib.Core.Path.{_≡_, refl, sym, ap, ap₂, _∙_, subst}
-use mathlib.Core.Bool.{Bool, true, false, cond}
+use mathlib.Core.Path.{_≡_, refl, sym, ap, _∙_, subst}
+use mathlib.Core.Bool.{Bool, false, cond}
 use mathlib.Core.List.{List, [], _∷_, _++_, append-assoc, append-nil}
-use Prim.Native.Nat.{ℕ, zero, suc, _+_, _*_, _-_, _/_, _<_, _≤_, min}
+use Prim.Native.Nat.{ℕ, zero, suc, _+_, _*_, _-_, _<_, _≤_, min}
 use native.Mathlib.Nat.{le-refl, not-suc-le-zero}
 use native.Mathlib.Decide.{ℕ-discrete, decLt}
 use native.Mathlib.Omega.{arith}
 use lib.Dec.{eqb}
-use lib.ListN.{length, getD, drop, set, length-append, length-drop, drop-of-length-le, List·getD-append}
+use lib.ListN.{length, getD, drop, set, length-append, drop-of-length-le, List·getD-append}
 use lib.Seq.{getD-append-add, drop-drop}
 use borrow.Author.Needs.{needs}
 use Rattle.pauli.specs.declared.refusal.Refusal.{Refusal}
 use Rattle.pauli.specs.declared.refusal.Refusal.the-variants.{TextQubit}
-use Rattle.pauli.specs.declared.refusal.Outcome.{Outcome}
 use Rattle.pauli.specs.declared.refusal.Outcome.the-variants.{Done, Refused}
 use Rattle.pauli.specs.declared.sparse_reader.EntryAnswer.{EntryAnswer}
 use Rattle.pauli.specs.declared.sparse_reader.EntryAnswer.the-variants.{Entry, High, NoEntry}
 use Rattle.pauli_group.specs.PauliString.{qubits}
 use Rattle.pauli.specs.Entries.{entryCount, entryLetter, entryQubit}
-use Rattle.pauli.specs.Marks.{markMore, markTo, marksTo, MarkFits, Blank}
+use Rattle.pauli.specs.Marks.{markMore, markTo, marksTo, MarkFits}
 use Rattle.pauli.specs.Reading.{Skipped, WordAt, OneEntry, HighEntry, EntryRead, BodyAt, GoodEntries, TokensRead}
 use Rattle.pauli.specs.Text.{isSpace, leadingSpaces, Token, tokens, tokenQuestions, tokenEntries}
 use Rattle.pauli.proofs.EntryMarks.{length-marks, mark-step}

@@ -1,19 +1,16 @@
 -- Rows with their phases: the kernel's product is the product of strings.
 use mathlib.Core.Path.{_≡_, refl, sym, ap, ap₂, _∙_}
-use mathlib.Core.Bool.{cond}
 use mathlib.Core.List.{List, [], _∷_, _++_, append-nil}
-use Prim.Native.Nat.{ℕ, zero, suc, min, _+_, _-_, _<_, _≤_}
-use native.Mathlib.Nat.{not-suc-le-zero}
+use Prim.Native.Nat.{ℕ, suc, _+_, _-_, _<_, _≤_}
 use native.Mathlib.Decide.{decLt}
 use native.Mathlib.Omega.{arith}
-use lib.Dec.{ltb}
-use lib.ListN.{length, take, drop, getD, set, length-append, length-drop, length-take, drop-of-length-le, List·getD-append}
-use lib.Seq.{ext-getD, getD-drop, getD-append-add, take-all, take-at, drop-at, take-length}
+use lib.ListN.{length, take, drop, getD, set, length-append, length-drop, drop-of-length-le, List·getD-append}
+use lib.Seq.{getD-drop, getD-append-add, take-all, take-at, drop-at}
 use borrow.Author.Needs.{needs}
 use borrow.Rule.Slice.PartMut.{putMid}
-use Rattle.pauli_group.specs.Phase.{Phase, PlusOne, _·_}
-use Rattle.pauli_group.specs.Letter.{Letter, I, letterPhase, letterMul}
-use Rattle.pauli_group.specs.PauliString.{PauliString, qubits, productTo, phaseOfLetters, mul}
+use Rattle.pauli_group.specs.Phase.{Phase, _·_}
+use Rattle.pauli_group.specs.Letter.{letterPhase, letterMul}
+use Rattle.pauli_group.specs.PauliString.{PauliString, qubits, phaseOfLetters, mul}
 use Rattle.pauli_group.proofs.Laws.{letterPhase-I, letterMul-I}
 use Rattle.pauli_group.proofs.Products.{productTo-ext, productTo-cut}
 use Rattle.pauli.specs.Places.{listed}
@@ -28,7 +25,7 @@ use Rattle.pauli.specs.Questions.{stringQuestions, stringsQuestions, mul
 use Rattle.pauli.proofs.Answers.{answers}
 use Rattle.pauli.proofs.Asking.{done-first, done-second, string-formed, room-is, record-bytes}
 use Rattle.pauli.proofs.Places.{from, from-is, listed-is, getD-listed, length-listed}
-use Rattle.pauli.proofs.Records.{phase-back, letter-there, length-encode, encode-phase, encode-letter, decode-phase, decode-letter, decode-within}
+use Rattle.pauli.proofs.Records.{phase-back, letter-there, decode-letter, decode-within}
 
 -- ---- the kernel's row with its phase
 -- what comes back of `&mut d[1..]`, and a store at 0

@@ -1,8 +1,7 @@
 -- What the functions that read string records find.
-use mathlib.Core.Path.{_≡_, refl, sym, ap, ap₂, _∙_}
-use mathlib.Core.Bool.{Bool, true, false}
+use mathlib.Core.Path.{_≡_, sym, ap, ap₂, _∙_}
 use mathlib.Core.List.{List}
-use Prim.Native.Nat.{ℕ, zero, suc, min, _+_, _-_, _%_, _<_, _≤_}
+use Prim.Native.Nat.{ℕ, suc, _+_, _%_, _<_}
 use native.Mathlib.Numerals.{add-one}
 use native.Mathlib.Omega.{arith}
 use lib.Dec.{eqb}
@@ -12,14 +11,14 @@ use mir.Val.{Fits}
 use borrow.Author.Needs.{needs}
 use borrow.Author.Tests.{eq-eqb, ne-eqb}
 use Rattle.pauli_group.specs.Letter.{anticommute}
-use Rattle.pauli_group.specs.PauliString.{qubits, countTo, anticommutingPlaces, commute}
+use Rattle.pauli_group.specs.PauliString.{qubits, anticommutingPlaces, commute}
 use Rattle.pauli_group.proofs.Products.{countTo-ext}
 use Rattle.pauli.specs.declared.refusal.Outcome.{Outcome}
 use Rattle.pauli.specs.declared.refusal.Outcome.the-variants.{Done}
 use Rattle.pauli.specs.declared.refusal.Flag.the-variants.{Yes, No}
 use Rattle.pauli.specs.Answers.{yesOrNo}
-use Rattle.pauli.specs.Layout.{phaseByte, phaseOf, letterByte, letterOf, decodeString, stringOf, WellFormed}
-use Rattle.pauli.specs.Questions.{stringQuestions, stringsQuestions, getQuestions, qubitQuestion}
+use Rattle.pauli.specs.Layout.{letterByte, letterOf, decodeString, stringOf}
+use Rattle.pauli.specs.Questions.{stringQuestions, stringsQuestions, getQuestions}
 use Rattle.pauli.specs.Rows.{letterAt, placesOf, shorter}
 use Rattle.pauli.specs.Strings.{phaseOfRecord, letterOfRecord, recordsCommute}
 use Rattle.pauli.specs.Writing.{Pair}

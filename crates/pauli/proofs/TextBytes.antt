@@ -1,23 +1,22 @@
 -- Bytes of text: what the tests on them find.
 use mathlib.Core.Path.{_≡_, refl, sym, ap, ap₂, _∙_}
 use mathlib.Core.Bool.{Bool, true, false, cond, not, _&&_, _||_}
-use mathlib.Core.List.{List, [], _∷_}
+use mathlib.Core.List.{List}
 use mathlib.Core.Logic.{_⊎_, inl, inr}
-use Prim.Native.Nat.{ℕ, zero, suc, _+_, _^_, _<_, _≤_}
+use Prim.Native.Nat.{ℕ, suc, _+_, _^_, _<_, _≤_}
 use native.Mathlib.Numerals.{add-one}
 use native.Mathlib.Decide.{decLt}
 use native.Mathlib.Omega.{arith}
-use lib.Dec.{leb, ltb, eqb}
+use lib.Dec.{leb, eqb}
 use lib.ListN.{length, getD, drop, length-drop, List·getD-eq-default}
 use mir.Syntax.{w64}
 use mir.Val.{Fits}
 use borrow.Author.Needs.{needs}
-use borrow.Author.Tests.{eqb-true, eq-eqb, ne-eqb, le-leb, lt-leb, lt-ltb, le-ltb}
-use Rattle.pauli_group.specs.Phase.{Phase, PlusOne, MinusOne, PlusI, MinusI}
+use borrow.Author.Tests.{eqb-true, ne-eqb, le-leb, lt-leb}
+use Rattle.pauli_group.specs.Phase.{PlusOne, MinusOne, PlusI, MinusI}
 use Rattle.pauli.specs.declared.refusal.Refusal.the-variants.{NotAscii}
 use Rattle.pauli.specs.declared.refusal.Outcome.the-variants.{Done, Refused}
 use Rattle.pauli.specs.declared.text.Prefix.{Prefix}
-use Rattle.pauli.specs.declared.text.Head.{Head}
 use Rattle.pauli.specs.Layout.{phaseByte}
 use Rattle.pauli.specs.Reading.{Skipped, PrefixRead, HeadRead}
 use Rattle.pauli.specs.Text.{isSpace, isDigit, isSign, isSmallI, letterNamed, leadingSpaces, leadingWord, textStart, prefixPhase, prefixLength, textPhase, bodyStart, firstNotAscii, asciiQuestion}

@@ -2,23 +2,19 @@
 use mathlib.Core.Path.{_≡_, refl, sym, ap, ap₂, _∙_}
 use mathlib.Core.Bool.{Bool, true, false, cond, not}
 use mathlib.Core.List.{List, [], _∷_, _++_, append-nil}
-use Prim.Native.Nat.{ℕ, zero, suc, _+_, _-_, _<_, _≤_}
-use native.Mathlib.Nat.{not-suc-le-zero}
-use native.Mathlib.Numerals.{add-one}
+use Prim.Native.Nat.{ℕ, zero, suc, _+_, _<_}
 use native.Mathlib.Omega.{arith}
-use lib.Dec.{ltb, eqb}
-use lib.ListN.{length, getD, take, drop, length-take, length-drop}
-use lib.Seq.{drop-nil, drop-drop, getD-take, getD-drop}
-use borrow.Author.Tests.{lt-ltb, le-ltb, eqb-true}
+use lib.ListN.{length, getD, take, drop}
+use lib.Seq.{drop-nil}
+use borrow.Author.Tests.{lt-ltb, le-ltb}
 use Rattle.pauli.specs.declared.refusal.Refusal.{Refusal}
 use Rattle.pauli.specs.declared.refusal.Refusal.the-variants.{NotLetter, NoIndex}
 use Rattle.pauli.specs.declared.refusal.Outcome.{Outcome}
 use Rattle.pauli.specs.declared.refusal.Outcome.the-variants.{Done, Refused}
 use Rattle.pauli.specs.Places.{firstPlace}
-use Rattle.pauli.specs.Questions.{ask, _andThen_}
-use Rattle.pauli.specs.Text.{isSpace, letterNamed, leadingSpaces, leadingWord, Token, token, startsWord, longer, tokens, indexQuestions, indexValue, letterQuestion, hasIndex, attachedQuestions, tokenQuestions, attachedEntry, apartEntry, tokenEntries}
-use Rattle.pauli.proofs.Asking.{asked-yes, asked-no, refused, passed}
-use Rattle.pauli.proofs.Places.{first-le}
+use Rattle.pauli.specs.Questions.{_andThen_}
+use Rattle.pauli.specs.Text.{isSpace, letterNamed, leadingSpaces, leadingWord, Token, token, startsWord, longer, tokens, indexQuestions, letterQuestion, hasIndex, attachedQuestions, tokenQuestions, attachedEntry, apartEntry, tokenEntries}
+use Rattle.pauli.proofs.Asking.{asked-yes, asked-no}
 
 -- ---- white space and words at the front
 pub spaces-here : (c : ℕ) (cs : List ℕ) → isSpace c ≡ true → leadingSpaces (c ∷ cs) ≡ suc (leadingSpaces cs)

@@ -1,10 +1,10 @@
 -- The questions on entry (scope document, "Questions on entry"), each with its refusal, and the order in which they are put.
-use Prim.Native.Nat.{ℕ, _+_, _*_, _/_, _%_}
+use Prim.Native.Nat.{ℕ, _+_, _*_, _%_}
 use mathlib.Core.Bool.{Bool, true, false}
 use mathlib.Core.List.{List}
 use lib.Dec.{ltb, leb, eqb}
 use lib.ListN.{length, getD}
-use Rattle.pauli_group.specs.PauliString.{qubits, countTo}
+use Rattle.pauli_group.specs.PauliString.{qubits}
 use Rattle.pauli.specs.Places.{firstPlace}
 use Rattle.pauli.specs.Layout.{stringLength}
 use Rattle.pauli.specs.Entries.{entryCount, entryLetter, entryQubit, occurrences}

@@ -1,5 +1,5 @@
 -- Rows of letter bytes, as far as both rows reach; a byte above 3 is read as 3. What the kernels promise.
-use Prim.Native.Nat.{ℕ, zero, suc, min, _≤_}
+use Prim.Native.Nat.{ℕ, min}
 use mathlib.Core.Path.{_≡_}
 use mathlib.Core.List.{List, [], _∷_, _++_}
 use lib.ListN.{length, take, drop, getD}

@@ -1,6 +1,5 @@
 -- What a function that writes may count on once the questions have let it by.
 use Prim.Native.Nat.{ℕ, _≤_}
-use mathlib.Core.Path.{_≡_}
 use mathlib.Core.List.{List}
 use lib.ListN.{length}
 use Rattle.pauli.specs.Layout.{stringLength, WellFormed}

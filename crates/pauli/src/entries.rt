@@ -2,9 +2,8 @@
 // 5 where more do. So a duplicate is found before anything is written. Ports `with_phase_and_paulis` of pauli_string.rs of PECOS,
 // changed: Copyright 2024 The PECOS Developers, Apache License, Version 2.0.
 ghost use mathlib.Core.Path.{_≡_};
-ghost use Prim.Native.Nat.{min};
 ghost use mathlib.Core.List.{_∷_, _++_};
-ghost use lib.ListN.{length, getD, set, drop};
+ghost use lib.ListN.{getD, set, drop};
 ghost use Rattle.pauli.specs.Entries.{entryCount};
 ghost use Rattle.pauli.specs.Marks.{markMore, marksTo, firstTwice, unmarked, MarkFits, Unmarked, marksQuestion, Blank, EntriesRead, lettersMarked, MarksFit};
 ghost use Rattle.pauli.specs.Rows.{shorter};

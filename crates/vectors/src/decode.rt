@@ -1,6 +1,6 @@
 // Numbers and bytes, as a field spells them.
 ghost use mathlib.Core.Path.{_≡_};
-ghost use Prim.Native.Nat.{_+_, _≤_};
+ghost use Prim.Native.Nat.{_≤_};
 ghost use lib.ListN.{length};
 ghost use Rattle.vectors.specs.Bounds.{Reached, Passed};
 

@@ -1,5 +1,4 @@
 // One line as a case.
-ghost use mathlib.Core.Path.{_≡_};
 ghost use Prim.Native.Nat.{_≤_};
 ghost use lib.ListN.{length};
 ghost use Rattle.vectors.specs.Cases.{Sized, Empty, Filled};

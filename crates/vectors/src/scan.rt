@@ -1,5 +1,5 @@
 // Lines of a text, and fields of a line.
-ghost use Prim.Native.Nat.{_-_, _≤_};
+ghost use Prim.Native.Nat.{_≤_};
 ghost use lib.ListN.{length};
 ghost use Rattle.vectors.specs.Bounds.{Reached, Passed};
 
