@@ -28,7 +28,8 @@ use Rattle.pauli.specs.Questions.{roomQuestion}
 use Rattle.pauli.specs.Rows.{copied, letterAt}
 use Rattle.pauli.specs.SparseText.{digitsTo, decimal, prefixText, letterText, entryWord, wordsAt, bodyText, entryWords, sparseTextTo, sparseText, rowString, rowText}
 use Rattle.pauli.specs.SparseText as sparse
-use Rattle.pauli.specs.TextWriting.{stored, Stored, TextWritten}
+use Rattle.pauli.specs.TextWriting.{TextWritten}
+use Rattle.pauli.specs.Inside.TextWriting.{stored, Stored}
 use Rattle.pauli.proofs.Answers.{answers, count-done}
 use Rattle.pauli.proofs.Asking.{refused, passed, done-first, done-second, room-is}
 use Rattle.pauli.proofs.Decimals.{decimal-one, decimal-two, decimal-three}
@@ -36,10 +37,11 @@ use Rattle.pauli.proofs.Places.{from, from-is}
 use Rattle.pauli.proofs.SparseTexts.{text-length}
 use Rattle.pauli.proofs.StringTexts.{words-ext, text-within, copied-whole, text-same}
 use Rattle.pauli.proofs.TextWrites.{stored-none, stored-join, stored-as, stored-copied, stored-same, whole-text}
-use Rattle.clifford.specs.Display.{nameText, qubitsText, arrowText, headerText, generatorText, labelText, lineText, displayRow, linesText, displayText, textOfTableau, displayAnswer, startsWith, TextPlace, NumberPlace, LabelPlace, RowPlace}
-use Rattle.clifford.specs.Layout.{rowLength, rowOffset, decodeRow, rowOf, rowPart, joined, widthOf, tableauOf, FormedTableau}
+use Rattle.clifford.specs.Display.{nameText, qubitsText, arrowText, headerText, generatorText, labelText, lineText, displayRow, linesText, displayText, textOfTableau, displayAnswer, startsWith}
+use Rattle.clifford.specs.Inside.Display.{TextPlace, NumberPlace, LabelPlace, RowPlace}
+use Rattle.clifford.specs.Layout.{rowLength, rowOffset, decodeRow, rowOf, rowPart, joined, widthOf, tableauOf, FormedTableau, rowQubit, rowLetter}
 use Rattle.clifford.specs.Questions.{tableauQuestions}
-use Rattle.clifford.specs.Rows.{RowIndex, OwnRow, rowLetters, rowQubit, rowLetter}
+use Rattle.clifford.specs.Inside.Rows.{RowIndex, OwnRow, rowLetters}
 use Rattle.clifford.proofs.Joining.{joined-more}
 use Rattle.clifford.proofs.RecordWriting.{qubit-below}
 use Rattle.clifford.proofs.TableauRows.{row-letter-at, row-within}

@@ -27,10 +27,10 @@ use Rattle.clifford.specs.declared.clifford.GateAnswer.{GateAnswer}
 use Rattle.clifford.specs.declared.clifford.GateAnswer.the-variants.{Named, Unnamed, NoGate}
 use Rattle.clifford.specs.Layout.{recordLength, tableauRecord, FormedTableau}
 use Rattle.clifford.specs.Questions.{tableauQuestions}
-use Rattle.clifford.specs.Rows.{Sized}
+use Rattle.clifford.specs.Inside.Rows.{Sized}
 use Rattle.clifford.specs.GateQuestions.{gateQuestion, onQubitQuestions, onQubitAnswer, composeGateQuestions}
-use Rattle.clifford.specs.GateAnswers.{gateReply, gateAnswer, nameAnswer, GateAnswered, NameAnswered, oneQubitRecord, productRecord}
-use Rattle.clifford.specs.GateRows.{OneFits, BothSmall, WritesGate, NameIs}
+use Rattle.clifford.specs.GateAnswers.{gateReply, gateAnswer, nameAnswer, GateAnswered, NameAnswered, oneQubitRecord, singleQubitCliffordRecord}
+use Rattle.clifford.specs.Inside.GateRows.{OneFits, BothSmall, WritesGate, NameIs}
 use Rattle.clifford.proofs.TableauRecords.{same-record}
 use Rattle.clifford.proofs.TableauAsking.{tableau-formed}
 use Rattle.clifford.proofs.GateAsking.{gate-below, width-one}
@@ -95,8 +95,8 @@ module _ {g q : ℕ} {d : List ℕ} (o : OneFits g q d) where
   pub product-fits : {n : ℕ} → n ≡ getD productGates g 0 → OneFits n q d
   product-fits e = record { gate = omega (arith, e, product-small g (o .gate)); qubit = o .qubit; room = o .room }
 
-  pub product-written : {n : ℕ} {e : List ℕ} → n ≡ getD productGates g 0 → e ≡ written Done (oneQubitRecord n q) d → e ≡ written Done (productRecord g q) d
-  unfolding oneQubitRecord productRecord qubits
+  pub product-written : {n : ℕ} {e : List ℕ} → n ≡ getD productGates g 0 → e ≡ written Done (oneQubitRecord n q) d → e ≡ written Done (singleQubitCliffordRecord g q) d
+  unfolding oneQubitRecord singleQubitCliffordRecord qubits
   product-written {n} en e =
       e ∙ ap (λ (j : ℕ). written Done (tableauRecord (onQubit (oneQubitGate j) q)) d) en
       ∙ ap (λ (l : List ℕ). written Done l d) (sym (same-record _ _ (products g q (o .gate) (o .qubit))))

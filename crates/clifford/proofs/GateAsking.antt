@@ -21,10 +21,10 @@ use Rattle.pauli.proofs.Answers.{answers}
 use Rattle.pauli.proofs.Asking.{asked-yes, asked-no, ask-done, refused, passed, done-first, done-second, qubit-below, room-is}
 use Rattle.clifford_gates.specs.GateNumbers.{gateTableau}
 use Rattle.clifford.specs.Layout.{recordLength, tableauRecord}
-use Rattle.clifford.specs.Rows.{Sized}
+use Rattle.clifford.specs.Inside.Rows.{Sized}
 use Rattle.clifford.specs.GateQuestions.{gateQuestion, differentQuestion, secondQuestions, gateWidth, onQubitsQuestions, onQubitsAnswer, onQubitQuestions}
 use Rattle.clifford.specs.GateAnswers.{gateRecord}
-use Rattle.clifford.specs.GateRows.{GateOn, GateSpan, GateFits, WritesGate}
+use Rattle.clifford.specs.Inside.GateRows.{GateOn, GateSpan, GateFits, WritesGate}
 use Rattle.clifford.proofs.GateWriting.{width-narrow}
 
 -- ---- one question

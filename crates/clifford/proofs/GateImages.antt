@@ -17,7 +17,8 @@ use Rattle.pauli.specs.declared.algebra.PhasedLetter.{PhasedLetter}
 use Rattle.pauli.proofs.Cases.{three-up}
 use Rattle.pauli.proofs.Records.{phase-back, letter-back}
 use Rattle.clifford.specs.declared.gates.PairBytes.{PairBytes}
-use Rattle.clifford.specs.GateRows.{imageBytes, pairBytes, yBytes, ImageOf, TakesTwo, generatorImage, PairOf}
+use Rattle.clifford.specs.GateRows.{imageBytes, yBytes, ImageOf}
+use Rattle.clifford.specs.Inside.GateRows.{pairBytes, TakesTwo, generatorImage, PairOf}
 
 -- ---- a table in bytes: its entries are those of the table of gates
 abbrev pub in-bytes : {A : Type 0} → (A → List ℕ) → List A → List (List ℕ)

@@ -26,9 +26,10 @@ use Rattle.pauli.specs.Layout.{phaseByte, phaseOf, letterByte, letterOf}
 use Rattle.pauli.specs.Rows.{phaseBytesProduct}
 use Rattle.pauli.proofs.Records.{phase-back, letter-back}
 use Rattle.clifford.specs.Layout.{widthOf, tableauOf, rowOf, FormedTableau}
-use Rattle.clifford.specs.Rows.{OwnRow, OwnLetter}
+use Rattle.clifford.specs.Inside.Rows.{OwnRow, OwnLetter}
 use Rattle.clifford.specs.GateAnswers.{recordName}
-use Rattle.clifford.specs.GateRows.{imageBytes, ImageOf, imageHeld, minusByte, signedBytes, sameEntry, firstEntry, NameIs, BothSmall}
+use Rattle.clifford.specs.GateRows.{imageBytes, ImageOf}
+use Rattle.clifford.specs.Inside.GateRows.{imageHeld, minusByte, signedBytes, sameEntry, firstEntry, NameIs, BothSmall}
 use Rattle.clifford.proofs.TableauRecords.{width-of}
 
 -- ---- signs and entries

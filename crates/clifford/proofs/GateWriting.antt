@@ -28,11 +28,12 @@ use Rattle.pauli.proofs.Places.{from}
 use Rattle.pauli.proofs.Records.{phase-back, phase-small, letter-back, length-encode}
 use Rattle.clifford.specs.declared.gates.PairBytes.{PairBytes}
 use Rattle.clifford.specs.declared.gates.RowImage.{RowImage}
-use Rattle.clifford.specs.Layout.{rowOffset, rowOf, tableauRecord}
-use Rattle.clifford.specs.Rows.{Sized, Finished, ClearRow, WorkPlace, rowQubit, rowLetter, rowTimes, rowWritten, clearedRow, lettersIn, stringIn}
-use Rattle.clifford.specs.Writing.{IsGenerator}
+use Rattle.clifford.specs.Layout.{rowOffset, rowOf, tableauRecord, rowQubit, rowLetter}
+use Rattle.clifford.specs.Inside.Rows.{Sized, Finished, ClearRow, WorkPlace, rowTimes, rowWritten, clearedRow, lettersIn, stringIn}
+use Rattle.clifford.specs.Inside.Writing.{IsGenerator}
 use Rattle.clifford.specs.GateQuestions.{gateWidth}
-use Rattle.clifford.specs.GateRows.{ImageOf, PairOf, generatorImage, TakesTwo, rowImageString, OneRow, pairOn, RowImageOf, GateOn, ImageAsked, PutsImage, WritesGate, WritesGateRow, WritesGateBy}
+use Rattle.clifford.specs.GateRows.{ImageOf}
+use Rattle.clifford.specs.Inside.GateRows.{PairOf, generatorImage, TakesTwo, rowImageString, OneRow, pairOn, RowImageOf, GateOn, ImageAsked, PutsImage, WritesGate, WritesGateRow, WritesGateBy}
 use Rattle.clifford.proofs.RecordWriting.{RowsTo, rows-none, rows-all, rows-room, rows-start, rows-index, rows-more, rows-length, encoded-row, put-row, put-room, zeros-long, some-room, letter-of-row, qubit-below, row-made}
 use Rattle.clifford.proofs.Sendings.{length-cleared, cleared-formed}
 use Rattle.clifford.proofs.WorkRows.{length-times, times-formed}

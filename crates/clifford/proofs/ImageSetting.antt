@@ -32,9 +32,9 @@ use Rattle.pauli.proofs.Records.{decode-within, decode-letter, decode-phase}
 use Rattle.clifford.specs.Layout.{rowLength, encodeRow, rowOffset, recordLength, rowOf, rowPart, widthOf, tableauOf, tableauRecord, FormedTableau}
 use Rattle.clifford.specs.Images.{notI, hasLetter, withXImage, withZImage}
 use Rattle.clifford.specs.Questions.{tableauQuestions, applyQuestions, lowestOutside, insideQuestion, slotQuestion, setQuestions}
-use Rattle.clifford.specs.Rows.{Sized, RowIndex, Finished, Beside, withRow, rowWritten, lettersIn, stringIn}
+use Rattle.clifford.specs.Inside.Rows.{Sized, RowIndex, Finished, Beside, withRow, rowWritten, lettersIn, stringIn}
 use Rattle.clifford.specs.Tableaux.{setXRecord, setZRecord}
-use Rattle.clifford.specs.Writing.{SetsRow, Sets}
+use Rattle.clifford.specs.Inside.Writing.{SetsRow, Sets}
 use Rattle.clifford.proofs.RecordWriting.{RowsTo, rows-own, rows-kept-to, rows-more, rows-end}
 use Rattle.clifford.proofs.TableauAsking.{tableau-formed, slot-is}
 use Rattle.clifford.proofs.TableauRows.{row-there}

@@ -15,9 +15,9 @@ use Rattle.pauli.proofs.Answers.{answers}
 use Rattle.pauli.proofs.Asking.{refused, passed, done-first, done-second, room-is}
 use Rattle.clifford.specs.Layout.{recordLength, widthOf, tableauOf, tableauRecord}
 use Rattle.clifford.specs.Questions.{tableauQuestions, inverseAnswer}
-use Rattle.clifford.specs.Rows.{Sized}
+use Rattle.clifford.specs.Inside.Rows.{Sized}
 use Rattle.clifford.specs.Tableaux.{inverseRecord}
-use Rattle.clifford.specs.InverseRows.{InvertsTo}
+use Rattle.clifford.specs.Inside.InverseRows.{InvertsTo}
 use Rattle.clifford.proofs.TableauAsking.{tableau-formed, checked}
 
 pub inverts : {t d : List ℕ} {r : Outcome} → r ≡ inverseAnswer t (length d) → r ≡ Done → InvertsTo t d

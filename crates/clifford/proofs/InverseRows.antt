@@ -17,7 +17,7 @@ use borrow.Author.Tests.{lt-ltb, le-ltb}
 use Rattle.pauli_group.specs.Phase.{Phase, conjugate}
 use Rattle.pauli_group.specs.Letter.{Letter, I, X, Z, Y}
 use Rattle.pauli_group.specs.PauliString.{PauliString, Within}
-use Rattle.clifford_group.specs.Tableau.{Tableau, apply, hasX, hasZ, letterOf, transposed, inverseRow, inverse}
+use Rattle.clifford_group.specs.Tableau.{Tableau, apply, hasX, hasZ, letterOfBits, transposed, inverseRow, inverse}
 use Rattle.clifford_group.proofs.Inverse.{within-transposed, width-inverse}
 use Rattle.pauli.specs.declared.refusal.Outcome.the-variants.{Done}
 use Rattle.pauli.specs.Answers.{written}
@@ -25,9 +25,9 @@ use Rattle.pauli.specs.Layout.{phaseByte, letterByte, encodeString}
 use Rattle.pauli.specs.Rows.{conjugateByte}
 use Rattle.pauli.proofs.Places.{from}
 use Rattle.pauli.proofs.Records.{phase-back, letter-there, length-encode, encode-phase, encode-letter, decode-letter}
-use Rattle.clifford.specs.Layout.{rowLength, rowOffset, rowOf, rowPart, widthOf, tableauOf, tableauRecord}
-use Rattle.clifford.specs.Rows.{Sized, OwnRow, OwnLetter, Finished, Sends, rowQubit, rowWritten, lettersIn, stringIn}
-use Rattle.clifford.specs.InverseRows.{rowBit, bitRead, bitByte, bodyOf, RowBack, ReadsBit, ReadsLetter, WritesBody, SendsBody, InvertsRow, InvertsBy, Inverts}
+use Rattle.clifford.specs.Layout.{rowLength, rowOffset, rowOf, rowPart, widthOf, tableauOf, tableauRecord, rowQubit}
+use Rattle.clifford.specs.Inside.Rows.{Sized, OwnRow, OwnLetter, Finished, Sends, rowWritten, lettersIn, stringIn}
+use Rattle.clifford.specs.Inside.InverseRows.{rowBit, bitRead, bitByte, bodyOf, RowBack, ReadsBit, ReadsLetter, WritesBody, SendsBody, InvertsRow, InvertsBy, Inverts}
 use Rattle.clifford.proofs.TableauRows.{string-of-row}
 use Rattle.clifford.proofs.TableauRecords.{row-x, row-z, row-part, part-formed, width-of}
 use Rattle.clifford.proofs.WorkRows.{row-is}
@@ -71,8 +71,8 @@ x-bit X = refl
 x-bit Z = refl
 x-bit Y = refl
 
-of-bits : (x z : Bool) → bitByte x + 2 * bitByte z ≡ letterByte (letterOf x z)
-unfolding letterByte bitByte letterOf
+of-bits : (x z : Bool) → bitByte x + 2 * bitByte z ≡ letterByte (letterOfBits x z)
+unfolding letterByte bitByte letterOfBits
 of-bits false false = refl
 of-bits true false = refl
 of-bits false true = refl
@@ -138,7 +138,7 @@ letter-made {b} {w} {r} {c} {x} {z} o ex ez =
     ap₂ (λ (i : ℕ) (j : ℕ). i + 2 * j) (ex ∙ ap (λ s. bitByte (bit s)) (ap (λ (j : ℕ). rowOf t (j + c)) same ∙ row-z t c))
     (ez ∙ ap (λ s. bitByte (bit s)) (row-x t c (omega (arith, o .place))))
     ∙ of-bits (bit (t .zImage c)) (bit (t .xImage c))
-    ∙ ap (λ (d : Bool). letterByte (cond d (letterOf (bit (t .zImage c)) (bit (t .xImage c))) I)) (sym (lt-ltb c (t .width) (omega (arith, o .place))))
+    ∙ ap (λ (d : Bool). letterByte (cond d (letterOfBits (bit (t .zImage c)) (bit (t .xImage c))) I)) (sym (lt-ltb c (t .width) (omega (arith, o .place))))
 
 pub ruleset body-letters = (letter-bit-z, letter-bit-x, twice-fits, sum-fits, letter-made, needs)
 

@@ -26,11 +26,11 @@ use Rattle.pauli.proofs.Answers.{answers}
 use Rattle.pauli.proofs.Asking.{refused, passed, done-first, done-second, string-formed, room-is}
 use Rattle.pauli.proofs.Places.{from}
 use Rattle.pauli.proofs.Records.{phase-back, phase-small}
-use Rattle.clifford.specs.Layout.{rowOffset, recordLength, rowOf, tableauRecord}
+use Rattle.clifford.specs.Layout.{rowOffset, recordLength, rowOf, tableauRecord, rowQubit, rowLetter}
 use Rattle.clifford.specs.Images.{notI, hasLetter, spanTo, pauliTableau}
 use Rattle.clifford.specs.Questions.{pauliAnswer}
-use Rattle.clifford.specs.Rows.{Sized, Finished, ClearRow, WorkPlace, rowQubit, rowLetter, rowTimes, rowWritten, clearedRow, signByte, lettersIn, stringIn}
-use Rattle.clifford.specs.Writing.{Span, IsGenerator, SignsTo, Signs, SignsRow, SignsBy}
+use Rattle.clifford.specs.Inside.Rows.{Sized, Finished, ClearRow, WorkPlace, rowTimes, rowWritten, clearedRow, signByte, lettersIn, stringIn}
+use Rattle.clifford.specs.Inside.Writing.{Span, IsGenerator, SignsTo, Signs, SignsRow, SignsBy}
 use Rattle.clifford.proofs.RecordWriting.{RowsTo, rows-none, rows-all, rows-room, rows-start, rows-index, rows-more, rows-length, put-row, put-room, zeros-long, some-room, letter-of-row, qubit-below, row-made}
 use Rattle.clifford.proofs.Sendings.{length-cleared, cleared-formed, decoded-clear}
 use Rattle.clifford.proofs.ImageSetting.{letter-of, byte-letter}

@@ -27,9 +27,10 @@ use Rattle.pauli.specs.Places.{listed}
 use Rattle.pauli.specs.Layout.{phaseByte, phaseOf, letterByte, letterOf}
 use Rattle.pauli.proofs.Places.{from}
 use Rattle.pauli.proofs.Records.{letter-there}
-use Rattle.clifford.specs.Layout.{rowLength, rowOffset, recordLength, joined, widthOf, rowPart, letterIn, withPair, eachRow, OnRow}
-use Rattle.clifford.specs.Rows.{Sized, RowIndex}
-use Rattle.clifford.specs.Playing.{twice, movedBy, secondQubit, gateOnRow, secondFits, playable, played, entryOf, imageIn, tableOf, readTable, tableOnRow, OnRows, GatePlayed}
+use Rattle.clifford.specs.Layout.{rowLength, rowOffset, recordLength, joined, widthOf, rowPart, letterIn, withPair, eachRow}
+use Rattle.clifford.specs.Inside.Rows.{Sized, RowIndex, OnRow}
+use Rattle.clifford.specs.Playing.{twice, movedBy, secondQubit, gateOnRow, secondFits, playable, played, GatePlayed}
+use Rattle.clifford.specs.Inside.Playing.{tableEntry, imageIn, tableOf, readTable, tableOnRow, OnRows}
 use Rattle.clifford.proofs.Joining.{joined-ext}
 use Rattle.clifford.proofs.TableauRecords.{row-room}
 use Rattle.clifford.proofs.RowBytes.{BytesTo, bytes-none, bytes-index, bytes-room, bytes-start, bytes-rest, bytes-more, bytes-end}
@@ -51,7 +52,7 @@ abbrev reads : ℕ → Letter → Letter → Bool
 reads g a b = same-pair (readTable (tableOf g) a b) (movedBy g a b)
 
 pub table-reads : (g : ℕ) → g < 38 → (a b : Letter) → readTable (tableOf g) a b ≡ movedBy g a b
-unfolding allTo readTable tableOf listed imageIn entryOf movedBy twice letterImage timesI pairImage pairTimes pairTimesI ownImage oneQubitGate oneQubitGates twoQubitGate twoQubitGates phaseByte phaseOf letterByte letterOf letterMul letterPhase letterProduct _·_ negate turn
+unfolding allTo readTable tableOf listed imageIn tableEntry movedBy twice letterImage timesI pairImage pairTimes pairTimesI ownImage oneQubitGate oneQubitGates twoQubitGate twoQubitGates phaseByte phaseOf letterByte letterOf letterMul letterPhase letterProduct _·_ negate turn
 table-reads g h a b =
     same-pair-is _ _
     (letters .each (reads g a)

@@ -24,9 +24,9 @@ use Rattle.pauli.specs.Answers.{written}
 use Rattle.pauli.specs.Layout.{letterByte, letterOf, encodeString, decodeString, WellFormed}
 use Rattle.pauli.proofs.Places.{from}
 use Rattle.pauli.proofs.Records.{letter-back, length-encode, encode-formed, decode-encode, decode-within}
-use Rattle.clifford.specs.Layout.{rowLength, encodeRow, rowOffset, recordLength, rowOf, joined, widthOf, tableauOf, tableauRecord, FormedTableau}
-use Rattle.clifford.specs.Rows.{Sized, RowIndex, Finished, Sends, SendsLetter, rowQubit, rowLetter, rowWritten, lettersIn, stringIn}
-use Rattle.clifford.specs.Writing.{SendsRow, Extends, ExtendsRow, ExtendsBy, Composes, ComposesRow, ComposesBy}
+use Rattle.clifford.specs.Layout.{rowLength, encodeRow, rowOffset, recordLength, rowOf, joined, widthOf, tableauOf, tableauRecord, FormedTableau, rowQubit, rowLetter}
+use Rattle.clifford.specs.Inside.Rows.{Sized, RowIndex, Finished, Sends, SendsLetter, rowWritten, lettersIn, stringIn}
+use Rattle.clifford.specs.Inside.Writing.{SendsRow, Extends, ExtendsRow, ExtendsBy, Composes, ComposesRow, ComposesBy}
 use Rattle.clifford.proofs.TableauRows.{length-row}
 use Rattle.clifford.proofs.RowBytes.{BytesTo, some-bytes, bytes-none, bytes-room, bytes-start, bytes-index, bytes-more, bytes-kept, bytes-all, bytes-end}
 use Rattle.clifford.proofs.TableauRecords.{proper-of, width-of, length-record}

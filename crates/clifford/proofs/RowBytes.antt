@@ -10,7 +10,7 @@ use lib.Seq.{take-at, drop-at, drop-drop}
 use borrow.Rule.Slice.PartMut.{putMid}
 use Rattle.pauli.proofs.Places.{from, from-is, length-from}
 use Rattle.clifford.specs.Layout.{rowLength, rowOffset, recordLength, joined, widthOf}
-use Rattle.clifford.specs.Rows.{Sized, RowIndex}
+use Rattle.clifford.specs.Inside.Rows.{Sized, RowIndex}
 use Rattle.clifford.proofs.Joining.{length-below, joined-more}
 use Rattle.clifford.proofs.TableauRecords.{row-room}
 

@@ -15,7 +15,7 @@ use Rattle.clifford_group.proofs.Apply.{applyTo-start}
 use Rattle.pauli.specs.Layout.{phaseOf, letterOf, encodeString, decodeString, WellFormed}
 use Rattle.pauli.proofs.Records.{length-encode, encode-formed, decode-encode, encode-decode, decode-within, decode-letter, decode-phase}
 use Rattle.clifford.specs.Layout.{tableauOf}
-use Rattle.clifford.specs.Rows.{WorkOnQubit, ClearRow, Sends, SendsLetter, clearedRow, rowTimes, lettersIn, stringIn}
+use Rattle.clifford.specs.Inside.Rows.{WorkOnQubit, ClearRow, Sends, SendsLetter, clearedRow, rowTimes, lettersIn, stringIn}
 use Rattle.clifford.proofs.TableauRecords.{proper-of, width-of}
 use Rattle.clifford.proofs.WorkRows.{decoded-times, times-formed, length-times}
 

@@ -30,9 +30,9 @@ use Rattle.pauli.specs.Layout.{phaseOf, letterByte, letterOf}
 use Rattle.pauli.proofs.Records.{letter-there}
 use Rattle.clifford.specs.Layout.{rowLength, rowOf, rowPart, widthOf, tableauOf, FormedTableau}
 use Rattle.clifford.specs.Images.{notI, hasLetter}
-use Rattle.clifford.specs.Rows.{OwnRow, OwnQubit, OwnQubits, rowLetters}
-use Rattle.clifford.specs.Support.{isPlusOne, sameLetter, isSingle, changedQubit, touchesQubit, supportsQubit, someTo, placesWith, inSupport, supportQubits}
-use Rattle.clifford.specs.Writing.{IsGenerator, SingleRow, SupportBit, SupportCount, QubitFits, QubitWritten, SupportFits}
+use Rattle.clifford.specs.Inside.Rows.{OwnRow, OwnQubit, OwnQubits, rowLetters}
+use Rattle.clifford.specs.Support.{isPlusOne, alikeAt, isSingle, changedQubit, touchesQubit, supportsQubit, someTo, placesWith, inSupport, supportQubits}
+use Rattle.clifford.specs.Inside.Writing.{IsGenerator, SingleRow, SupportBit, SupportCount, QubitFits, QubitWritten, SupportFits}
 use Rattle.clifford.proofs.TableauRows.{row-letter-at}
 use Rattle.clifford.proofs.TableauRecords.{row-x, row-z, row-part, part-formed, width-of}
 use Rattle.clifford.proofs.ValidRows.{AllBefore, all-start, all-step, all-fail, all-done, not-true, not-false}
@@ -65,7 +65,7 @@ module _ {t : List ℕ} {r : ℕ} (o : OwnRow t r) {l : List ℕ} (el : l ≡ ro
 
 module _ {t : List ℕ} {r k : ℕ} (o : SingleRow t r k) (q : ℕ) {l : List ℕ} (el : l ≡ rowLetters t r) {n : ℕ} (en : n ≡ widthOf t) where
   abbrev same : ℕ → Bool
-  same = sameLetter (rowOf (tableauOf t) r) (single (letterOf k) q)
+  same = alikeAt (rowOf (tableauOf t) r) (single (letterOf k) q)
 
   pub letter-in : {c : ℕ} → c < n → c < length l
   letter-in h = omega (arith, letters-long (o .row) el)
@@ -75,13 +75,13 @@ module _ {t : List ℕ} {r k : ℕ} (o : SingleRow t r k) (q : ℕ) {l : List �
     letters-more e = all-step m h one
       where
         one : same c ≡ true
-        one = unfold sameLetter in eq-eqb _ _ (sym (letter-byte (o .row) el c (omega arith)) ∙ e ∙ ex)
+        one = unfold alikeAt in eq-eqb _ _ (sym (letter-byte (o .row) el c (omega arith)) ∙ e ∙ ex)
 
     pub letters-not : (getD l c 0 ≡ x → ⊥) → false ≡ allTo (widthOf t) same
     letters-not e = sym (ap (λ (j : ℕ). allTo j same) (sym en) ∙ all-fail n same c h one)
       where
         one : same c ≡ false
-        one = unfold sameLetter in ne-eqb _ _ (λ z. e (letter-byte (o .row) el c (omega arith) ∙ z ∙ sym ex))
+        one = unfold alikeAt in ne-eqb _ _ (λ z. e (letter-byte (o .row) el c (omega arith) ∙ z ∙ sym ex))
 
   pub letters-all : {c : ℕ} → AllBefore n same c → n ≤ c → true ≡ allTo (widthOf t) same
   letters-all m h = all-done m h ∙ ap (λ (j : ℕ). allTo j same) en
@@ -104,11 +104,11 @@ plus-not (suc (suc (suc p))) h = refl
 
 pub single-not : (w l q : ℕ) (s : PauliString) (p : ℕ) → phaseOf p ≡ s .phase → (p ≡ 0 → ⊥) → false ≡ isSingle w (letterOf l) q s
 unfolding isSingle
-single-not w l q s p e h = sym (ap (λ b. b && allTo w (sameLetter s (single (letterOf l) q))) (ap isPlusOne (sym e) ∙ plus-not p h))
+single-not w l q s p e h = sym (ap (λ b. b && allTo w (alikeAt s (single (letterOf l) q))) (ap isPlusOne (sym e) ∙ plus-not p h))
 
-pub single-whole : (w l q : ℕ) (s : PauliString) (p : ℕ) → phaseOf p ≡ s .phase → p ≡ 0 → {b : Bool} → b ≡ allTo w (sameLetter s (single (letterOf l) q)) → b ≡ isSingle w (letterOf l) q s
+pub single-whole : (w l q : ℕ) (s : PauliString) (p : ℕ) → phaseOf p ≡ s .phase → p ≡ 0 → {b : Bool} → b ≡ allTo w (alikeAt s (single (letterOf l) q)) → b ≡ isSingle w (letterOf l) q s
 unfolding isSingle isPlusOne phaseOf
-single-whole w l q s p e h k = k ∙ sym (ap (λ b. b && allTo w (sameLetter s (single (letterOf l) q))) (ap isPlusOne (sym e ∙ ap phaseOf h)))
+single-whole w l q s p e h k = k ∙ sym (ap (λ b. b && allTo w (alikeAt s (single (letterOf l) q))) (ap isPlusOne (sym e ∙ ap phaseOf h)))
 
 pub ruleset single-rows = (single-not, single-whole, single-row, needs)
 

@@ -20,9 +20,9 @@ use Rattle.pauli.proofs.Answers.{answers}
 use Rattle.pauli.proofs.Asking.{refused, passed, done-first, done-second, string-formed, room-is, record-bytes, questions}
 use Rattle.clifford.specs.Layout.{recordLength, rowLength, widthOf, tableauOf, tableauRecord, FormedTableau}
 use Rattle.clifford.specs.Questions.{widthQuestion, tableauQuestions, identityAnswer, applyQuestions, applyAnswer, composeQuestions, composeAnswer, extendQuestions, extendAnswer}
-use Rattle.clifford.specs.Rows.{Sized, Sends, lettersIn, stringIn}
+use Rattle.clifford.specs.Inside.Rows.{Sized, Sends, lettersIn, stringIn}
 use Rattle.clifford.specs.Tableaux.{identityRecord, applyRecord, extendRecord}
-use Rattle.clifford.specs.Writing.{Applies, Identifies, Extends, ExtendsTo, Composes, ComposesTo}
+use Rattle.clifford.specs.Inside.Writing.{Applies, Identifies, Extends, ExtendsTo, Composes, ComposesTo}
 use Rattle.clifford.proofs.TableauRecords.{same-record, width-of}
 use Rattle.clifford.proofs.TableauAsking.{tableau-formed, width-is, width-done}
 

@@ -19,7 +19,7 @@ use Rattle.pauli.specs.Questions.{ask, _andThen_, firstBad, bytesQuestion}
 use Rattle.pauli.proofs.Asking.{asked-yes, asked-no, ask-done, refused, passed, done-first, done-second, questions}
 use Rattle.pauli.proofs.Places.{first-is, first-before, from, from-is}
 use Rattle.clifford.specs.Layout.{recordLength, rowLength, tableauRecord, widthOf, tableauOf, FormedTableau}
-use Rattle.clifford.specs.Rows.{Sized}
+use Rattle.clifford.specs.Inside.Rows.{Sized}
 use Rattle.clifford.specs.Questions.{widthQuestion, lengthQuestion, tableauQuestions, slotQuestion}
 use Rattle.clifford.proofs.TableauRecords.{record-small, record-there, record-formed, proper-of}
 

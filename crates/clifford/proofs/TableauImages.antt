@@ -19,7 +19,7 @@ use Rattle.pauli.specs.declared.refusal.CountAnswer.the-variants.{Count, NoCoun
 use Rattle.pauli.specs.Answers.{countAnswer, countReply}
 use Rattle.pauli.proofs.Answers.{count-told}
 use Rattle.clifford.specs.Questions.{tableauQuestions, slotQuestion, imageQuestions}
-use Rattle.clifford.specs.Rows.{OwnRow, RowIndex, Sized}
+use Rattle.clifford.specs.Inside.Rows.{OwnRow, RowIndex, Sized}
 use Rattle.clifford.specs.Tableaux.{xImagePart, zImagePart}
 use Rattle.clifford.proofs.TableauRows.{row-there}
 use Rattle.clifford.proofs.TableauRecords.{row-x, row-z, row-part, part-formed, width-of}

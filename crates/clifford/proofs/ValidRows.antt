@@ -25,7 +25,7 @@ use Rattle.pauli.proofs.Answers.{answers}
 use Rattle.pauli.proofs.Places.{from, from-is}
 use Rattle.pauli.proofs.RowProducts.{count-exact}
 use Rattle.clifford.specs.Layout.{rowLength, rowOf, rowPart, widthOf, tableauOf, FormedTableau}
-use Rattle.clifford.specs.Rows.{OwnRow, OwnRows, OwnQubit, OwnQubits, rowLetters}
+use Rattle.clifford.specs.Inside.Rows.{OwnRow, OwnRows, OwnQubit, OwnQubits, rowLetters}
 use Rattle.clifford.specs.Tableaux.{recordValid}
 use Rattle.clifford.proofs.TableauRows.{row-phase-at, row-letter-at, row-within}
 use Rattle.clifford.proofs.TableauRecords.{row-x, row-z, row-part, part-formed, width-of}

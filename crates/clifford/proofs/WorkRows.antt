@@ -26,8 +26,8 @@ use Rattle.pauli.specs.declared.algebra.PhasedLetter.{PhasedLetter}
 use Rattle.pauli.specs.Rows.{phaseBytesProduct, letterBytesProduct, productPhaseByte, productLetterByte, rowProduct, copied, shorter}
 use Rattle.pauli.proofs.Records.{phase-back, phase-there, letter-there, length-encode, encode-phase, encode-letter, encode-formed, decode-encode, encode-decode, decode-within, decode-letter, decode-phase}
 use Rattle.pauli.proofs.StringProducts.{row-product-is}
-use Rattle.clifford.specs.Layout.{rowLength, rowOffset, recordLength, rowOf, widthOf, rowPart, tableauOf}
-use Rattle.clifford.specs.Rows.{Sized, RowIndex, OwnRow, WorkRow, WorkOnRow, WorkOnQubit, WorkOnOwn, WorkOnLetter, WorkPlace, ClearRow, Finished, clearedRow, rowQubit, rowLetter, rowTimes, rowWritten, lettersIn, stringIn}
+use Rattle.clifford.specs.Layout.{rowLength, rowOffset, recordLength, rowOf, widthOf, rowPart, tableauOf, rowQubit, rowLetter}
+use Rattle.clifford.specs.Inside.Rows.{Sized, RowIndex, OwnRow, WorkRow, WorkOnRow, WorkOnQubit, WorkOnOwn, WorkOnLetter, WorkPlace, ClearRow, Finished, clearedRow, rowTimes, rowWritten, lettersIn, stringIn}
 use Rattle.clifford.proofs.TableauRows.{row-of-string, string-of-row, row-formed}
 use Rattle.clifford.proofs.TableauRecords.{row-x, row-z, row-part, row-room, record-small, part-formed, proper-of, width-of}
 

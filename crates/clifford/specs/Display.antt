@@ -1,5 +1,5 @@
 -- The display text of a tableau (scope document, "Program"; `impl Display` of clifford_rep.rs).
-use Prim.Native.Nat.{ℕ, _+_, _*_, _/_, _%_, _≤_}
+use Prim.Native.Nat.{ℕ, _+_, _*_, _/_, _%_}
 use mathlib.Core.Bool.{Bool, true, false, cond, _&&_}
 use mathlib.Core.List.{List, [], _∷_, _++_}
 use lib.Dec.{eqb}
@@ -9,9 +9,8 @@ use Rattle.clifford_group.specs.Tableau.{Tableau}
 use Rattle.pauli.specs.declared.refusal.Outcome.{Outcome}
 use Rattle.pauli.specs.Questions.{_andThen_, roomQuestion}
 use Rattle.pauli.specs.SparseText.{decimal, letterText, sparseText}
-use Rattle.clifford.specs.Layout.{rowOf, joined, tableauOf}
+use Rattle.clifford.specs.Layout.{rowOf, joined, tableauOf, rowQubit, rowLetter}
 use Rattle.clifford.specs.Questions.{tableauQuestions}
-use Rattle.clifford.specs.Rows.{rowQubit, rowLetter, RowIndex, OwnRow}
 
 -- "CliffordRep(", the bytes that it starts with
 abbrev pub nameText : List ℕ
@@ -65,23 +64,3 @@ unfoldable pub startsWith : List ℕ → List ℕ → Bool
 startsWith [] s = true
 startsWith (x ∷ p) [] = false
 startsWith (x ∷ p) (y ∷ s) = eqb y x && startsWith p s
-
--- ---- what the functions that write it may count on
-
--- a place, and a short text; a place, and a number up to 128
-pub record TextPlace (k : ℕ) (w : List ℕ) : Type 0 where
-  pub place : k ≤ 199000
-  pub short : length w ≤ 100
-
-pub record NumberPlace (k n : ℕ) : Type 0 where
-  pub place : k ≤ 199000
-  pub small : n ≤ 128
-
--- a place up to some limit, and a row of some record of width w; or of the record t
-pub record LabelPlace (limit w k r : ℕ) : Type 0 where
-  pub place : k ≤ limit
-  pub row : RowIndex w r
-
-pub record RowPlace (limit : ℕ) (t : List ℕ) (k r : ℕ) : Type 0 where
-  pub place : k ≤ limit
-  pub row : OwnRow t r

@@ -47,8 +47,8 @@ unfoldable pub gateRecord : ℕ → ℕ → ℕ → List ℕ
 gateRecord g q r = tableauRecord (gateTableau g q r)
 
 -- one of "the 24 products of `single_qubit_cliffords`, had one at a time by their index"
-unfoldable pub productRecord : ℕ → ℕ → List ℕ
-productRecord k q = tableauRecord (singleQubitClifford k q)
+unfoldable pub singleQubitCliffordRecord : ℕ → ℕ → List ℕ
+singleQubitCliffordRecord k q = tableauRecord (singleQubitClifford k q)
 
 -- the number of the gate that a record is, or 24
 unfoldable pub recordName : List ℕ → ℕ

@@ -6,7 +6,7 @@ use mathlib.Core.List.{List, [], _∷_, _++_}
 use lib.Dec.{ltb}
 use lib.ListN.{length, take, drop, getD, set}
 use Rattle.pauli_group.specs.Phase.{_·_}
-use Rattle.pauli_group.specs.Letter.{Letter, I}
+use Rattle.pauli_group.specs.Letter.{Letter, I, X, Z}
 use Rattle.pauli_group.specs.PauliString.{PauliString}
 use Rattle.clifford_group.specs.Tableau.{Tableau}
 use Rattle.clifford_gates.specs.Gates.{PairImage}
@@ -35,11 +35,6 @@ unfoldable pub withPair : ℕ → ℕ → PairImage → List ℕ → List ℕ
 withPair q r i b =
     set (set (set b 0 (phaseByte (phaseOf (getD b 0 0) · i .phase))) (suc q) (letterByte (i .first))) (suc r) (letterByte (i .second))
 
--- the row at the front of b has qubits q and r
-pub record OnRow (q r : ℕ) (b : List ℕ) : Type 0 where
-  pub first : q + 1 < length b
-  pub second : r + 1 < length b
-
 -- ---- records: "Byte 0 is the width n, 0 to 128. X rows 0 to n−1 follow, then Z rows"
 
 -- where row r starts
@@ -53,6 +48,13 @@ recordLength w = 1 + 2 * w * rowLength w
 -- the rows of a tableau in the order of its record
 unfoldable pub rowOf : Tableau → ℕ → PauliString
 rowOf t r = cond (ltb r (t .width)) (t .xImage r) (t .zImage (r - t .width))
+
+-- row r at width w is the image of this letter on this qubit
+unfoldable pub rowQubit : ℕ → ℕ → ℕ
+rowQubit w r = cond (ltb r w) r (r - w)
+
+unfoldable pub rowLetter : ℕ → ℕ → Letter
+rowLetter w r = cond (ltb r w) X Z
 
 -- the lists f 0 to f (k - 1), one after another
 unfoldable pub joined : ℕ → (ℕ → List ℕ) → List ℕ

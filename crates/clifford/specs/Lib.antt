@@ -3,12 +3,10 @@ pub mod Images
 pub mod Support
 pub mod Answers
 pub mod Questions
-pub mod Rows
-pub mod InverseRows
 pub mod Tableaux
-pub mod Writing
 pub mod Display
 pub mod GateQuestions
 pub mod GateRows
 pub mod GateAnswers
 pub mod Playing
+pub mod Inside

@@ -17,12 +17,12 @@ isPlusOne PlusI = false
 isPlusOne MinusI = false
 
 -- two strings have the same letter on qubit c
-unfoldable pub sameLetter : PauliString → PauliString → ℕ → Bool
-sameLetter s t c = eqb (letterByte (s .letters c)) (letterByte (t .letters c))
+unfoldable pub alikeAt : PauliString → PauliString → ℕ → Bool
+alikeAt s t c = eqb (letterByte (s .letters c)) (letterByte (t .letters c))
 
 -- the string is +l on qubit q, with I on all others below w
 unfoldable pub isSingle : ℕ → Letter → ℕ → PauliString → Bool
-isSingle w l q s = isPlusOne (s .phase) && allTo w (sameLetter s (single l q))
+isSingle w l q s = isPlusOne (s .phase) && allTo w (alikeAt s (single l q))
 
 -- the X row of q is not +X of q, or its Z row is not +Z of q
 unfoldable pub changedQubit : Tableau → ℕ → Bool

@@ -8,8 +8,8 @@ ghost use Rattle.pauli.specs.Answers.{Written, written};
 ghost use Rattle.clifford.specs.Layout.{FormedTableau};
 ghost use Rattle.clifford.specs.Questions.{tableauQuestions};
 ghost use Rattle.clifford.specs.GateQuestions.{gateQuestion, secondQuestions, onQubitsQuestions, onQubitsAnswer, onQubitQuestions, onQubitAnswer, composeGateQuestions};
-ghost use Rattle.clifford.specs.GateAnswers.{gateReply, nameAnswer, GateAnswered, NameAnswered, gateRecord, oneQubitRecord, productRecord, recordName};
-ghost use Rattle.clifford.specs.GateRows.{GateOn, GateSpan, GateFits, OneFits, BothSmall, NameIs};
+ghost use Rattle.clifford.specs.GateAnswers.{gateReply, nameAnswer, GateAnswered, NameAnswered, gateRecord, oneQubitRecord, singleQubitCliffordRecord, recordName};
+ghost use Rattle.clifford.specs.Inside.GateRows.{GateOn, GateSpan, GateFits, OneFits, BothSmall, NameIs};
 use crate::gates::first_gate;
 use crate::gates::inverse_number;
 use crate::gates::letter_image;
@@ -169,14 +169,14 @@ pub fn on_qubit(gate: u8, q: usize, dst: &mut [u8]) -> Outcome
 
 fn write_product(index: usize, q: usize, dst: &mut [u8])
     requires { ⌜ OneFits index q (now dst) ⌝ }
-    ensures { λ _. ⌜ now (dst .exit) ≡ written Done (productRecord index q) (now (dst .entry)) ⌝ }
+    ensures { λ _. ⌜ now (dst .exit) ≡ written Done (singleQubitCliffordRecord index q) (now (dst .entry)) ⌝ }
 {
     write_on_qubit(product_number(index), q, dst);
 }
 
 // One of the 24 products of H and SZ, by its index.
 pub fn single_qubit_clifford(index: usize, qubit: usize, dst: &mut [u8]) -> Outcome
-    ensures { λ r. ⌜ Written (onQubitAnswer index qubit (length (now (dst .entry)))) (productRecord index qubit) (now (dst .entry)) (now (dst .exit)) r ⌝ }
+    ensures { λ r. ⌜ Written (onQubitAnswer index qubit (length (now (dst .entry)))) (singleQubitCliffordRecord index qubit) (now (dst .entry)) (now (dst .exit)) r ⌝ }
 {
     let answer = on_qubit_answer(index, qubit, dst.len());
     if let Outcome::Done = answer {

@@ -2,9 +2,9 @@
 ghost use mathlib.Core.Path.{_≡_};
 ghost use Prim.Native.Nat.{_≤_, min};
 ghost use Rattle.pauli.specs.Layout.{phaseOf, letterByte};
-ghost use Rattle.clifford.specs.Layout.{widthOf, recordLength, rowOffset, rowOf, rowPart, tableauOf, OnRow};
-ghost use Rattle.clifford.specs.Rows.{Sized, RowIndex, OwnRow, OwnLetter, WorkOnRow, Finished, rowQubit, rowLetter, rowTimes, rowWritten, rowLetters, lettersIn, stringIn};
-ghost use Rattle.clifford.specs.Playing.{tableOnRow};
+ghost use Rattle.clifford.specs.Layout.{widthOf, recordLength, rowOffset, rowOf, rowPart, tableauOf, rowQubit, rowLetter};
+ghost use Rattle.clifford.specs.Inside.Rows.{Sized, RowIndex, OwnRow, OwnLetter, WorkOnRow, Finished, rowTimes, rowWritten, rowLetters, lettersIn, stringIn, OnRow};
+ghost use Rattle.clifford.specs.Inside.Playing.{tableOnRow};
 use pauli::rows::copy;
 use pauli::rows::multiply_row;
 

@@ -2,7 +2,8 @@
 ghost use mathlib.Core.Path.{_≡_};
 ghost use Prim.Native.Nat.{_<_};
 ghost use Rattle.clifford.specs.Layout.{eachRow};
-ghost use Rattle.clifford.specs.Playing.{secondQubit, secondFits, playable, tableOf, tableOnRow, OnRows, GatePlayed};
+ghost use Rattle.clifford.specs.Playing.{secondQubit, secondFits, playable, GatePlayed};
+ghost use Rattle.clifford.specs.Inside.Playing.{tableOf, tableOnRow, OnRows};
 use crate::layout::change_row;
 use crate::layout::record_length;
 use crate::layout::row_offset;

@@ -7,7 +7,7 @@ ghost use Rattle.pauli_group.specs.PauliString.{single};
 ghost use Rattle.clifford_group.specs.Tableau.{imageOf, rowImage, apply};
 ghost use Rattle.pauli.specs.Layout.{encodeString, letterOf};
 ghost use Rattle.clifford.specs.Layout.{tableauOf};
-ghost use Rattle.clifford.specs.Rows.{WorkOnOwn, WorkOnLetter, WorkOnQubit, WorkPlace, Sends, SendsLetter, ClearRow, clearedRow, rowTimes, lettersIn, stringIn};
+ghost use Rattle.clifford.specs.Inside.Rows.{WorkOnOwn, WorkOnLetter, WorkOnQubit, WorkPlace, Sends, SendsLetter, ClearRow, clearedRow, rowTimes, lettersIn, stringIn};
 use crate::layout::multiply_by;
 use crate::layout::width;
 use pauli::algebra::multiply_paulis;

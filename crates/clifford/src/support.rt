@@ -7,9 +7,9 @@ ghost use Rattle.pauli.specs.declared.refusal.Outcome.the-variants.{Done};
 ghost use Rattle.pauli.specs.Answers.{written};
 ghost use Rattle.pauli.specs.Layout.{letterByte, letterOf};
 ghost use Rattle.clifford.specs.Layout.{FormedTableau, rowOf, tableauOf, widthOf};
-ghost use Rattle.clifford.specs.Rows.{OwnQubit, OwnQubits};
-ghost use Rattle.clifford.specs.Support.{sameLetter, isSingle, changedQubit, touchesQubit, supportsQubit, inSupport, supportQubits};
-ghost use Rattle.clifford.specs.Writing.{IsGenerator, SingleRow, SupportBit, SupportCount, QubitFits, QubitWritten, SupportFits};
+ghost use Rattle.clifford.specs.Inside.Rows.{OwnQubit, OwnQubits};
+ghost use Rattle.clifford.specs.Support.{alikeAt, isSingle, changedQubit, touchesQubit, supportsQubit, inSupport, supportQubits};
+ghost use Rattle.clifford.specs.Inside.Writing.{IsGenerator, SingleRow, SupportBit, SupportCount, QubitFits, QubitWritten, SupportFits};
 use crate::layout::row_letters;
 use crate::layout::row_phase;
 use crate::layout::width;
@@ -25,7 +25,7 @@ fn single_byte(letter: u8, q: usize, c: usize) -> u8
 // Whether row r has this letter on qubit q and I elsewhere.
 fn single_letters(t: &[u8], r: usize, letter: u8, q: usize) -> bool
     requires { ⌜ SingleRow (now t) r letter ⌝ }
-    ensures { λ b. ⌜ b ≡ allTo (widthOf (now (t .entry))) (sameLetter (rowOf (tableauOf (now (t .entry))) r) (single (letterOf letter) q)) ⌝ }
+    ensures { λ b. ⌜ b ≡ allTo (widthOf (now (t .entry))) (alikeAt (rowOf (tableauOf (now (t .entry))) r) (single (letterOf letter) q)) ⌝ }
 {
     let n = width(t);
     let letters = row_letters(t, r);

@@ -5,7 +5,7 @@ ghost use Rattle.pauli_group.specs.Phase.{isReal};
 ghost use Rattle.pauli_group.specs.PauliString.{commute};
 ghost use Rattle.clifford_group.specs.Tableau.{allTo, validQubit, validPair, isValid};
 ghost use Rattle.clifford.specs.Layout.{FormedTableau, rowOf, tableauOf};
-ghost use Rattle.clifford.specs.Rows.{OwnRow, OwnRows, OwnQubit, OwnQubits};
+ghost use Rattle.clifford.specs.Inside.Rows.{OwnRow, OwnRows, OwnQubit, OwnQubits};
 use crate::layout::row_letters;
 use crate::layout::row_phase;
 use crate::layout::width;

@@ -17,7 +17,7 @@ use Rattle.pauli_group.proofs.Finite.{letters, phases, law1}
 use Rattle.pauli_group.proofs.Laws.{·-one}
 use Rattle.pauli_group.proofs.Strings.{scale-scale}
 use Rattle.pauli_group.proofs.PaperForms.{both}
-use Rattle.clifford_group.specs.Tableau.{Tableau, imageOf, apply, compose, allTo, hasX, hasZ, letterOf, Clifford, Same}
+use Rattle.clifford_group.specs.Tableau.{Tableau, imageOf, apply, compose, allTo, hasX, hasZ, letterOfBits, Clifford, Same}
 use Rattle.clifford_group.specs.Conjugation.{Generator, ofX, ofZ, generator, row}
 use Rattle.clifford_group.proofs.Rows.{rows-same}
 use Rattle.clifford_group.proofs.Images.{image-row}
@@ -139,15 +139,15 @@ same-bits true false t = absurd t
 same-bits false true t = absurd t
 same-bits false false t = refl
 
-letter-of-bits : (a : Letter) → a ≡ letterOf (hasX a) (hasZ a)
-unfolding letterOf hasX hasZ
-letter-of-bits = law1 letters letters (λ a. a) (λ a. letterOf (hasX a) (hasZ a)) tt
+letter-of-bits : (a : Letter) → a ≡ letterOfBits (hasX a) (hasZ a)
+unfolding letterOfBits hasX hasZ
+letter-of-bits = law1 letters letters (λ a. a) (λ a. letterOfBits (hasX a) (hasZ a)) tt
 
 same-letters : (a b : Letter) → T (sameLetter a b) → a ≡ b
 unfolding sameLetter
 same-letters a b t =
     let parts = both (sameBit (hasX a) (hasX b)) (sameBit (hasZ a) (hasZ b)) t in
-    letter-of-bits a ∙ ap₂ letterOf (same-bits _ _ (parts .0)) (same-bits _ _ (parts .1)) ∙ sym (letter-of-bits b)
+    letter-of-bits a ∙ ap₂ letterOfBits (same-bits _ _ (parts .0)) (same-bits _ _ (parts .1)) ∙ sym (letter-of-bits b)
 
 real-sign : (p : Phase) → isReal p ≡ true → p ≡ sign (isMinus p)
 unfolding isReal sign isMinus

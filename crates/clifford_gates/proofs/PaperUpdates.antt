@@ -9,7 +9,7 @@ use Rattle.pauli_group.specs.Letter.{Letter, letterProduct, letterPhase, letter
 use Rattle.pauli_group.specs.PauliString.{PauliString, qubits, Within}
 use Rattle.pauli_group.proofs.Finite.{letters, phases, law1, law2}
 use Rattle.pauli_group.proofs.Strings.{string-ext}
-use Rattle.clifford_group.specs.Tableau.{apply, hasX, hasZ, letterOf}
+use Rattle.clifford_group.specs.Tableau.{apply, hasX, hasZ, letterOfBits}
 use Rattle.clifford_gates.specs.Gates.{oneQubitGates, twoQubitGates}
 use Rattle.clifford_gates.specs.GateTableaux.{onQubit, onQubits}
 use Rattle.clifford_gates.specs.GateNumbers.{oneQubitGate, twoQubitGate}
@@ -24,29 +24,29 @@ hadamard-phase : (l : Letter) → letterImage (oneQubitGate 4) l .phase ≡ sign
 unfolding oneQubitGate oneQubitGates letterImage timesI letterPhase letterMul letterProduct _·_ negate turn sign hasX hasZ
 hadamard-phase = law1 letters phases (λ l. letterImage (oneQubitGate 4) l .phase) (λ l. sign (hasX l && hasZ l)) tt
 
-hadamard-letter : (l : Letter) → letterImage (oneQubitGate 4) l .letter ≡ letterOf (hasZ l) (hasX l)
-unfolding oneQubitGate oneQubitGates letterImage timesI letterMul letterProduct letterOf hasX hasZ
-hadamard-letter = law1 letters letters (λ l. letterImage (oneQubitGate 4) l .letter) (λ l. letterOf (hasZ l) (hasX l)) tt
+hadamard-letter : (l : Letter) → letterImage (oneQubitGate 4) l .letter ≡ letterOfBits (hasZ l) (hasX l)
+unfolding oneQubitGate oneQubitGates letterImage timesI letterMul letterProduct letterOfBits hasX hasZ
+hadamard-letter = law1 letters letters (λ l. letterImage (oneQubitGate 4) l .letter) (λ l. letterOfBits (hasZ l) (hasX l)) tt
 
 phase-phase : (l : Letter) → letterImage (oneQubitGate 14) l .phase ≡ sign (hasX l && hasZ l)
 unfolding oneQubitGate oneQubitGates letterImage timesI letterPhase letterMul letterProduct _·_ negate turn sign hasX hasZ
 phase-phase = law1 letters phases (λ l. letterImage (oneQubitGate 14) l .phase) (λ l. sign (hasX l && hasZ l)) tt
 
-phase-letter : (l : Letter) → letterImage (oneQubitGate 14) l .letter ≡ letterOf (hasX l) (hasZ l xor hasX l)
-unfolding oneQubitGate oneQubitGates letterImage timesI letterMul letterProduct letterOf hasX hasZ _xor_
-phase-letter = law1 letters letters (λ l. letterImage (oneQubitGate 14) l .letter) (λ l. letterOf (hasX l) (hasZ l xor hasX l)) tt
+phase-letter : (l : Letter) → letterImage (oneQubitGate 14) l .letter ≡ letterOfBits (hasX l) (hasZ l xor hasX l)
+unfolding oneQubitGate oneQubitGates letterImage timesI letterMul letterProduct letterOfBits hasX hasZ _xor_
+phase-letter = law1 letters letters (λ l. letterImage (oneQubitGate 14) l .letter) (λ l. letterOfBits (hasX l) (hasZ l xor hasX l)) tt
 
 cnot-phase : (l m : Letter) → pairImage (twoQubitGate 24) l m .phase ≡ sign (cnotSign l m)
 unfolding twoQubitGate twoQubitGates pairImage ownImage pairTimes pairTimesI letterPhase letterMul letterProduct _·_ negate turn sign cnotSign hasX hasZ _xor_
 cnot-phase = law2 letters letters phases (λ l m. pairImage (twoQubitGate 24) l m .phase) (λ l m. sign (cnotSign l m)) tt
 
-cnot-first : (l m : Letter) → pairImage (twoQubitGate 24) l m .first ≡ letterOf (hasX l) (hasZ l xor hasZ m)
-unfolding twoQubitGate twoQubitGates pairImage ownImage pairTimes pairTimesI letterMul letterProduct letterOf hasX hasZ _xor_
-cnot-first = law2 letters letters letters (λ l m. pairImage (twoQubitGate 24) l m .first) (λ l m. letterOf (hasX l) (hasZ l xor hasZ m)) tt
+cnot-first : (l m : Letter) → pairImage (twoQubitGate 24) l m .first ≡ letterOfBits (hasX l) (hasZ l xor hasZ m)
+unfolding twoQubitGate twoQubitGates pairImage ownImage pairTimes pairTimesI letterMul letterProduct letterOfBits hasX hasZ _xor_
+cnot-first = law2 letters letters letters (λ l m. pairImage (twoQubitGate 24) l m .first) (λ l m. letterOfBits (hasX l) (hasZ l xor hasZ m)) tt
 
-cnot-second : (l m : Letter) → pairImage (twoQubitGate 24) l m .second ≡ letterOf (hasX m xor hasX l) (hasZ m)
-unfolding twoQubitGate twoQubitGates pairImage ownImage pairTimes pairTimesI letterMul letterProduct letterOf hasX hasZ _xor_
-cnot-second = law2 letters letters letters (λ l m. pairImage (twoQubitGate 24) l m .second) (λ l m. letterOf (hasX m xor hasX l) (hasZ m)) tt
+cnot-second : (l m : Letter) → pairImage (twoQubitGate 24) l m .second ≡ letterOfBits (hasX m xor hasX l) (hasZ m)
+unfolding twoQubitGate twoQubitGates pairImage ownImage pairTimes pairTimesI letterMul letterProduct letterOfBits hasX hasZ _xor_
+cnot-second = law2 letters letters letters (λ l m. pairImage (twoQubitGate 24) l m .second) (λ l m. letterOfBits (hasX m xor hasX l) (hasZ m)) tt
 
 -- ---- strings
 module _ (a : ℕ) (h : a < qubits) (s : PauliString) (w : Within qubits s) where

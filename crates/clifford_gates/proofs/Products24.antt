@@ -18,7 +18,7 @@ use Rattle.clifford_group.proofs.Valid.{all-each}
 use Rattle.clifford_gates.specs.Gates.{Image, OneQubit, oneQubit, oneQubitGates}
 use Rattle.clifford_gates.specs.GateTableaux.{imageString, unchanged, onQubit}
 use Rattle.clifford_gates.specs.Unitaries.{WordGate}
-use Rattle.clifford_gates.specs.GateNumbers.{oneQubitGate, nameOf, firstWith, wordGateNumber, sequences, productFrom, singleQubitClifford, productGates}
+use Rattle.clifford_gates.specs.GateNumbers.{oneQubitGate, nameOf, firstWith, wordGateNumber, sequences, wordProduct, singleQubitClifford, productGates}
 use Rattle.clifford_gates.specs.Updates.{timesI, letterImage, scaled, sentImage, composeImages}
 use Rattle.clifford_gates.proofs.GateTables.{same-entry, entry-equal}
 use Rattle.clifford_gates.proofs.GateTableaux.{image-phase}
@@ -33,8 +33,8 @@ productImages k (g ∷ w) = productImages (composeImages k (oneQubitGate (wordGa
 
 module _ (q : ℕ) (l : q < qubits) where
   product-same : (w : List WordGate) (t : Tableau) (k : OneQubit) → Same t (onQubit k q)
-      → Same (productFrom q t w) (onQubit (productImages k w) q)
-  unfolding productFrom productImages
+      → Same (wordProduct q t w) (onQubit (productImages k w) q)
+  unfolding wordProduct productImages
   product-same [] t k e = e
   product-same (g ∷ w) t k e =
       product-same w (compose t (onQubit (oneQubitGate (wordGateNumber g)) q)) (composeImages k (oneQubitGate (wordGateNumber g)))

@@ -123,12 +123,12 @@ sequences =
     []
 
 -- each next gate composed on the right, so the rightmost acts first
-unfoldable pub productFrom : ℕ → Tableau → List WordGate → Tableau
-productFrom q t [] = t
-productFrom q t (g ∷ w) = productFrom q (compose t (onQubit (oneQubitGate (wordGateNumber g)) q)) w
+unfoldable pub wordProduct : ℕ → Tableau → List WordGate → Tableau
+wordProduct q t [] = t
+wordProduct q t (g ∷ w) = wordProduct q (compose t (onQubit (oneQubitGate (wordGateNumber g)) q)) w
 
 unfoldable pub singleQubitClifford : ℕ → ℕ → Tableau
-singleQubitClifford k q = productFrom q (identityTableau (suc q)) (getD sequences k [])
+singleQubitClifford k q = wordProduct q (identityTableau (suc q)) (getD sequences k [])
 
 -- the gates that the products are, by index
 unfoldable pub productGates : List ℕ

@@ -6,7 +6,7 @@ use lib.Dec.{eqb}
 use Rattle.pauli_group.specs.Phase.{Phase, PlusI, sign, _·_}
 use Rattle.pauli_group.specs.Letter.{Letter, I, X, Z, Y, letterMul, letterPhase}
 use Rattle.pauli_group.specs.PauliString.{PauliString}
-use Rattle.clifford_group.specs.Tableau.{hasX, hasZ, letterOf}
+use Rattle.clifford_group.specs.Tableau.{hasX, hasZ, letterOfBits}
 use Rattle.clifford_gates.specs.Gates.{Image, plus, OneQubit, oneQubit, PairImage, pairPlus, TwoQubit, twoQubit}
 
 -- ---- letters
@@ -91,14 +91,14 @@ a xor b = cond a (not b) b
 unfoldable pub hadamardUpdate : ℕ → PauliString → PauliString
 hadamardUpdate a s = record {
   phase = s .phase · sign (hasX (s .letters a) && hasZ (s .letters a));
-  letters = withLetter a (letterOf (hasZ (s .letters a)) (hasX (s .letters a))) (s .letters);
+  letters = withLetter a (letterOfBits (hasZ (s .letters a)) (hasX (s .letters a))) (s .letters);
 }
 
 -- Phase on a: r := r ⊕ x_a z_a, z_a := z_a ⊕ x_a
 unfoldable pub phaseUpdate : ℕ → PauliString → PauliString
 phaseUpdate a s = record {
   phase = s .phase · sign (hasX (s .letters a) && hasZ (s .letters a));
-  letters = withLetter a (letterOf (hasX (s .letters a)) (hasZ (s .letters a) xor hasX (s .letters a))) (s .letters);
+  letters = withLetter a (letterOfBits (hasX (s .letters a)) (hasZ (s .letters a) xor hasX (s .letters a))) (s .letters);
 }
 
 -- CNOT from a to b: r := r ⊕ x_a z_b (x_b ⊕ z_a ⊕ 1), x_b := x_b ⊕ x_a, z_a := z_a ⊕ z_b
@@ -109,6 +109,6 @@ unfoldable pub cnotUpdate : ℕ → ℕ → PauliString → PauliString
 cnotUpdate a b s = record {
   phase = s .phase · sign (cnotSign (s .letters a) (s .letters b));
   letters =
-      withLetter a (letterOf (hasX (s .letters a)) (hasZ (s .letters a) xor hasZ (s .letters b)))
-      (withLetter b (letterOf (hasX (s .letters b) xor hasX (s .letters a)) (hasZ (s .letters b))) (s .letters));
+      withLetter a (letterOfBits (hasX (s .letters a)) (hasZ (s .letters a) xor hasZ (s .letters b)))
+      (withLetter b (letterOfBits (hasX (s .letters b) xor hasX (s .letters a)) (hasZ (s .letters b))) (s .letters));
 }

@@ -13,7 +13,7 @@ use Rattle.pauli_group.specs.PauliString.{commute, commutationSign, Within}
 use Rattle.pauli_group.proofs.Laws.{·-comm, ·-one, sign-injective}
 use Rattle.pauli_group.proofs.Strings.{string-ext, scale-one, scale-cancel, identity-mul, mul-swap, sign-only, sign-single, sign-local}
 use Rattle.pauli_group.proofs.Strings.{real-squares, squares-real}
-use Rattle.clifford_group.specs.Tableau.{Tableau, imageOf, applyTo, apply, letterOf, Clifford}
+use Rattle.clifford_group.specs.Tableau.{Tableau, imageOf, applyTo, apply, letterOfBits, Clifford}
 use Rattle.clifford_group.proofs.Singles.{letter-bits}
 use Rattle.clifford_group.proofs.Commuting.{Commuting, commuting-identity, commuting-scale, commuting-mul, exchange, scale-both}
 use Rattle.clifford_group.proofs.Commuting.{commute-by-sign}
@@ -84,7 +84,7 @@ module _ (t : Tableau) (c : Clifford t) where
 
   pub letters-injective : (s u : PauliString) → ((q : ℕ) → q < qubits → apply t s .letters q ≡ apply t u .letters q) → (q : ℕ)
       → q < qubits → s .letters q ≡ u .letters q
-  letters-injective s u e q h = letter-bits (s .letters q) ∙ ap₂ letterOf (bit Z) (bit X) ∙ sym (letter-bits (u .letters q))
+  letters-injective s u e q h = letter-bits (s .letters q) ∙ ap₂ letterOfBits (bit Z) (bit X) ∙ sym (letter-bits (u .letters q))
     where
       bit : (l : Letter) → anticommute (s .letters q) l ≡ anticommute (u .letters q) l
       bit l = sign-injective _ _ (sign-image s l q h ∙ sign-local (apply t s) (apply t u) (imageOf t q l) e ∙ sym (sign-image u l q h))

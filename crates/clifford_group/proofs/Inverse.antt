@@ -11,7 +11,7 @@ use Rattle.pauli_group.specs.Letter.{Letter, I, X, Z, anticommute}
 use Rattle.pauli_group.specs.PauliString.{PauliString, qubits, mul, scale, single, Within}
 use Rattle.pauli_group.proofs.Laws.{·-one, conjugate-·, sign-injective}
 use Rattle.pauli_group.proofs.Strings.{string-ext, sign-sym, sign-single, sign-local, within-mul, within-single}
-use Rattle.clifford_group.specs.Tableau.{Tableau, identityTableau, rowImage, imageOf, apply, compose, hasX, hasZ, letterOf}
+use Rattle.clifford_group.specs.Tableau.{Tableau, identityTableau, rowImage, imageOf, apply, compose, hasX, hasZ, letterOfBits}
 use Rattle.clifford_group.specs.Tableau.{transposed, inverseRow, inverse, Proper, Clifford, Same}
 use Rattle.clifford_group.specs.Conjugation.{Generator, ofX, ofZ, generator, row}
 use Rattle.clifford_group.proofs.Singles.{single-off, letter-bits, hasX-anticommute, hasZ-anticommute}
@@ -56,11 +56,11 @@ proper-inverse t n = rows-proper (inverse t) n
 -- ---- the letters that the transpose gives
 -- by the images of X and Z, at the width and above too
 columnLetter : Tableau → Letter → ℕ → ℕ → Letter
-columnLetter t l q c = letterOf (anticommute (imageOf t c Z .letters q) l) (anticommute (imageOf t c X .letters q) l)
+columnLetter t l q c = letterOfBits (anticommute (imageOf t c Z .letters q) l) (anticommute (imageOf t c X .letters q) l)
 
 transposed-letters : (t : Tableau) (g : Generator) (q c : ℕ) → q < t .width
     → transposed t (columnBit g) q .letters c ≡ columnLetter t (generator g) q c
-unfolding transposed columnLetter rowImage anticommute letterOf
+unfolding transposed columnLetter rowImage anticommute letterOfBits
 transposed-letters t g q c h = go (decLt c (t .width))
   where
     bit : PauliString → Bool
@@ -74,9 +74,9 @@ transposed-letters t g q c h = go (decLt c (t .width))
 
     go : Dec (c < t .width) → transposed t (columnBit g) q .letters c ≡ columnLetter t (generator g) q c
     go (yes k) =
-        ap (λ b. cond b (letterOf (columnBit g (t .zImage c .letters q)) (columnBit g (t .xImage c .letters q))) I) (lt-ltb c (t .width) k)
-        ∙ ap₂ letterOf (own k Z) (own k X)
-    go (no k) = within-transposed t (columnBit g) q c (omega arith) ∙ ap₂ letterOf (above (omega arith) Z) (above (omega arith) X)
+        ap (λ b. cond b (letterOfBits (columnBit g (t .zImage c .letters q)) (columnBit g (t .xImage c .letters q))) I) (lt-ltb c (t .width) k)
+        ∙ ap₂ letterOfBits (own k Z) (own k X)
+    go (no k) = within-transposed t (columnBit g) q c (omega arith) ∙ ap₂ letterOfBits (above (omega arith) Z) (above (omega arith) X)
 
 -- letters with phase +1
 plain : (ℕ → Letter) → PauliString
@@ -88,7 +88,7 @@ module _ (t : Tableau) (c : Clifford t) where
       → ((d : ℕ) → d < qubits → single l q .letters d ≡ apply t (plain a) .letters d)
       → (d : ℕ) → d < qubits → a d ≡ columnLetter t l q d
   unfolding plain columnLetter
-  column-only l q h a e d k = letter-bits (a d) ∙ ap₂ letterOf (bit Z) (bit X)
+  column-only l q h a e d k = letter-bits (a d) ∙ ap₂ letterOfBits (bit Z) (bit X)
     where
       bit : (m : Letter) → anticommute (a d) m ≡ anticommute (imageOf t d m .letters q) l
       bit m = sign-injective _ _

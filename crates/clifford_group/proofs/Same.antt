@@ -9,7 +9,7 @@ use Rattle.pauli_group.specs.Phase.{conjugate, isReal}
 use Rattle.pauli_group.specs.Letter.{Letter, I}
 use Rattle.pauli_group.specs.PauliString.{PauliString, qubits, commute, Within}
 use Rattle.pauli_group.proofs.Strings.{string-ext}
-use Rattle.clifford_group.specs.Tableau.{Tableau, imageOf, apply, widen, compose, isValid, hasX, hasZ, letterOf, transposed}
+use Rattle.clifford_group.specs.Tableau.{Tableau, imageOf, apply, widen, compose, isValid, hasX, hasZ, letterOfBits, transposed}
 use Rattle.clifford_group.specs.Tableau.{inverseRow, inverse, Proper, Clifford, Same}
 use Rattle.clifford_group.specs.Conjugation.{Generator, ofX, ofZ, generator, row, Valid}
 use Rattle.clifford_group.proofs.Rows.{same-row, rows-same, proper-row, rows-proper}
@@ -65,7 +65,7 @@ module _ (t u : Tableau) (e : Same t u) where
   transposed-same bit q = string-ext (transposed t bit q) (transposed u bit q) refl letters
     where
       place : ℕ → ℕ → PauliString → PauliString → Letter
-      place c w z x = cond (ltb c w) (letterOf (bit (z .letters q)) (bit (x .letters q))) I
+      place c w z x = cond (ltb c w) (letterOfBits (bit (z .letters q)) (bit (x .letters q))) I
 
       letters : (c : ℕ) → place c (t .width) (t .zImage c) (t .xImage c) ≡ place c (u .width) (u .zImage c) (u .xImage c)
       letters c = elim (decLt c (t .width)) [

@@ -12,7 +12,7 @@ use Rattle.pauli_group.proofs.Finite.{letters, bools, law1}
 use Rattle.pauli_group.proofs.Laws.{·-comm, one-·}
 use Rattle.pauli_group.proofs.Products.{productTo-at}
 use Rattle.pauli_group.proofs.Strings.{string-ext}
-use Rattle.clifford_group.specs.Tableau.{hasX, hasZ, letterOf}
+use Rattle.clifford_group.specs.Tableau.{hasX, hasZ, letterOfBits}
 
 pub single-I : (q : ℕ) → single I q ≡ identityString
 unfolding single identityString
@@ -52,9 +52,9 @@ mul-singles l m q h =
     place false = refl
 
 -- ---- a letter and its bits
-pub letter-bits : (a : Letter) → a ≡ letterOf (anticommute a Z) (anticommute a X)
-unfolding anticommute letterOf
-letter-bits = law1 letters letters (λ a. a) (λ a. letterOf (anticommute a Z) (anticommute a X)) tt
+pub letter-bits : (a : Letter) → a ≡ letterOfBits (anticommute a Z) (anticommute a X)
+unfolding anticommute letterOfBits
+letter-bits = law1 letters letters (λ a. a) (λ a. letterOfBits (anticommute a Z) (anticommute a X)) tt
 
 pub hasZ-anticommute : (a : Letter) → anticommute a X ≡ hasZ a
 unfolding anticommute hasZ

@@ -94,18 +94,18 @@ hasZ X = false
 hasZ Z = true
 hasZ Y = true
 
-unfoldable pub letterOf : Bool → Bool → Letter
-letterOf false false = I
-letterOf true false = X
-letterOf false true = Z
-letterOf true true = Y
+unfoldable pub letterOfBits : Bool → Bool → Letter
+letterOfBits false false = I
+letterOfBits true false = X
+letterOfBits false true = Z
+letterOfBits true true = Y
 
 -- Letters by the symplectic transpose, as in the Rust: at c the x bit comes from Z row c and the z bit from X row c, both read
 -- in column q. The bit read there is the z bit for the inverse's X row q and the x bit for its Z row q.
 unfoldable pub transposed : Tableau → (Letter → Bool) → ℕ → PauliString
 transposed t bit q = record {
   phase = PlusOne;
-  letters = λ c. cond (ltb c (t .width)) (letterOf (bit (t .zImage c .letters q)) (bit (t .xImage c .letters q))) I;
+  letters = λ c. cond (ltb c (t .width)) (letterOfBits (bit (t .zImage c .letters q)) (bit (t .xImage c .letters q))) I;
 }
 
 -- that body, with the conjugate of the phase met when the body is sent forward

@@ -15,13 +15,12 @@ use Rattle.clifford_group.specs.Tableau.{Tableau, isValid, Proper}
 use Rattle.clifford_group.specs.Conjugation.{ofX, ofZ}
 use Rattle.clifford_group.proofs.Valid.{test-valid}
 use Rattle.pauli.specs.declared.refusal.Outcome.the-variants.{Done}
-use Rattle.pauli.specs.SparseText.{decimal, digitsTo, prefixText, entryWord, wordsAt, entryWords, joined, bodyText, sparseTextTo, sparseText}
+use Rattle.pauli.specs.SparseText.{decimal, digitsTo, prefixText, entryWord, wordsAt, entryWords, spaced, bodyText, sparseTextTo, sparseText}
 use Rattle.pauli.proofs.SparseTexts.{text-length}
 use Rattle.clifford.specs.Display.{nameText, qubitsText, arrowText, newline, headerText, generatorText, labelText, lineText, displayRow, linesText, displayText, textOfTableau}
-use Rattle.clifford.specs.Layout.{rowOf, tableauOf, tableauRecord, widthOf}
+use Rattle.clifford.specs.Layout.{rowOf, tableauOf, tableauRecord, widthOf, rowQubit, rowLetter}
 use Rattle.clifford.specs.Layout as layout
 use Rattle.clifford.specs.Questions.{tableauQuestions}
-use Rattle.clifford.specs.Rows.{rowQubit, rowLetter}
 use Rattle.clifford.specs.Tableaux.{recordValid}
 use Rattle.clifford.proofs.Displays.{decimal-short, order-even, order-odd, order-below}
 use Rattle.clifford.proofs.TableauAsking.{tableau-formed, tableaux-admitted}
@@ -169,7 +168,7 @@ abbrev pub everyY : PauliString
 everyY = record { phase = MinusI; letters = λ q. cond (ltb q 128) Y I }
 
 everyY-length : length (sparseText everyY) ≡ 531
-unfolding sparseText sparseTextTo qubits prefixText entryWords wordsAt entryWord decimal digitsTo bodyText joined
+unfolding sparseText sparseTextTo qubits prefixText entryWords wordsAt entryWord decimal digitsTo bodyText spaced
 everyY-length = refl
 
 abbrev pub longest : Tableau

@@ -14,7 +14,7 @@ use Rattle.clifford_gates.proofs.GateInverses.{inverse-gates}
 use Rattle.clifford_gates.proofs.Products24.{products, product-small, products-different}
 use Rattle.clifford.specs.Layout.{tableauOf, tableauRecord}
 use Rattle.clifford.specs.Tableaux.{recordValid, Good, composeRecord, inverseRecord}
-use Rattle.clifford.specs.GateAnswers.{gateRecord, oneQubitRecord, productRecord}
+use Rattle.clifford.specs.GateAnswers.{gateRecord, oneQubitRecord, singleQubitCliffordRecord}
 use Rattle.clifford.proofs.TableauRecords.{record-back, record-formed, same-record, record-same}
 
 -- ---- one gate
@@ -52,6 +52,6 @@ inverse-records g q r hg hq hr d =
 product-proper : (k q : ℕ) → k < 24 → q < qubits → Proper (singleQubitClifford k q)
 product-proper k q hk hq = proper-same _ _ (same-sym _ _ (products k q hk hq)) (one-clifford _ q (product-small k hk) hq .proper)
 
-pub products-apart : (j k q : ℕ) → j < 24 → k < 24 → j ≢ k → q < qubits → productRecord j q ≡ productRecord k q → ⊥
-unfolding productRecord
+pub products-apart : (j k q : ℕ) → j < 24 → k < 24 → j ≢ k → q < qubits → singleQubitCliffordRecord j q ≡ singleQubitCliffordRecord k q → ⊥
+unfolding singleQubitCliffordRecord
 products-apart j k q hj hk d hq e = products-different j k q hj hk d hq (record-same _ _ (product-proper j q hj hq) (product-proper k q hk hq) e)

@@ -27,8 +27,7 @@ use Rattle.clifford_gates.proofs.TwoQubitUpdates.{apply-on-qubits}
 use Rattle.clifford_gates.proofs.GateNames.{gate-valid, pair-gate-valid, gate-one, gate-two, gate-clifford}
 use Rattle.pauli.specs.Layout.{phaseByte, phaseOf, letterByte, letterOf}
 use Rattle.pauli.proofs.Records.{letter-there, encode-phase, encode-letter, decode-letter}
-use Rattle.clifford.specs.Layout.{rowLength, encodeRow, decodeRow, rowOf, joined, tableauRecord, widthOf, rowPart, tableauOf, letterIn, withPair, eachRow, recordLength, FormedTableau}
-use Rattle.clifford.specs.Rows.{rowQubit, rowLetter}
+use Rattle.clifford.specs.Layout.{rowLength, encodeRow, decodeRow, rowOf, joined, tableauRecord, widthOf, rowPart, tableauOf, letterIn, withPair, eachRow, recordLength, FormedTableau, rowQubit, rowLetter}
 use Rattle.clifford.specs.Tableaux.{composeRecord}
 use Rattle.clifford.specs.GateQuestions.{gateWidth}
 use Rattle.clifford.specs.GateAnswers.{gateRecord}

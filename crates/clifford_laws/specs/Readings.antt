@@ -16,8 +16,8 @@ use Rattle.clifford.specs.GateQuestions.{composeGateQuestions}
 use Rattle.clifford.specs.GateAnswers.{gateRecord, recordName}
 
 pub data Asked : Type 0 where
-  phaseProduct : ℕ → ℕ → Asked
-  letterProduct : ℕ → ℕ → Asked
+  phasesMultiplied : ℕ → ℕ → Asked
+  lettersMultiplied : ℕ → ℕ → Asked
   applied : List ℕ → List ℕ → Asked
   inverted : List ℕ → Asked
   composed : List ℕ → List ℕ → Asked
@@ -31,8 +31,8 @@ told q v out = replyTo q v .number ∷ replyTo q v .value ∷ out
 
 -- by the definitions that the contracts cite, the questions among them
 unfoldable pub answered : Asked → List ℕ
-answered (phaseProduct a b) = told (pairQuestions a b) (phaseBytesProduct a b) []
-answered (letterProduct a b) = told (pairQuestions a b) (4 * productPhaseByte a b + productLetterByte a b) []
+answered (phasesMultiplied a b) = told (pairQuestions a b) (phaseBytesProduct a b) []
+answered (lettersMultiplied a b) = told (pairQuestions a b) (4 * productPhaseByte a b + productLetterByte a b) []
 answered (applied t s) = told (applyAnswer t s 129) 0 (applyRecord t s)
 answered (inverted t) = told (inverseAnswer t 33025) 0 (inverseRecord t)
 answered (composed a b) = told (composeAnswer a b 33025) 0 (composeRecord a b)
@@ -53,8 +53,8 @@ reading q a = record { asked = q; answer = a }
 
 unfoldable pub readings : List Reading
 readings =
-    reading (phaseProduct 2 2) (0 ∷ 1 ∷ []) ∷  -- i·i = −1
-    reading (letterProduct 1 2) (0 ∷ 15 ∷ []) ∷  -- X·Z = −iY, phase 3 and letter 3
+    reading (phasesMultiplied 2 2) (0 ∷ 1 ∷ []) ∷  -- i·i = −1
+    reading (lettersMultiplied 1 2) (0 ∷ 15 ∷ []) ∷  -- X·Z = −iY, phase 3 and letter 3
     reading (applied (gateRecord 4 0 0) (stringBytes 0 (3 ∷ []))) (0 ∷ 0 ∷ stringBytes 1 (3 ∷ [])) ∷  -- `h` on Y0: −Y0
     reading (applied (gateRecord 24 0 1) (stringBytes 0 (1 ∷ 2 ∷ []))) (0 ∷ 0 ∷ stringBytes 1 (3 ∷ 3 ∷ [])) ∷  -- `cx(0,1)` on X0 Z1: −Y0 Y1
     reading (inverted (gateRecord 14 0 0)) (0 ∷ 0 ∷ 1 ∷ 1 ∷ 3 ∷ 0 ∷ 2 ∷ []) ∷  -- inverse of `sz`: X to −Y, Z to Z

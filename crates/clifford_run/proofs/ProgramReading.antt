@@ -19,7 +19,7 @@ use Rattle.clifford.specs.Questions.{widthQuestion}
 use Rattle.clifford.specs.Tableaux.{identityRecord, composeRecord}
 use Rattle.clifford.proofs.Displays.{display-reading}
 use Rattle.clifford_laws.specs.WayBack.{productFrom, productOf}
-use Rattle.gate_list.specs.ListQuestions.{sizeQuestion, headQuestion, linkQuestion, zerosQuestion, gateQuestion, qubitQuestion, secondQuestions, recordQuestions, isMet, chainQuestions, listQuestions}
+use Rattle.gate_list.specs.ListQuestions.{sizeQuestion, headQuestion, linkQuestion, zerosQuestion, stepGateQuestion, stepQubitQuestion, stepSecondQuestions, recordQuestions, isMet, chainQuestions, listQuestions}
 use Rattle.gate_list.specs.Lists.{recordCount, byteOf, listWidth, nextOf}
 use Rattle.gate_list.specs.Reports.{textAfter, reportText}
 use Rattle.gate_list.specs.Runs.{tableauxOf, runRecord}
@@ -27,7 +27,7 @@ use Rattle.gate_list.proofs.ListReadings.{example, example-gates}
 use Rattle.pauli_laws.specs.QuotedText.{bytesOf}
 
 example-runs : listQuestions example ≡ Done
-unfolding ask _andThen_ widthQuestion qubits recordCount byteOf listWidth nextOf sizeQuestion headQuestion linkQuestion zerosQuestion gateQuestion qubitQuestion secondQuestions recordQuestions isMet chainQuestions listQuestions
+unfolding ask _andThen_ widthQuestion qubits recordCount byteOf listWidth nextOf sizeQuestion headQuestion linkQuestion zerosQuestion stepGateQuestion stepQubitQuestion stepSecondQuestions recordQuestions isMet chainQuestions listQuestions
 example-runs = refl
 
 -- X of 0 to Z0, X of 1 to X1, Z of 0 to X0 X1, Z of 1 to Z0 Z1

@@ -22,7 +22,8 @@ use Rattle.gate_list.proofs.ListAsking.{size-odd, size-long}
 use Rattle.gate_list.proofs.RunReports.{report-most, report-done}
 use Rattle.clifford_run.specs.declared.Input.{Input}
 use Rattle.clifford_run.specs.declared.Input.the-variants.{Read, Failed}
-use Rattle.clifford_run.specs.Program.{inputMost, Owed, ReportRoom, Buffers, InputRead, ReportWritten}
+use Rattle.clifford_run.specs.Program.{inputMost}
+use Rattle.clifford_run.specs.Inside.Program.{Owed, ReportRoom, Buffers, InputRead, ReportWritten}
 
 -- ---- a longer input than the longest list is 16, whatever follows
 size-over : (l : List ℕ) → inputMost ≤ length l → Refused ListLength ≡ sizeQuestion l

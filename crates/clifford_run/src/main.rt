@@ -1,7 +1,7 @@
 // Reads a gate list from standard input and writes the tableau of its run, or its refusal. No contract can say what is read or
 // written: what is handed to `write` is said by the contracts of the functions on slices.
 ghost use lib.ListN.{length, take};
-ghost use Rattle.clifford_run.specs.Program.{Buffers, InputRead, ReportRoom, ReportWritten, Owed};
+ghost use Rattle.clifford_run.specs.Inside.Program.{Buffers, InputRead, ReportRoom, ReportWritten, Owed};
 use gate_list::gate_list::report;
 use libc::STDERR_FILENO;
 use libc::STDIN_FILENO;

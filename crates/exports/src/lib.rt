@@ -17,7 +17,7 @@ ghost use Rattle.clifford.specs.Display.{textOfTableau, displayAnswer};
 ghost use Rattle.clifford.specs.Questions.{tableauQuestions, imageQuestions, setQuestions, identityAnswer, applyAnswer, composeAnswer, extendAnswer, inverseAnswer, pauliAnswer, supportAnswer};
 ghost use Rattle.clifford.specs.Tableaux.{recordValid, setXRecord, setZRecord, identityRecord, applyRecord, composeRecord, extendRecord, inverseRecord, pauliRecord, supportBytes};
 ghost use Rattle.clifford.specs.GateQuestions.{gateQuestion, onQubitsAnswer, onQubitAnswer, composeGateQuestions};
-ghost use Rattle.clifford.specs.GateAnswers.{gateRecord, oneQubitRecord, productRecord, recordName};
+ghost use Rattle.clifford.specs.GateAnswers.{gateRecord, oneQubitRecord, singleQubitCliffordRecord, recordName};
 ghost use Rattle.gate_play.specs.PlayQuestions.{playQuestions};
 ghost use Rattle.gate_list.specs.Runs.{runAnswer, runRecord, stepCount};
 ghost use Rattle.gate_list.specs.Reports.{reportAnswer, reportText};
@@ -223,7 +223,7 @@ pub extern "C" fn rc_display(t: &[u8], dst: &mut [u8]) -> Reply
 
 #[no_mangle]
 pub extern "C" fn rc_single_qubit_clifford(index: usize, qubit: usize, dst: &mut [u8]) -> Reply
-    ensures { λ r. ⌜ RepliedWith (onQubitAnswer index qubit (length (now (dst .entry)))) 0 (productRecord index qubit) (now (dst .entry)) (now (dst .exit)) r ⌝ }
+    ensures { λ r. ⌜ RepliedWith (onQubitAnswer index qubit (length (now (dst .entry)))) 0 (singleQubitCliffordRecord index qubit) (now (dst .entry)) (now (dst .exit)) r ⌝ }
 {
     refusal::outcome_reply(gates::single_qubit_clifford(index, qubit, dst))
 }

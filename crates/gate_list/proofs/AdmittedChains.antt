@@ -16,7 +16,7 @@ use Rattle.pauli.specs.Questions.{ask, _andThen_}
 use Rattle.pauli.proofs.Asking.{ask-done, done-first, done-second}
 use Rattle.clifford.specs.Questions.{widthQuestion}
 use Rattle.gate_list.specs.Lists.{recordCount, byteOf, listWidth, nextOf, playOf, chainFrom, chainOf, playsOf, gatesOf}
-use Rattle.gate_list.specs.ListQuestions.{sizeQuestion, headQuestion, linkQuestion, zerosQuestion, gateQuestion, qubitQuestion, secondQuestions, recordQuestions, isMet, chainQuestions, listQuestions}
+use Rattle.gate_list.specs.ListQuestions.{sizeQuestion, headQuestion, linkQuestion, zerosQuestion, stepGateQuestion, stepQubitQuestion, stepSecondQuestions, recordQuestions, isMet, chainQuestions, listQuestions}
 use Rattle.gate_list.specs.OrderedLists.{PlayFits, PlaysFit, none, more, Chain, ends, links}
 use Rattle.gate_list.specs.Runs.{stepCount}
 use Rattle.gate_list.proofs.Chains.{chain-met, chain-more, record-link}
@@ -28,35 +28,35 @@ module _ (l : List ℕ) (i : ℕ) (e : recordQuestions l i ≡ Done) where
   unfolding recordQuestions
   zeros-of = done-first _ _ e
 
-  gate-of : gateQuestion l i ≡ Done
+  gate-of : stepGateQuestion l i ≡ Done
   unfolding recordQuestions
   gate-of = done-first _ _ (done-second (zerosQuestion l i) _ e)
 
-  first-of : qubitQuestion l i (byteOf l i 1) ≡ Done
+  first-of : stepQubitQuestion l i (byteOf l i 1) ≡ Done
   unfolding recordQuestions
-  first-of = done-first _ _ (done-second (gateQuestion l i) _ (done-second (zerosQuestion l i) _ e))
+  first-of = done-first _ _ (done-second (stepGateQuestion l i) _ (done-second (zerosQuestion l i) _ e))
 
-  second-of : secondQuestions l i ≡ Done
+  second-of : stepSecondQuestions l i ≡ Done
   unfolding recordQuestions
   second-of =
       done-first _ _
-      (done-second (qubitQuestion l i (byteOf l i 1)) _ (done-second (gateQuestion l i) _ (done-second (zerosQuestion l i) _ e)))
+      (done-second (stepQubitQuestion l i (byteOf l i 1)) _ (done-second (stepGateQuestion l i) _ (done-second (zerosQuestion l i) _ e)))
 
-  two-of : 24 ≤ byteOf l i 0 → qubitQuestion l i (byteOf l i 2) andThen ask (not (eqb (byteOf l i 1) (byteOf l i 2))) (SameQubit i) ≡ Done
-  unfolding secondQuestions
+  two-of : 24 ≤ byteOf l i 0 → stepQubitQuestion l i (byteOf l i 2) andThen ask (not (eqb (byteOf l i 1) (byteOf l i 2))) (SameQubit i) ≡ Done
+  unfolding stepSecondQuestions
   two-of h =
-      sym (ap (λ b. cond b Done (qubitQuestion l i (byteOf l i 2) andThen ask (not (eqb (byteOf l i 1) (byteOf l i 2))) (SameQubit i))) (le-ltb (byteOf l i 0) 24 h)) ∙ second-of
+      sym (ap (λ b. cond b Done (stepQubitQuestion l i (byteOf l i 2) andThen ask (not (eqb (byteOf l i 1) (byteOf l i 2))) (SameQubit i))) (le-ltb (byteOf l i 0) 24 h)) ∙ second-of
 
   or-second : {a b : Bool} → (a || b) ≡ true → a ≡ false → b ≡ true
   or-second {a} {b} h k = sym (ap (λ x. x || b) k) ∙ h
 
   pub record-play : PlayFits (listWidth l) (playOf l i)
-  unfolding playOf zerosQuestion gateQuestion qubitQuestion
+  unfolding playOf zerosQuestion stepGateQuestion stepQubitQuestion
   record-play = record {
     gate = ltb-true _ 38 (ask-done _ (Gate i) gate-of);
     first = ltb-true _ _ (ask-done _ (Qubit i) first-of);
     second = λ h. ltb-true _ _ (ask-done _ (Qubit i) (done-first _ _ (two-of h)));
-    different = λ h. eqb-false _ _ (not-true _ (ask-done _ (SameQubit i) (done-second (qubitQuestion l i (byteOf l i 2)) _ (two-of h))));
+    different = λ h. eqb-false _ _ (not-true _ (ask-done _ (SameQubit i) (done-second (stepQubitQuestion l i (byteOf l i 2)) _ (two-of h))));
     unused = λ h. eqb-true _ 0 (or-second (and-second (eqb (byteOf l i 3) 0) _ (ask-done _ (ListRecord i) zeros-of)) (lt-leb 24 (byteOf l i 0) h));
   }
 

@@ -20,8 +20,8 @@ use Rattle.pauli.specs.declared.refusal.Outcome.the-variants.{Done, Refused}
 use Rattle.pauli.specs.Questions.{_andThen_}
 use Rattle.pauli.proofs.Asking.{asked-yes, asked-no, ask-done, refused, passed, done-second}
 use Rattle.gate_list.specs.Lists.{recordCount, byteOf, nextOf}
-use Rattle.gate_list.specs.ListQuestions.{linkQuestion, zerosQuestion, gateQuestion, qubitQuestion, secondQuestions, recordQuestions, isMet, chainQuestions}
-use Rattle.gate_list.specs.Reading.{OwnRecord, Unmet}
+use Rattle.gate_list.specs.ListQuestions.{linkQuestion, zerosQuestion, stepGateQuestion, stepQubitQuestion, stepSecondQuestions, recordQuestions, isMet, chainQuestions}
+use Rattle.gate_list.specs.Inside.Reading.{OwnRecord, BeforeChain}
 
 -- ---- one place fewer
 pub count-fewer : (n : ℕ) (f g : ℕ → Bool) (p : ℕ) → p < n → f p ≡ true → g p ≡ false → ((q : ℕ) → (q ≡ p → ⊥) → f q ≡ g q) → countTo n f ≡ suc (countTo n g)
@@ -83,8 +83,8 @@ unfolding recordQuestions linkQuestion
 record-link l i e =
     ltb-true _ _
     (ask-done _ (Link i)
-    (done-second (secondQuestions l i) _
-    (done-second (qubitQuestion l i (byteOf l i 1)) _ (done-second (gateQuestion l i) _ (done-second (zerosQuestion l i) _ e)))))
+    (done-second (stepSecondQuestions l i) _
+    (done-second (stepQubitQuestion l i (byteOf l i 1)) _ (done-second (stepGateQuestion l i) _ (done-second (zerosQuestion l i) _ e)))))
 
 -- ---- the walk: the questions along the whole chain come to q, and the link of record k is followed next
 pub record Walking (l : List ℕ) (q : Outcome) (m : List ℕ) (k : ℕ) : Type 0 where
@@ -96,7 +96,7 @@ pub record Walking (l : List ℕ) (q : Outcome) (m : List ℕ) (k : ℕ) : Type 
   pub marks : (j : ℕ) → isMet met j ≡ not (eqb (getD m j 0) 0)
   pub same : q ≡ chainQuestions l met (unmet (recordCount l - 1) m) (nextOf l k)
 
-pub walking-start : {l m : List ℕ} → Unmet l m → Walking l (chainQuestions l [] (recordCount l - 1) (nextOf l 0)) m 0
+pub walking-start : {l m : List ℕ} → BeforeChain l m → Walking l (chainQuestions l [] (recordCount l - 1) (nextOf l 0)) m 0
 unfolding isMet
 walking-start {l} {m} u = record {
   long = u .blank .long;

@@ -18,7 +18,7 @@ use Rattle.pauli.proofs.Asking.{ask-done, refused, passed}
 use Rattle.clifford.specs.Questions.{widthQuestion}
 use Rattle.gate_list.specs.Lists.{recordCount, listWidth, nextOf}
 use Rattle.gate_list.specs.ListQuestions.{sizeQuestion, headQuestion, linkQuestion, listQuestions}
-use Rattle.gate_list.specs.Reading.{OwnRecord, ByteSized, Blank, Unmarked, Unmet, linksQuestion}
+use Rattle.gate_list.specs.Inside.Reading.{OwnRecord, ByteSized, NoneMet, BeforeHead, BeforeChain, linksQuestion}
 
 -- ---- a list of records: at least the head, and at most 4,096
 pub and-first : (a b : Bool) → (a && b) ≡ true → a ≡ true
@@ -58,7 +58,7 @@ unfolding linkQuestion
 link-done l i e = ltb-true _ _ (ask-done _ (Link i) e)
 
 -- ---- no record is marked
-pub blank-zeros : Blank (replicate 4096 0)
+pub blank-zeros : NoneMet (replicate 4096 0)
 blank-zeros = record { long = length-replicate {A = ℕ} 4096 0; clear = clear }
   where
     clear : (k : ℕ) → getD {A = ℕ} (replicate 4096 0) k 0 ≡ 0
@@ -71,15 +71,15 @@ blank-zeros = record { long = length-replicate {A = ℕ} 4096 0; clear = clear }
 pub head-own : {l : List ℕ} {q : Outcome} → q ≡ sizeQuestion l → q ≡ Done → OwnRecord l 0
 head-own {l} e h = record { own = sized-some (size-done l (sym e ∙ h)) }
 
-pub list-unmarked : {l m : List ℕ} {q : Outcome} → Blank m → q ≡ sizeQuestion l → q ≡ Done → Unmarked l m
+pub list-unmarked : {l m : List ℕ} {q : Outcome} → NoneMet m → q ≡ sizeQuestion l → q ≡ Done → BeforeHead l m
 list-unmarked {l} b e h =
     let s = size-done l (sym e ∙ h) in
     record { blank = b; some = sized-some s; few = sized-few s }
 
-pub unmarked-head : {l m : List ℕ} → Unmarked l m → OwnRecord l 0
+pub unmarked-head : {l m : List ℕ} → BeforeHead l m → OwnRecord l 0
 unmarked-head u = record { own = u .some }
 
-pub unmarked-unmet : {l m : List ℕ} {r : Outcome} → Unmarked l m → r ≡ linkQuestion l 0 → r ≡ Done → Unmet l m
+pub unmarked-unmet : {l m : List ℕ} {r : Outcome} → BeforeHead l m → r ≡ linkQuestion l 0 → r ≡ Done → BeforeChain l m
 unmarked-unmet {l} u k d = record { blank = u .blank; few = u .few; link = link-done l 0 (sym k ∙ d) }
 
 pub ruleset link-walks = (refused, passed, unmarked-head, unmarked-unmet, needs)

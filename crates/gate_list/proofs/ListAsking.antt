@@ -15,8 +15,8 @@ use Rattle.pauli.specs.declared.refusal.Outcome.the-variants.{Done, Refused}
 use Rattle.pauli.specs.Questions.{_andThen_}
 use Rattle.pauli.proofs.Asking.{asked-yes, asked-no, refused, passed}
 use Rattle.gate_list.specs.Lists.{recordSize, recordCount, byteOf, listWidth, nextOf}
-use Rattle.gate_list.specs.ListQuestions.{sizeQuestion, headQuestion, linkQuestion, zerosQuestion, gateQuestion, qubitQuestion, secondQuestions, recordQuestions}
-use Rattle.gate_list.specs.Reading.{OwnRecord, OwnByte, ByteSized, zerosRight, differentQuestion, twoQuestions}
+use Rattle.gate_list.specs.ListQuestions.{sizeQuestion, headQuestion, linkQuestion, zerosQuestion, stepGateQuestion, stepQubitQuestion, stepSecondQuestions, recordQuestions}
+use Rattle.gate_list.specs.Inside.Reading.{OwnRecord, OwnByte, ByteSized, zerosRight, stepDifferentQuestion, twoQuestions}
 
 -- ---- the bytes of a list
 pub count-is : (l : List ℕ) → length l / 6 ≡ recordCount l
@@ -125,50 +125,50 @@ module _ (l : List ℕ) where
     unfolding zerosQuestion zerosRight
     zeros-bad eg es ef eb h = asked-no (ListRecord i) (sym (right eg es ef) ∙ sym eb ∙ h)
 
-    pub gate-good : {g : ℕ} → g ≡ byteOf l i 0 → g < 38 → Done ≡ gateQuestion l i
-    unfolding gateQuestion
+    pub gate-good : {g : ℕ} → g ≡ byteOf l i 0 → g < 38 → Done ≡ stepGateQuestion l i
+    unfolding stepGateQuestion
     gate-good e h = asked-yes (Gate i) (lt-ltb (byteOf l i 0) 38 (omega arith))
 
-    pub gate-bad : {g : ℕ} → g ≡ byteOf l i 0 → 38 ≤ g → Refused (Gate i) ≡ gateQuestion l i
-    unfolding gateQuestion
+    pub gate-bad : {g : ℕ} → g ≡ byteOf l i 0 → 38 ≤ g → Refused (Gate i) ≡ stepGateQuestion l i
+    unfolding stepGateQuestion
     gate-bad e h = asked-no (Gate i) (le-ltb (byteOf l i 0) 38 (omega arith))
 
-    pub qubit-good : {q x w : ℕ} → ByteSized q x → ByteSized (listWidth l) w → x < w → Done ≡ qubitQuestion l i q
-    unfolding qubitQuestion
+    pub qubit-good : {q x w : ℕ} → ByteSized q x → ByteSized (listWidth l) w → x < w → Done ≡ stepQubitQuestion l i q
+    unfolding stepQubitQuestion
     qubit-good {q} ex ew h = asked-yes (Qubit i) (lt-ltb q (listWidth l) (omega (arith, ex .is, ew .is)))
 
-    pub qubit-bad : {q x w : ℕ} → ByteSized q x → ByteSized (listWidth l) w → w ≤ x → Refused (Qubit i) ≡ qubitQuestion l i q
-    unfolding qubitQuestion
+    pub qubit-bad : {q x w : ℕ} → ByteSized q x → ByteSized (listWidth l) w → w ≤ x → Refused (Qubit i) ≡ stepQubitQuestion l i q
+    unfolding stepQubitQuestion
     qubit-bad {q} ex ew h = asked-no (Qubit i) (le-ltb q (listWidth l) (omega (arith, ex .is, ew .is)))
 
-    pub two-out : {s : ℕ} {q : Outcome} {x : Refusal} → s ≡ byteOf l i 2 → q ≡ qubitQuestion l i s → q ≡ Refused x → q ≡ twoQuestions l i
+    pub two-out : {s : ℕ} {q : Outcome} {x : Refusal} → s ≡ byteOf l i 2 → q ≡ stepQubitQuestion l i s → q ≡ Refused x → q ≡ twoQuestions l i
     unfolding twoQuestions
-    two-out es eq h = refused (differentQuestion i (byteOf l i 1) (byteOf l i 2)) (eq ∙ ap (qubitQuestion l i) es) h
+    two-out es eq h = refused (stepDifferentQuestion i (byteOf l i 1) (byteOf l i 2)) (eq ∙ ap (stepQubitQuestion l i) es) h
 
-    pub two-in : {s t : ℕ} {q r : Outcome} → s ≡ byteOf l i 2 → q ≡ qubitQuestion l i s → q ≡ Done → t ≡ byteOf l i 1 → r ≡ differentQuestion i t s → r ≡ twoQuestions l i
+    pub two-in : {s t : ℕ} {q r : Outcome} → s ≡ byteOf l i 2 → q ≡ stepQubitQuestion l i s → q ≡ Done → t ≡ byteOf l i 1 → r ≡ stepDifferentQuestion i t s → r ≡ twoQuestions l i
     unfolding twoQuestions
-    two-in es eq d et er = passed (eq ∙ ap (qubitQuestion l i) es) d (er ∙ ap₂ (differentQuestion i) et es)
+    two-in es eq d et er = passed (eq ∙ ap (stepQubitQuestion l i) es) d (er ∙ ap₂ (stepDifferentQuestion i) et es)
 
     abbrev second-case : Bool → Outcome
     second-case b = cond b Done (twoQuestions l i)
 
-    pub second-none : {g : ℕ} → g ≡ byteOf l i 0 → g < 24 → Done ≡ secondQuestions l i
-    unfolding secondQuestions twoQuestions differentQuestion
+    pub second-none : {g : ℕ} → g ≡ byteOf l i 0 → g < 24 → Done ≡ stepSecondQuestions l i
+    unfolding stepSecondQuestions twoQuestions stepDifferentQuestion
     second-none eg h = sym (ap second-case (lt-ltb (byteOf l i 0) 24 (omega arith)))
 
-    pub second-two : {g : ℕ} {q : Outcome} → g ≡ byteOf l i 0 → 24 ≤ g → q ≡ twoQuestions l i → q ≡ secondQuestions l i
-    unfolding secondQuestions twoQuestions differentQuestion
+    pub second-two : {g : ℕ} {q : Outcome} → g ≡ byteOf l i 0 → 24 ≤ g → q ≡ twoQuestions l i → q ≡ stepSecondQuestions l i
+    unfolding stepSecondQuestions twoQuestions stepDifferentQuestion
     second-two eg h e = e ∙ sym (ap second-case (le-ltb (byteOf l i 0) 24 (omega arith)))
 
-    pub first-read : {t : ℕ} {q : Outcome} → t ≡ byteOf l i 1 → q ≡ qubitQuestion l i t → q ≡ qubitQuestion l i (byteOf l i 1)
-    first-read et e = e ∙ ap (qubitQuestion l i) et
+    pub first-read : {t : ℕ} {q : Outcome} → t ≡ byteOf l i 1 → q ≡ stepQubitQuestion l i t → q ≡ stepQubitQuestion l i (byteOf l i 1)
+    first-read et e = e ∙ ap (stepQubitQuestion l i) et
 
-pub different-not : (i q r : ℕ) → q ≡ r → Refused (SameQubit i) ≡ differentQuestion i q r
-unfolding differentQuestion
+pub different-not : (i q r : ℕ) → q ≡ r → Refused (SameQubit i) ≡ stepDifferentQuestion i q r
+unfolding stepDifferentQuestion
 different-not i q r h = asked-no (SameQubit i) (ap not (eq-eqb q r h))
 
-pub different-good : (i q r : ℕ) → (q ≡ r → ⊥) → Done ≡ differentQuestion i q r
-unfolding differentQuestion
+pub different-good : (i q r : ℕ) → (q ≡ r → ⊥) → Done ≡ stepDifferentQuestion i q r
+unfolding stepDifferentQuestion
 different-good i q r h = asked-yes (SameQubit i) (ap not (ne-eqb q r h))
 
 pub right-fixed : (g s f : ℕ) → (f ≡ 0 → ⊥) → false ≡ zerosRight g s f
@@ -184,8 +184,8 @@ unfolding zerosRight
 right-one g s f h k = sym (ap₂ (λ a b. a && (b || eqb s 0)) (eq-eqb f 0 h) (lt-leb 24 g k))
 
 -- ---- all of a record's questions in their order
-pub record-asked : (l : List ℕ) (i : ℕ) {z g f s k a b c d : Outcome} → z ≡ zerosQuestion l i → g ≡ gateQuestion l i → f ≡ qubitQuestion l i (byteOf l i 1)
-    → s ≡ secondQuestions l i → k ≡ linkQuestion l i → a ≡ s andThen k → b ≡ f andThen a → c ≡ g andThen b → d ≡ z andThen c → d ≡ recordQuestions l i
+pub record-asked : (l : List ℕ) (i : ℕ) {z g f s k a b c d : Outcome} → z ≡ zerosQuestion l i → g ≡ stepGateQuestion l i → f ≡ stepQubitQuestion l i (byteOf l i 1)
+    → s ≡ stepSecondQuestions l i → k ≡ linkQuestion l i → a ≡ s andThen k → b ≡ f andThen a → c ≡ g andThen b → d ≡ z andThen c → d ≡ recordQuestions l i
 unfolding recordQuestions
 record-asked l i ez eg ef es ek ea eb ec ed =
     ed ∙ ap₂ _andThen_ ez (ec ∙ ap₂ _andThen_ eg (eb ∙ ap₂ _andThen_ ef (ea ∙ ap₂ _andThen_ es ek)))

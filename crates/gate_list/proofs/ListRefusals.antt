@@ -13,7 +13,7 @@ use Rattle.pauli.specs.Answers.{refusalDetail}
 use Rattle.pauli.specs.Questions.{ask, _andThen_}
 use Rattle.clifford.specs.Questions.{widthQuestion}
 use Rattle.gate_list.specs.Lists.{recordCount, byteOf, listWidth, nextOf}
-use Rattle.gate_list.specs.ListQuestions.{sizeQuestion, headQuestion, linkQuestion, zerosQuestion, gateQuestion, qubitQuestion, secondQuestions, recordQuestions, isMet, chainQuestions, listQuestions}
+use Rattle.gate_list.specs.ListQuestions.{sizeQuestion, headQuestion, linkQuestion, zerosQuestion, stepGateQuestion, stepQubitQuestion, stepSecondQuestions, recordQuestions, isMet, chainQuestions, listQuestions}
 use Rattle.gate_list.specs.Reports.{Listed}
 use Rattle.gate_list.proofs.Chains.{record-link}
 use Rattle.gate_list.proofs.ListAdmitted.{size-done, sized-few, link-done}
@@ -57,19 +57,19 @@ module _ {P : Refusal → Type 0} (l : List ℕ) (i : ℕ) (p : OfRecord P i) wh
   unfolding zerosQuestion
   zeros-refusing = refusing-ask _ (ListRecord i) (p .zeros)
 
-  gate-refusing : Refusing P (gateQuestion l i)
-  unfolding gateQuestion
+  gate-refusing : Refusing P (stepGateQuestion l i)
+  unfolding stepGateQuestion
   gate-refusing = refusing-ask _ (Gate i) (p .gate)
 
-  qubit-refusing : (q : ℕ) → Refusing P (qubitQuestion l i q)
-  unfolding qubitQuestion
+  qubit-refusing : (q : ℕ) → Refusing P (stepQubitQuestion l i q)
+  unfolding stepQubitQuestion
   qubit-refusing q = refusing-ask _ (Qubit i) (p .qubit)
 
-  second-refusing : Refusing P (secondQuestions l i)
-  unfolding secondQuestions
+  second-refusing : Refusing P (stepSecondQuestions l i)
+  unfolding stepSecondQuestions
   second-refusing =
       refusing-cond (ltb (byteOf l i 0) 24) none
-      (refusing-then (qubitQuestion l i (byteOf l i 2)) _ (qubit-refusing (byteOf l i 2))
+      (refusing-then (stepQubitQuestion l i (byteOf l i 2)) _ (qubit-refusing (byteOf l i 2))
       (λ e. refusing-ask (not (eqb (byteOf l i 1) (byteOf l i 2))) (SameQubit i) (p .same)))
 
   pub record-refusing : Refusing P (recordQuestions l i)

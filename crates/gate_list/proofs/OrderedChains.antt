@@ -14,9 +14,9 @@ use Rattle.pauli.proofs.Asking.{asked-yes, passed}
 use Rattle.clifford_laws.specs.WayBack.{productOf}
 use Rattle.clifford.proofs.TableauAsking.{width-narrow}
 use Rattle.gate_list.specs.Lists.{Play, recordCount, byteOf, listWidth, nextOf, playOf, chainFrom, chainOf, playsOf, gatesOf}
-use Rattle.gate_list.specs.ListQuestions.{zerosQuestion, gateQuestion, qubitQuestion, secondQuestions, recordQuestions, isMet, chainQuestions, listQuestions}
+use Rattle.gate_list.specs.ListQuestions.{zerosQuestion, stepGateQuestion, stepQubitQuestion, stepSecondQuestions, recordQuestions, isMet, chainQuestions, listQuestions}
 use Rattle.gate_list.specs.OrderedLists.{PlayFits, PlaysFit, none, more, recordBytes, linkTo, recordsFrom, headPlay, orderedList}
-use Rattle.gate_list.specs.Reading.{twoQuestions}
+use Rattle.gate_list.specs.Inside.Reading.{twoQuestions}
 use Rattle.gate_list.specs.Runs.{tableauxOf, runRecord, stepCount}
 use Rattle.gate_list.proofs.AdmittedChains.{chain-none, chain-one}
 use Rattle.gate_list.proofs.Chains.{chain-end, chain-more}
@@ -84,12 +84,12 @@ module _ {l : List ℕ} {i : ℕ} {p : Play} {next : ℕ} (r : RecordIs l i p ne
     | no h ↦ zeros-good l i refl refl refl (right-two _ _ _ (r .fixed) (omega arith)) refl
   ]
 
-  gate-done : Done ≡ gateQuestion l i
-  unfolding gateQuestion
+  gate-done : Done ≡ stepGateQuestion l i
+  unfolding stepGateQuestion
   gate-done = asked-yes (Gate i) (lt-ltb (byteOf l i 0) 38 (omega (arith, r .gate, f .gate)))
 
-  qubit-done : (q : ℕ) → q < listWidth l → Done ≡ qubitQuestion l i q
-  unfolding qubitQuestion
+  qubit-done : (q : ℕ) → q < listWidth l → Done ≡ stepQubitQuestion l i q
+  unfolding stepQubitQuestion
   qubit-done q h = asked-yes (Qubit i) (lt-ltb q (listWidth l) h)
 
   two-done : 24 ≤ p .gate → Done ≡ twoQuestions l i
@@ -97,7 +97,7 @@ module _ {l : List ℕ} {i : ℕ} {p : Play} {next : ℕ} (r : RecordIs l i p ne
       two-in l i refl (qubit-done (byteOf l i 2) (omega (arith, r .second, f .second h))) refl refl
       (different-good i (byteOf l i 1) (byteOf l i 2) (λ e. f .different h (sym (r .first) ∙ e ∙ r .second)))
 
-  second-done : Done ≡ secondQuestions l i
+  second-done : Done ≡ stepSecondQuestions l i
   second-done = elim (decLt (byteOf l i 0) 24) [
     | yes h ↦ second-none l i refl h
     | no h ↦ second-two l i refl (omega arith) (two-done (omega (arith, r .gate)))

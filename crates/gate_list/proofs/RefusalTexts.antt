@@ -14,15 +14,18 @@ use Rattle.pauli.specs.declared.refusal.CountAnswer.the-variants.{Count, NoCoun
 use Rattle.pauli.specs.Answers.{refusalNumber, refusalDetail, CountWritten}
 use Rattle.pauli.specs.Questions.{roomQuestion}
 use Rattle.pauli.specs.SparseText.{decimal}
-use Rattle.pauli.specs.TextWriting.{Stored, TextWritten}
+use Rattle.pauli.specs.TextWriting.{TextWritten}
+use Rattle.pauli.specs.Inside.TextWriting.{Stored}
 use Rattle.pauli.proofs.Answers.{count-done, count-not}
 use Rattle.pauli.proofs.Asking.{room-is}
 use Rattle.pauli.proofs.Decimals.{decimal-one, decimal-more}
 use Rattle.pauli.proofs.StringTexts.{copied-whole, text-same}
 use Rattle.pauli.proofs.TextWrites.{stored-join, stored-as, stored-same, whole-text}
-use Rattle.clifford.specs.Display.{TextPlace, NumberPlace, newline}
+use Rattle.clifford.specs.Display.{newline}
+use Rattle.clifford.specs.Inside.Display.{TextPlace, NumberPlace}
 use Rattle.clifford.proofs.Displays.{decimal-short}
-use Rattle.gate_list.specs.Reports.{refusedText, atText, refusalText, refusalLine, LineNumbers, DetailPlace, Listed}
+use Rattle.gate_list.specs.Reports.{refusedText, atText, refusalText, LineNumbers, Listed}
+use Rattle.gate_list.specs.Inside.Reports.{refusalLine, DetailPlace}
 
 -- ---- a numeral by its hundreds and two digits
 pub decimal-hundreds : (n : ℕ) → 100 ≤ n → decimal n ≡ decimal (n / 100) ++ (decimal (n / 10 % 10) ++ decimal (n % 10))

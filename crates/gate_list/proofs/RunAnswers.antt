@@ -16,8 +16,9 @@ use Rattle.pauli.proofs.Asking.{refused, done-first, done-second, room-is}
 use Rattle.clifford.specs.Layout.{recordLength}
 use Rattle.gate_list.specs.Lists.{listWidth}
 use Rattle.gate_list.specs.ListQuestions.{listQuestions}
-use Rattle.gate_list.specs.Reading.{ByteSized}
-use Rattle.gate_list.specs.Runs.{runRecord, stepCount, runAnswer, RunAnswered, RecordRoom, Ran, RunRoom, RunWritten}
+use Rattle.gate_list.specs.Inside.Reading.{ByteSized}
+use Rattle.gate_list.specs.Runs.{runRecord, stepCount, runAnswer, RunAnswered}
+use Rattle.gate_list.specs.Inside.Runs.{RecordRoom, Ran, RunRoom, RunWritten}
 use Rattle.gate_list.proofs.AdmittedChains.{admitted-narrow}
 use Rattle.gate_list.proofs.RunTableaux.{run-length}
 

@@ -21,9 +21,11 @@ use Rattle.clifford.proofs.TableauRecords.{record-small}
 use Rattle.clifford_laws.proofs.DisplayLengths.{valid-display-most}
 use Rattle.gate_list.specs.Lists.{listWidth}
 use Rattle.gate_list.specs.ListQuestions.{listQuestions}
-use Rattle.gate_list.specs.Reading.{ByteSized}
-use Rattle.gate_list.specs.Reports.{atText, refusalText, textAfter, reportText, reportAnswer, Listed, WorkRoom, ShowRoom, TextReported}
-use Rattle.gate_list.specs.Runs.{runRecord, RunRoom, RunWritten}
+use Rattle.gate_list.specs.Inside.Reading.{ByteSized}
+use Rattle.gate_list.specs.Reports.{atText, refusalText, textAfter, reportText, reportAnswer, Listed}
+use Rattle.gate_list.specs.Inside.Reports.{WorkRoom, ShowRoom, TextReported}
+use Rattle.gate_list.specs.Runs.{runRecord}
+use Rattle.gate_list.specs.Inside.Runs.{RunRoom, RunWritten}
 use Rattle.gate_list.proofs.AdmittedChains.{admitted-narrow}
 use Rattle.gate_list.proofs.ListRefusals.{refusal-listed}
 use Rattle.gate_list.proofs.RefusalTexts.{detail-short, number-short}

@@ -24,8 +24,9 @@ use Rattle.clifford_laws.proofs.PlayedGates.{played-is, played-formed, played-s
 use Rattle.clifford.proofs.RecordLaws.{identity-width, identity-good}
 use Rattle.gate_list.specs.Lists.{Play, recordCount, byteOf, listWidth, nextOf, playOf, chainOf, playsOf, gatesOf}
 use Rattle.gate_list.specs.OrderedLists.{PlayFits, PlaysFit, none, more, Chain, ends, links}
-use Rattle.gate_list.specs.Reading.{OwnRecord, ByteSized}
-use Rattle.gate_list.specs.Runs.{tableauxOf, runRecord, stepCount, RecordRoom, Begins, Ran}
+use Rattle.gate_list.specs.Inside.Reading.{OwnRecord, ByteSized}
+use Rattle.gate_list.specs.Runs.{tableauxOf, runRecord, stepCount}
+use Rattle.gate_list.specs.Inside.Runs.{RecordRoom, Begins, Ran}
 use Rattle.gate_list.proofs.GateOrder.{product-first}
 use Rattle.gate_list.proofs.AdmittedChains.{admitted-chain, admitted-plays, admitted-narrow, admitted-sized, step-count, steps-few}
 use Rattle.gate_list.proofs.ListAdmitted.{sized-some}

@@ -2,5 +2,5 @@ pub mod Lists
 pub mod ListQuestions
 pub mod Runs
 pub mod Reports
-pub mod Reading
 pub mod OrderedLists
+pub mod Inside

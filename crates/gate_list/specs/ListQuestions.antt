@@ -29,21 +29,21 @@ zerosQuestion l i = ask (eqb (byteOf l i 3) 0 && (leb 24 (byteOf l i 0) || eqb (
 
 -- "Is the gate at most 37? 4", "Is each qubit [..] below the list's width? 5", "Are two qubits different? 6", each "with the record
 -- as detail"
-unfoldable pub gateQuestion : List ℕ → ℕ → Outcome
-gateQuestion l i = ask (ltb (byteOf l i 0) 38) (Gate i)
+unfoldable pub stepGateQuestion : List ℕ → ℕ → Outcome
+stepGateQuestion l i = ask (ltb (byteOf l i 0) 38) (Gate i)
 
-unfoldable pub qubitQuestion : List ℕ → ℕ → ℕ → Outcome
-qubitQuestion l i q = ask (ltb q (listWidth l)) (Qubit i)
+unfoldable pub stepQubitQuestion : List ℕ → ℕ → ℕ → Outcome
+stepQubitQuestion l i q = ask (ltb q (listWidth l)) (Qubit i)
 
-unfoldable pub secondQuestions : List ℕ → ℕ → Outcome
-secondQuestions l i =
+unfoldable pub stepSecondQuestions : List ℕ → ℕ → Outcome
+stepSecondQuestions l i =
     cond (ltb (byteOf l i 0) 24) Done
-    (qubitQuestion l i (byteOf l i 2) andThen ask (not (eqb (byteOf l i 1) (byteOf l i 2))) (SameQubit i))
+    (stepQubitQuestion l i (byteOf l i 2) andThen ask (not (eqb (byteOf l i 1) (byteOf l i 2))) (SameQubit i))
 
 -- "For each record 17, 4, 5, 6 [..], then its link"
 unfoldable pub recordQuestions : List ℕ → ℕ → Outcome
 recordQuestions l i =
-    zerosQuestion l i andThen gateQuestion l i andThen qubitQuestion l i (byteOf l i 1) andThen secondQuestions l i andThen linkQuestion l i
+    zerosQuestion l i andThen stepGateQuestion l i andThen stepQubitQuestion l i (byteOf l i 1) andThen stepSecondQuestions l i andThen linkQuestion l i
 
 -- i is among the records met
 unfoldable pub isMet : List ℕ → ℕ → Bool

@@ -1,17 +1,15 @@
 -- The run of a gate list: "The run starts at the identity of that width and composes each gate on the left. It reports its steps: the
 -- gates on the chain."
-use Prim.Native.Nat.{ℕ, _≤_}
+use Prim.Native.Nat.{ℕ}
 use mathlib.Core.Path.{_≡_}
 use mathlib.Core.List.{List, [], _∷_}
 use lib.ListN.{length}
 use Rattle.pauli.specs.declared.refusal.Outcome.{Outcome}
-use Rattle.pauli.specs.declared.refusal.Outcome.the-variants.{Done}
 use Rattle.pauli.specs.declared.refusal.CountAnswer.{CountAnswer}
 use Rattle.pauli.specs.Answers.{countAnswer, countReply, replyTo, written}
 use Rattle.pauli.specs.Questions.{_andThen_, roomQuestion}
 use Rattle.clifford.specs.Layout.{recordLength}
 use Rattle.clifford.specs.GateAnswers.{gateRecord}
-use Rattle.clifford.specs.Tableaux.{identityRecord}
 use Rattle.clifford_laws.specs.WayBack.{productOf}
 use Rattle.gate_list.specs.Lists.{Play, listWidth, gatesOf}
 use Rattle.gate_list.specs.ListQuestions.{listQuestions}
@@ -37,25 +35,3 @@ pub record RunAnswered (q : Outcome) (n : ℕ) (out d e : List ℕ) (r : CountAn
   pub answer : r ≡ countAnswer q n
   pub told : countReply r ≡ replyTo q n
   pub bytes : e ≡ written q out d
-
--- ---- what the functions that run an admitted list may count on, and what they promise
-
-pub record RecordRoom (l t : List ℕ) : Type 0 where
-  pub asked : listQuestions l ≡ Done
-  pub long : length t ≡ recordLength (listWidth l)
-
-pub record Begins (l t : List ℕ) : Type 0 where
-  pub asked : listQuestions l ≡ Done
-  pub bytes : t ≡ identityRecord (listWidth l)
-
-pub record Ran (l e : List ℕ) (r : ℕ) : Type 0 where
-  pub bytes : e ≡ runRecord l
-  pub steps : r ≡ stepCount l
-
-pub record RunRoom (l d : List ℕ) : Type 0 where
-  pub asked : listQuestions l ≡ Done
-  pub room : recordLength (listWidth l) ≤ length d
-
-pub record RunWritten (l d e : List ℕ) (r : ℕ) : Type 0 where
-  pub bytes : e ≡ written Done (runRecord l) d
-  pub steps : r ≡ stepCount l

@@ -4,7 +4,7 @@ ghost use mathlib.Core.List.{[]};
 ghost use Prim.Native.Nat.{_-_};
 ghost use Rattle.gate_list.specs.Lists.{recordCount, nextOf};
 ghost use Rattle.gate_list.specs.ListQuestions.{chainQuestions};
-ghost use Rattle.gate_list.specs.Reading.{Unmet};
+ghost use Rattle.gate_list.specs.Inside.Reading.{BeforeChain};
 use crate::questions::check_record;
 use crate::reading::next;
 use pauli::refusal::Outcome;
@@ -12,7 +12,7 @@ use pauli::refusal::Refusal;
 
 // The records from the head's link on, each marked when it is met.
 pub(crate) fn check_chain(list: &[u8], met: &mut [u8]) -> Outcome
-    requires { ⌜ Unmet (now list) (now met) ⌝ }
+    requires { ⌜ BeforeChain (now list) (now met) ⌝ }
     ensures { λ r. ⌜ r ≡ chainQuestions (now (list .entry)) [] (recordCount (now (list .entry)) - 1) (nextOf (now (list .entry)) 0) ⌝ }
 {
     // The record whose link is followed.

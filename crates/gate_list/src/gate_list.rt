@@ -3,9 +3,10 @@ ghost use mathlib.Core.Path.{_≡_};
 ghost use Rattle.gate_list.specs.ListQuestions.{listQuestions};
 ghost use lib.ListN.{length};
 ghost use Rattle.pauli.specs.Answers.{CountWritten};
-ghost use Rattle.gate_list.specs.Reports.{WorkRoom, reportAnswer, reportText};
+ghost use Rattle.gate_list.specs.Reports.{reportAnswer, reportText};
+ghost use Rattle.gate_list.specs.Inside.Reports.{WorkRoom};
 ghost use Rattle.gate_list.specs.Runs.{RunAnswered, runAnswer, runRecord, stepCount};
-ghost use Rattle.gate_list.specs.Reading.{Blank, Unmarked, linksQuestion};
+ghost use Rattle.gate_list.specs.Inside.Reading.{NoneMet, BeforeHead, linksQuestion};
 use crate::chain::check_chain;
 use crate::questions::check_head;
 use crate::questions::check_link;
@@ -23,7 +24,7 @@ use pauli::refusal::Outcome;
 
 // The head's link, and then the chain.
 fn check_links(list: &[u8], met: &mut [u8]) -> Outcome
-    requires { ⌜ Unmarked (now list) (now met) ⌝ }
+    requires { ⌜ BeforeHead (now list) (now met) ⌝ }
     ensures { λ r. ⌜ r ≡ linksQuestion (now (list .entry)) ⌝ }
 {
     let link = check_link(list, 0);
@@ -35,7 +36,7 @@ fn check_links(list: &[u8], met: &mut [u8]) -> Outcome
 
 // All questions in their order, with a mark for each record, none of them set.
 fn check_list_with(list: &[u8], met: &mut [u8]) -> Outcome
-    requires { ⌜ Blank (now met) ⌝ }
+    requires { ⌜ NoneMet (now met) ⌝ }
     ensures { λ r. ⌜ r ≡ listQuestions (now (list .entry)) ⌝ }
 {
     let size = check_size(list);

@@ -1,8 +1,8 @@
 // The questions put to a list and to its records. Each answers Done, or the refusal.
 ghost use mathlib.Core.Path.{_≡_};
 ghost use Rattle.gate_list.specs.Lists.{byteOf};
-ghost use Rattle.gate_list.specs.ListQuestions.{sizeQuestion, headQuestion, linkQuestion, zerosQuestion, gateQuestion, qubitQuestion, secondQuestions, recordQuestions};
-ghost use Rattle.gate_list.specs.Reading.{OwnRecord, zerosRight, differentQuestion, twoQuestions};
+ghost use Rattle.gate_list.specs.ListQuestions.{sizeQuestion, headQuestion, linkQuestion, zerosQuestion, stepGateQuestion, stepQubitQuestion, stepSecondQuestions, recordQuestions};
+ghost use Rattle.gate_list.specs.Inside.Reading.{OwnRecord, zerosRight, stepDifferentQuestion, twoQuestions};
 use crate::reading::byte;
 use crate::reading::next;
 use crate::reading::record_count;
@@ -78,7 +78,7 @@ fn check_zeros(list: &[u8], i: usize) -> Outcome
 
 fn check_gate(list: &[u8], i: usize) -> Outcome
     requires { ⌜ OwnRecord (now list) i ⌝ }
-    ensures { λ r. ⌜ r ≡ gateQuestion (now (list .entry)) i ⌝ }
+    ensures { λ r. ⌜ r ≡ stepGateQuestion (now (list .entry)) i ⌝ }
 {
     if byte(list, i, 0) < 38 {
         return Outcome::Done;
@@ -88,7 +88,7 @@ fn check_gate(list: &[u8], i: usize) -> Outcome
 
 // A qubit that record i names.
 fn check_qubit(list: &[u8], i: usize, qubit: u8) -> Outcome
-    ensures { λ r. ⌜ r ≡ qubitQuestion (now (list .entry)) i qubit ⌝ }
+    ensures { λ r. ⌜ r ≡ stepQubitQuestion (now (list .entry)) i qubit ⌝ }
 {
     if wide(qubit) < width(list) {
         return Outcome::Done;
@@ -98,13 +98,13 @@ fn check_qubit(list: &[u8], i: usize, qubit: u8) -> Outcome
 
 fn check_first(list: &[u8], i: usize) -> Outcome
     requires { ⌜ OwnRecord (now list) i ⌝ }
-    ensures { λ r. ⌜ r ≡ qubitQuestion (now (list .entry)) i (byteOf (now (list .entry)) i 1) ⌝ }
+    ensures { λ r. ⌜ r ≡ stepQubitQuestion (now (list .entry)) i (byteOf (now (list .entry)) i 1) ⌝ }
 {
     check_qubit(list, i, byte(list, i, 1))
 }
 
 fn check_different(i: usize, first: u8, second: u8) -> Outcome
-    ensures { λ r. ⌜ r ≡ differentQuestion i first second ⌝ }
+    ensures { λ r. ⌜ r ≡ stepDifferentQuestion i first second ⌝ }
 {
     if first == second {
         return Outcome::Refused(Refusal::SameQubit { qubit: i });
@@ -128,7 +128,7 @@ fn check_two(list: &[u8], i: usize) -> Outcome
 // The second qubit, where the gate has one.
 fn check_second(list: &[u8], i: usize) -> Outcome
     requires { ⌜ OwnRecord (now list) i ⌝ }
-    ensures { λ r. ⌜ r ≡ secondQuestions (now (list .entry)) i ⌝ }
+    ensures { λ r. ⌜ r ≡ stepSecondQuestions (now (list .entry)) i ⌝ }
 {
     if byte(list, i, 0) < 24 {
         return Outcome::Done;

@@ -1,7 +1,7 @@
 // The bytes of a list. Only here does code know the layout of a record.
 ghost use mathlib.Core.Path.{_≡_};
 ghost use Rattle.gate_list.specs.Lists.{recordCount, byteOf, listWidth, nextOf};
-ghost use Rattle.gate_list.specs.Reading.{OwnRecord, OwnByte, ByteSized};
+ghost use Rattle.gate_list.specs.Inside.Reading.{OwnRecord, OwnByte, ByteSized};
 
 pub(crate) fn wide(x: u8) -> usize
     ensures { λ r. ⌜ ByteSized x r ⌝ }

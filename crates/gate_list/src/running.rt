@@ -2,8 +2,8 @@
 ghost use mathlib.Core.Path.{_≡_};
 ghost use Rattle.clifford.specs.Playing.{played};
 ghost use Rattle.gate_list.specs.Lists.{byteOf};
-ghost use Rattle.gate_list.specs.Reading.{OwnRecord};
-ghost use Rattle.gate_list.specs.Runs.{RecordRoom, Begins, Ran, RunRoom, RunWritten};
+ghost use Rattle.gate_list.specs.Inside.Reading.{OwnRecord};
+ghost use Rattle.gate_list.specs.Inside.Runs.{RecordRoom, Begins, Ran, RunRoom, RunWritten};
 use crate::reading::byte;
 use crate::reading::next;
 use crate::reading::wide;

@@ -21,7 +21,7 @@ use Rattle.pauli.specs.Answers.{written, Written}
 use Rattle.pauli.specs.Places.{listed, firstPlace}
 use Rattle.pauli.specs.Layout.{phaseByte, encodeString, stringRecord}
 use Rattle.pauli.specs.Questions.{_andThen_, roomQuestion}
-use Rattle.pauli.specs.Reading.{EndRead, HeadRead, lettersNamed, DenseAt, DenseFit}
+use Rattle.pauli.specs.Inside.Reading.{EndRead, HeadRead, lettersNamed, DenseAt, DenseFit}
 use Rattle.pauli.specs.Text.{isSpace, isIdentity, letterNamed, textEnd, textPhase, bodyStart, asciiQuestion, denseBody, denseLetter, letterQuestions, denseQuestions, denseString, fromDenseQuestions, denseRecord}
 use Rattle.pauli.proofs.Answers.{answers, written-done}
 use Rattle.pauli.proofs.Asking.{andThen-assoc, asked-yes, asked-no, refused, passed, done-second, room-is, record-bytes}

@@ -19,7 +19,7 @@ use Rattle.pauli.specs.declared.refusal.Outcome.the-variants.{Done, Refu
 use Rattle.pauli.specs.Places.{firstPlace}
 use Rattle.pauli.specs.Layout.{letterOf, letterByte}
 use Rattle.pauli.specs.Entries.{entryCount, entryLetter, entryQubit, occurrences, entryOf, entriesString}
-use Rattle.pauli.specs.Marks.{markMore, markTo, marksTo, firstTwice, unmarked, MarkFits, Unmarked}
+use Rattle.pauli.specs.Inside.Marks.{markMore, markTo, marksTo, firstTwice, unmarked, MarkFits, Unmarked}
 use Rattle.pauli.specs.Questions.{byteQuestion, evenQuestion, firstBadEntry, entryLettersQuestion, firstHighEntry, entryQubitsQuestion, entryQuestions, smallestDuplicate}
 use Rattle.pauli.proofs.Asking.{asked-yes, asked-no, ask-done, done-first, done-second}
 use Rattle.pauli.proofs.Places.{length-listed, getD-listed, first-le, first-is, first-before, first-has}

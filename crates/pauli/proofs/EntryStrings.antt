@@ -19,7 +19,7 @@ use Rattle.pauli.specs.Answers.{written, Written}
 use Rattle.pauli.specs.Places.{listed}
 use Rattle.pauli.specs.Layout.{letterByte, encodeString, stringRecord}
 use Rattle.pauli.specs.Entries.{entryCount, entryLetter, entriesString}
-use Rattle.pauli.specs.Marks.{marksTo, firstTwice, unmarked, Unmarked, marksQuestion, Blank, EntriesRead, lettersMarked, MarksFit}
+use Rattle.pauli.specs.Inside.Marks.{marksTo, firstTwice, unmarked, Unmarked, marksQuestion, Blank, EntriesRead, lettersMarked, MarksFit}
 use Rattle.pauli.specs.Questions.{ask, _andThen_, byteQuestion, entryQuestions, smallestDuplicate, duplicateQuestion, roomQuestion, withPhaseQuestions}
 use Rattle.pauli.specs.Rows.{shorter}
 use Rattle.pauli.specs.Strings.{entriesRecord}

@@ -19,7 +19,7 @@ use Rattle.pauli.specs.declared.refusal.Outcome.the-variants.{Done}
 use Rattle.pauli.specs.Places.{firstPlace}
 use Rattle.pauli.specs.Layout.{phaseByte, letterByte, letterOf}
 use Rattle.pauli.specs.Entries.{entryCount, entryLetter, entryQubit, occurrences, entryOf, entriesString}
-use Rattle.pauli.specs.Marks.{markMore, markTo, unmarked}
+use Rattle.pauli.specs.Inside.Marks.{markMore, markTo, unmarked}
 use Rattle.pauli.specs.Questions.{smallestDuplicate, duplicateQuestion}
 use Rattle.pauli.proofs.Asking.{asked-yes}
 use Rattle.pauli.proofs.EntryMarks.{mark-is, mark-five, marked-letter}

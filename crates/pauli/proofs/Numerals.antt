@@ -12,7 +12,7 @@ use borrow.Author.Needs.{needs}
 use borrow.Author.Tests.{eq-eqb, ne-eqb, lt-ltb, le-ltb}
 use Rattle.pauli.specs.declared.text.Numeral.{Numeral}
 use Rattle.pauli.specs.declared.text.Numeral.the-variants.{Value, NotNumber}
-use Rattle.pauli.specs.Reading.{DigitValue, numeralIf, areDigits, digitsNumeral, indexNumeral}
+use Rattle.pauli.specs.Inside.Reading.{DigitValue, numeralIf, areDigits, digitsNumeral, indexNumeral}
 use Rattle.pauli.specs.Text.{isDigit, allDigits, digitsValue, withoutPlus, indexValue, isIndex}
 use Rattle.pauli.proofs.Places.{from, from-is}
 use Rattle.pauli.proofs.TextBytes.{digit-low, digit-high}

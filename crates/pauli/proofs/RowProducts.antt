@@ -15,7 +15,7 @@ use Rattle.pauli_group.proofs.Laws.{·-assoc, ·-one}
 use Rattle.pauli_group.proofs.Products.{countTo-le}
 use Rattle.pauli.specs.Layout.{phaseByte, phaseOf, letterByte, letterOf}
 use Rattle.pauli.specs.Rows.{productPhaseByte, productLetterByte, letterBytesProduct, letterAt, productLetters, productPhase, placesOf, shorter, RowTimes}
-use Rattle.pauli.specs.Turns.{LetterTurns, PhaseTurns, anticommuting}
+use Rattle.pauli.specs.Inside.Turns.{LetterTurns, PhaseTurns, anticommuting}
 use Rattle.pauli.proofs.Places.{length-listed, getD-listed, fill, fill-more, fill-all, length-fill, fill-at}
 use Rattle.pauli.proofs.Records.{phase-back}
 use Rattle.pauli.proofs.Turns.{power-sum}

@@ -22,8 +22,8 @@ use Rattle.pauli.specs.declared.sparse_reader.IndexAnswer.the-variants.{
 use Rattle.pauli.specs.declared.sparse_reader.EntryAnswer.{EntryAnswer}
 use Rattle.pauli.specs.declared.sparse_reader.EntryAnswer.the-variants.{Entry, High, NoEntry}
 use Rattle.pauli.specs.Questions.{ask, _andThen_}
-use Rattle.pauli.specs.Reading.{Skipped, numeralIf, indexNumeral, indexAnswer, entryAfter, WordAt, LetterAt, OneEntry, HighEntry, EntryRead}
-use Rattle.pauli.specs.Text.{isSpace, letterNamed, leadingSpaces, leadingWord, Token, token, tokens, isIndex, indexValue, indexQuestions, hasIndex, attachedQuestions, attachedEntry, apartEntry, tokenQuestions, tokenEntries}
+use Rattle.pauli.specs.Inside.Reading.{Skipped, numeralIf, indexNumeral, indexAnswer, entryAfter, WordAt, LetterAt, OneEntry, HighEntry, EntryRead, leadingWord}
+use Rattle.pauli.specs.Text.{isSpace, letterNamed, leadingSpaces, Token, token, tokens, isIndex, indexValue, indexQuestions, hasIndex, attachedQuestions, attachedEntry, apartEntry, tokenQuestions, tokenEntries}
 use Rattle.pauli.proofs.Asking.{asked-yes, asked-no, refused, passed}
 use Rattle.pauli.specs.Places.{firstPlace}
 use Rattle.pauli.proofs.Places.{first-has}

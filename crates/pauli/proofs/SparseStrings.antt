@@ -12,9 +12,9 @@ use Rattle.pauli.specs.declared.text.Head.{Head}
 use Rattle.pauli.specs.Answers.{written, Written}
 use Rattle.pauli.specs.Entries.{entryCount, entriesString}
 use Rattle.pauli.specs.Layout.{stringRecord}
-use Rattle.pauli.specs.Marks.{marksTo, marksQuestion, Blank, lettersMarked, MarksFit}
+use Rattle.pauli.specs.Inside.Marks.{marksTo, marksQuestion, Blank, lettersMarked, MarksFit}
 use Rattle.pauli.specs.Questions.{_andThen_, duplicateQuestion, roomQuestion}
-use Rattle.pauli.specs.Reading.{HeadRead, BodyAt, GoodEntries, TokensRead, SparseAt, SparseRead}
+use Rattle.pauli.specs.Inside.Reading.{HeadRead, BodyAt, GoodEntries, TokensRead, SparseAt, SparseRead}
 use Rattle.pauli.specs.Text.{tokenEntries, textPhase, bodyStart, asciiQuestion, tokens, tokenQuestions, sparseTokens, sparseEntries, sparseQuestions, sparseString, fromSparseQuestions, sparseRecord}
 use Rattle.pauli.proofs.Answers.{answers, written-done}
 use Rattle.pauli.proofs.Asking.{andThen-assoc, refused, passed, done-first, done-second, room-is}

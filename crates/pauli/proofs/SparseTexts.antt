@@ -15,26 +15,27 @@ use Rattle.pauli_group.specs.Letter.{Letter, I, X, Z, Y}
 use Rattle.pauli_group.specs.PauliString.{PauliString, qubits}
 use Rattle.pauli.specs.Layout.{phaseOf, letterOf}
 use Rattle.pauli.specs.Rows.{letterAt}
-use Rattle.pauli.specs.SparseText.{decimal, digitsTo, prefixText, letterText, entryWord, wordsAt, entryWords, joined, bodyText, sparseTextTo, sparseText, rowString, rowText}
-use Rattle.pauli.specs.TextWriting.{Stored, TextWritten, added, moreText, endText, NumberFits}
+use Rattle.pauli.specs.SparseText.{decimal, digitsTo, prefixText, letterText, entryWord, wordsAt, entryWords, spaced, bodyText, sparseTextTo, sparseText, rowString, rowText}
+use Rattle.pauli.specs.TextWriting.{TextWritten}
+use Rattle.pauli.specs.Inside.TextWriting.{Stored, added, moreText, endText, NumberFits}
 use Rattle.pauli.proofs.TextWrites.{stored-none, stored-join, stored-as, stored-same, whole-text}
 
--- ---- words, joined; nothing where there are none
+-- ---- words, spaced; nothing where there are none
 abbrev pub wordsText : List (List ℕ) → List ℕ
 wordsText [] = []
-wordsText (w ∷ ws) = joined w ws
+wordsText (w ∷ ws) = spaced w ws
 
 abbrev pub noWords : List (List ℕ) → Bool
 noWords [] = true
 noWords (w ∷ ws) = false
 
-joined-more : (w x : List ℕ) (ws : List (List ℕ)) → joined w (ws ++ (x ∷ [])) ≡ joined w ws ++ (32 ∷ x)
-unfolding joined
+joined-more : (w x : List ℕ) (ws : List (List ℕ)) → spaced w (ws ++ (x ∷ [])) ≡ spaced w ws ++ (32 ∷ x)
+unfolding spaced
 joined-more w x [] = refl
-joined-more w x (v ∷ ws) = ap (λ (t : List ℕ). w ++ 32 ∷ t) (joined-more v x ws) ∙ sym (append-assoc w (32 ∷ joined v ws) (32 ∷ x))
+joined-more w x (v ∷ ws) = ap (λ (t : List ℕ). w ++ 32 ∷ t) (joined-more v x ws) ∙ sym (append-assoc w (32 ∷ spaced v ws) (32 ∷ x))
 
 words-added : (ws : List (List ℕ)) (x : List ℕ) → wordsText (ws ++ (x ∷ [])) ≡ wordsText ws ++ added (noWords ws) (x ∷ [])
-unfolding joined added
+unfolding spaced added
 words-added [] x = refl
 words-added (w ∷ ws) x = joined-more w x ws
 
@@ -52,7 +53,7 @@ words-more ws Z q = words-added ws (entryWord Z q)
 words-end : (ws : List (List ℕ)) → wordsText ws ++ endText (noWords ws) ≡ bodyText ws
 unfolding bodyText endText
 words-end [] = refl
-words-end (w ∷ ws) = append-nil (joined w ws)
+words-end (w ∷ ws) = append-nil (spaced w ws)
 
 -- ---- lengths. n qubits take up to this many bytes, with a space for each
 abbrev spanTo : ℕ → ℕ
@@ -75,23 +76,23 @@ words-skip {n} {ws} m = let short : length (wordsText ws) ≤ spanTo n - 1 = m .
 }
 
 words-one : {n : ℕ} (ws : List (List ℕ)) (x : List ℕ) → length x ≡ suc (length (decimal n)) → WordsTo n ws → WordsTo (suc n) (ws ++ (x ∷ []))
-unfolding joined
+unfolding spaced
 words-one [] x h m = record { none = ne-eqb (length x) 0 (λ e. never e); short = omega arith }
   where
     never : length x ≡ 0 → ⊥
     never e = omega arith
 words-one {n} (w ∷ ws) x h m = record { none = ne-eqb _ 0 (λ e. never e); short = omega (arith, long, some) }
   where
-    short : length (joined w ws) ≤ spanTo n - 1
+    short : length (spaced w ws) ≤ spanTo n - 1
     short = m .short
 
-    long : length (joined w (ws ++ (x ∷ []))) ≡ length (joined w ws) + suc (length x)
-    long = ap length (joined-more w x ws) ∙ length-append (joined w ws) (32 ∷ x)
+    long : length (spaced w (ws ++ (x ∷ []))) ≡ length (spaced w ws) + suc (length x)
+    long = ap length (joined-more w x ws) ∙ length-append (spaced w ws) (32 ∷ x)
 
-    never : length (joined w (ws ++ (x ∷ []))) ≡ 0 → ⊥
+    never : length (spaced w (ws ++ (x ∷ []))) ≡ 0 → ⊥
     never e = omega (arith, long)
 
-    some : length (joined w ws) ≡ 0 → ⊥
+    some : length (spaced w ws) ≡ 0 → ⊥
     some e = eqb-false _ 0 (m .none) e
 
 words-letter : {n : ℕ} (ws : List (List ℕ)) (l : Letter) → WordsTo n ws → WordsTo (suc n) (ws ++ wordsAt l n)
@@ -125,7 +126,7 @@ body-length {n} (w ∷ ws) h m = omega (arith, m .short, span-most n h)
 -- -iX0 Y10 Z127
 pub text-reading : sparseText (record { phase = MinusI; letters = λ q. cond (eqb q 0) X (cond (eqb q 10) Y (cond (eqb q 127) Z I)) })
     ≡ 45 ∷ 105 ∷ 88 ∷ 48 ∷ 32 ∷ 89 ∷ 49 ∷ 48 ∷ 32 ∷ 90 ∷ 49 ∷ 50 ∷ 55 ∷ []
-unfolding sparseText sparseTextTo qubits prefixText entryWords wordsAt entryWord letterText decimal digitsTo bodyText joined
+unfolding sparseText sparseTextTo qubits prefixText entryWords wordsAt entryWord letterText decimal digitsTo bodyText spaced
 text-reading = refl
 
 -- "Written sparse text is at most 531 bytes"
@@ -140,7 +141,7 @@ text-length s = text-length-to 128 s (omega arith)
 
 -- and that many where every letter is there
 pub text-longest : length (sparseText (record { phase = MinusI; letters = λ q. Y })) ≡ 531
-unfolding sparseText sparseTextTo qubits prefixText entryWords wordsAt entryWord decimal digitsTo bodyText joined
+unfolding sparseText sparseTextTo qubits prefixText entryWords wordsAt entryWord decimal digitsTo bodyText spaced
 text-longest = refl
 
 -- ---- the loop that writes a row's words from place `first` on: n qubits in all, q so far, place k reached

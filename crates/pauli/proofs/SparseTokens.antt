@@ -17,8 +17,8 @@ use Rattle.pauli.specs.declared.sparse_reader.EntryAnswer.{EntryAnswer}
 use Rattle.pauli.specs.declared.sparse_reader.EntryAnswer.the-variants.{Entry, High, NoEntry}
 use Rattle.pauli_group.specs.PauliString.{qubits}
 use Rattle.pauli.specs.Entries.{entryCount, entryLetter, entryQubit}
-use Rattle.pauli.specs.Marks.{markMore, markTo, marksTo, MarkFits}
-use Rattle.pauli.specs.Reading.{Skipped, WordAt, OneEntry, HighEntry, EntryRead, BodyAt, GoodEntries, TokensRead}
+use Rattle.pauli.specs.Inside.Marks.{markMore, markTo, marksTo, MarkFits}
+use Rattle.pauli.specs.Inside.Reading.{Skipped, WordAt, OneEntry, HighEntry, EntryRead, BodyAt, GoodEntries, TokensRead}
 use Rattle.pauli.specs.Text.{isSpace, leadingSpaces, Token, tokens, tokenQuestions, tokenEntries}
 use Rattle.pauli.proofs.EntryMarks.{length-marks, mark-step}
 use Rattle.pauli.proofs.Places.{listed-ext}

@@ -17,7 +17,7 @@ use Rattle.pauli.specs.Places.{listed}
 use Rattle.pauli.specs.Layout.{phaseByte, phaseOf, letterByte, letterOf, encodeString, decodeString, stringOf, stringRecord, WellFormed}
 use Rattle.pauli.specs.Rows.{phaseBytesProduct, letterAt, productLetters, productPhase, shorter, RowTimes, rowProduct, copied}
 use Rattle.pauli.specs.Strings.{productRecord}
-use Rattle.pauli.specs.Writing.{Operands}
+use Rattle.pauli.specs.Inside.Writing.{Operands}
 use Rattle.pauli.specs.declared.refusal.Outcome.{Outcome}
 use Rattle.pauli.specs.declared.refusal.Outcome.the-variants.{Done}
 use Rattle.pauli.specs.Answers.{written}

@@ -21,7 +21,7 @@ use Rattle.pauli.specs.Layout.{letterByte, letterOf, decodeString, strin
 use Rattle.pauli.specs.Questions.{stringQuestions, stringsQuestions, getQuestions}
 use Rattle.pauli.specs.Rows.{letterAt, placesOf, shorter}
 use Rattle.pauli.specs.Strings.{phaseOfRecord, letterOfRecord, recordsCommute}
-use Rattle.pauli.specs.Writing.{Pair}
+use Rattle.pauli.specs.Inside.Writing.{Pair}
 use Rattle.pauli.proofs.Answers.{answers}
 use Rattle.pauli.proofs.Asking.{done-first, done-second, string-formed, qubit-below}
 use Rattle.pauli.proofs.Places.{from, from-at, length-from}

@@ -18,8 +18,8 @@ use Rattle.pauli.specs.declared.refusal.Refusal.the-variants.{NotAscii}
 use Rattle.pauli.specs.declared.refusal.Outcome.the-variants.{Done, Refused}
 use Rattle.pauli.specs.declared.text.Prefix.{Prefix}
 use Rattle.pauli.specs.Layout.{phaseByte}
-use Rattle.pauli.specs.Reading.{Skipped, PrefixRead, HeadRead}
-use Rattle.pauli.specs.Text.{isSpace, isDigit, isSign, isSmallI, letterNamed, leadingSpaces, leadingWord, textStart, prefixPhase, prefixLength, textPhase, bodyStart, firstNotAscii, asciiQuestion}
+use Rattle.pauli.specs.Inside.Reading.{Skipped, PrefixRead, HeadRead, leadingWord}
+use Rattle.pauli.specs.Text.{isSpace, isDigit, isSign, isSmallI, letterNamed, leadingSpaces, textStart, prefixPhase, prefixLength, textPhase, bodyStart, firstNotAscii, asciiQuestion}
 use Rattle.pauli.proofs.Asking.{asked-yes, asked-no}
 use Rattle.pauli.proofs.Places.{from, from-is, none-start, none-more, none-found, none-left, first-le}
 

@@ -21,7 +21,7 @@ use Rattle.pauli.specs.Places.{firstPlace}
 use Rattle.pauli.specs.Layout.{phaseByte, letterOf, stringRecord, stringOf}
 use Rattle.pauli.specs.Entries.{entriesString}
 use Rattle.pauli.specs.Questions.{ask, _andThen_, duplicateQuestion, stringQuestions}
-use Rattle.pauli.specs.SparseText.{prefixText, letterText, wordsAt, entryWords, joined, bodyText, sparseTextTo, sparseText, textOfRecord}
+use Rattle.pauli.specs.SparseText.{prefixText, letterText, wordsAt, entryWords, spaced, bodyText, sparseTextTo, sparseText, textOfRecord}
 use Rattle.pauli.specs.Text.{isSpace, isDigit, isSign, isSmallI, letterNamed, isIdentity, leadingSpaces, textStart, textEnd, prefixPhase, prefixLength, textPhase, bodyStart, firstNotAscii, asciiQuestion}
 use Rattle.pauli.specs.Text.{tokens, tokenQuestions, letterQuestion, startsWord, tokenEntries, sparseTokens, sparseEntries, sparseQuestions, sparseString, denseBody, denseLetter, letterQuestions, denseQuestions, denseString, withoutSigns, withoutI, anyDigit, isSparse, textQuestions, textString}
 use Rattle.pauli.proofs.Asking.{asked-yes, admitted-strings}
@@ -83,14 +83,14 @@ prefix-ascii MinusOne = more {a = 45} (omega arith) none
 prefix-ascii PlusI = more {a = 43} (omega arith) (more {a = 105} (omega arith) none)
 prefix-ascii MinusI = more {a = 45} (omega arith) (more {a = 105} (omega arith) none)
 
-joined-ascii : (w : List ℕ) (ws : List (List ℕ)) → EntryWord w → Each EntryWord ws → Ascii (joined w ws)
-unfolding joined
+joined-ascii : (w : List ℕ) (ws : List (List ℕ)) → EntryWord w → Each EntryWord ws → Ascii (spaced w ws)
+unfolding spaced
 joined-ascii w [] e none = e .ascii
 joined-ascii w (x ∷ ws) e (more f r) = each-append (e .ascii) (more {a = 32} (omega arith) (joined-ascii x ws f r))
 
--- ---- words that are joined begin as the first word does, and hold its digits
-joined-first : (w : List ℕ) (ws : List (List ℕ)) → 0 < length w → getD (joined w ws) 0 0 ≡ getD w 0 0
-unfolding joined
+-- ---- words that are spaced begin as the first word does, and hold its digits
+joined-first : (w : List ℕ) (ws : List (List ℕ)) → 0 < length w → getD (spaced w ws) 0 0 ≡ getD w 0 0
+unfolding spaced
 joined-first [] ws h = absurd (not-suc-le-zero h)
 joined-first (c ∷ w) [] h = refl
 joined-first (c ∷ w) (x ∷ ws) h = refl
@@ -104,44 +104,44 @@ digit-append (c ∷ a) b h = step (isDigit c) h (digit-append a b)
     step true h r = refl
     step false h r = r h
 
-joined-digit : (w : List ℕ) (ws : List (List ℕ)) → anyDigit w ≡ true → anyDigit (joined w ws) ≡ true
-unfolding joined
+joined-digit : (w : List ℕ) (ws : List (List ℕ)) → anyDigit w ≡ true → anyDigit (spaced w ws) ≡ true
+unfolding spaced
 joined-digit w [] h = h
-joined-digit w (x ∷ ws) h = digit-append w (32 ∷ joined x ws) h
+joined-digit w (x ∷ ws) h = digit-append w (32 ∷ spaced x ws) h
 
 -- ---- a string with some words
 module _ (p : Phase) (w : List ℕ) (ws : List (List ℕ)) (e : EntryWord w) (r : Each EntryWord ws) where
-  begins : getD (joined w ws) 0 0 ≡ getD w 0 0
+  begins : getD (spaced w ws) 0 0 ≡ getD w 0 0
   begins = joined-first w ws (e .word .some)
 
-  not-i : isSmallI (getD (joined w ws) 0 0) ≡ false
+  not-i : isSmallI (getD (spaced w ws) 0 0) ≡ false
   not-i = ap isSmallI begins ∙ e .small
 
-  tokens-are : sparseTokens (prefixText p ++ joined w ws) ≡ wordTokens (length (prefixText p)) w ws
+  tokens-are : sparseTokens (prefixText p ++ spaced w ws) ≡ wordTokens (length (prefixText p)) w ws
   unfolding sparseTokens
   tokens-are =
-      ap₂ tokens (body-place p (joined w ws) not-i) (body-read p (joined w ws) not-i)
+      ap₂ tokens (body-place p (spaced w ws) not-i) (body-read p (spaced w ws) not-i)
       ∙ tokens-joined (length (prefixText p)) w ws (e .word) (each-map (λ x f. f .word) r)
 
-  words-sparse : isSparse (prefixText p ++ joined w ws) ≡ true
-  words-sparse = sparse-is p (joined w ws) (ap isSign begins ∙ e .sign) not-i ∙ joined-digit w ws (e .digit)
+  words-sparse : isSparse (prefixText p ++ spaced w ws) ≡ true
+  words-sparse = sparse-is p (spaced w ws) (ap isSign begins ∙ e .sign) not-i ∙ joined-digit w ws (e .digit)
 
   module _ (n : ℕ) (f : ℕ → Letter) (h : entryWords n f ≡ w ∷ ws) where
-    entries-are : sparseEntries (prefixText p ++ joined w ws) ≡ entriesTo n f
+    entries-are : sparseEntries (prefixText p ++ spaced w ws) ≡ entriesTo n f
     unfolding sparseEntries
     entries-are = ap tokenEntries tokens-are ∙ tokens-entries (length (prefixText p)) n f w ws h e r
 
-    words-asked-all : sparseQuestions (prefixText p ++ joined w ws) ≡ Done
+    words-asked-all : sparseQuestions (prefixText p ++ spaced w ws) ≡ Done
     unfolding sparseQuestions _andThen_
     words-asked-all =
-        ap₂ (λ x y. x andThen (y andThen duplicateQuestion (sparseEntries (prefixText p ++ joined w ws))))
+        ap₂ (λ x y. x andThen (y andThen duplicateQuestion (sparseEntries (prefixText p ++ spaced w ws))))
         (ascii-asked _ (each-append (prefix-ascii p) (joined-ascii w ws e r)))
         (ap tokenQuestions tokens-are ∙ words-asked (length (prefixText p)) w ws e r)
         ∙ ap duplicateQuestion entries-are ∙ entries-once n f
 
-    words-string : sparseString (prefixText p ++ joined w ws) ≡ entriesString (phaseByte p) (entriesTo n f)
+    words-string : sparseString (prefixText p ++ spaced w ws) ≡ entriesString (phaseByte p) (entriesTo n f)
     unfolding sparseString
-    words-string = ap₂ (λ (q : Phase) (l : List ℕ). entriesString (phaseByte q) l) (prefix-read p (joined w ws) not-i) entries-are
+    words-string = ap₂ (λ (q : Phase) (l : List ℕ). entriesString (phaseByte q) l) (prefix-read p (spaced w ws) not-i) entries-are
 
 -- ---- a string has words where it has a letter other than I
 append-empty : {A : Type 0} (a b : List A) → a ++ b ≡ [] → (a ≡ []) × (b ≡ [])
@@ -211,7 +211,7 @@ alone-dense p = sparse-is p (73 ∷ []) refl refl
 data Form (s : PauliString) : Type 0 where
   nothing : ((q : ℕ) → s .letters q ≡ I) → sparseText s ≡ alone (s .phase) → Form s
   entries : (w : List ℕ) (ws : List (List ℕ)) → EntryWord w → Each EntryWord ws → entryWords 128 (s .letters) ≡ w ∷ ws
-      → sparseText s ≡ prefixText (s .phase) ++ joined w ws → Form s
+      → sparseText s ≡ prefixText (s .phase) ++ spaced w ws → Form s
 
 text-is : (s : PauliString) (ws : List (List ℕ)) → entryWords 128 (s .letters) ≡ ws → sparseText s ≡ prefixText (s .phase) ++ bodyText ws
 unfolding sparseText sparseTextTo qubits

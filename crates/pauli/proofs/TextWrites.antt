@@ -12,7 +12,8 @@ use borrow.Author.Tests.{eq-eqb, ne-eqb}
 use Rattle.pauli.specs.Layout.{phaseOf, letterOf}
 use Rattle.pauli.specs.Rows.{copied}
 use Rattle.pauli.specs.SparseText.{decimal, prefixText, letterText, entryWord, wordsAt}
-use Rattle.pauli.specs.TextWriting.{stored, Stored, TextWritten, added, moreText, endText, NumberFits}
+use Rattle.pauli.specs.TextWriting.{TextWritten}
+use Rattle.pauli.specs.Inside.TextWriting.{stored, Stored, added, moreText, endText, NumberFits}
 use Rattle.pauli.proofs.Cases.{three-up}
 use Rattle.pauli.proofs.Decimals.{decimal-one, decimal-two, decimal-three}
 

@@ -13,7 +13,8 @@ use Rattle.pauli.specs.declared.refusal.Outcome.{Outcome}
 use Rattle.pauli.specs.declared.refusal.Outcome.the-variants.{Done, Refused}
 use Rattle.pauli.specs.Places.{firstPlace}
 use Rattle.pauli.specs.Questions.{_andThen_}
-use Rattle.pauli.specs.Text.{isSpace, letterNamed, leadingSpaces, leadingWord, Token, token, startsWord, longer, tokens, indexQuestions, letterQuestion, hasIndex, attachedQuestions, tokenQuestions, attachedEntry, apartEntry, tokenEntries}
+use Rattle.pauli.specs.Text.{isSpace, letterNamed, leadingSpaces, Token, token, startsWord, longer, tokens, indexQuestions, letterQuestion, hasIndex, attachedQuestions, tokenQuestions, attachedEntry, apartEntry, tokenEntries}
+use Rattle.pauli.specs.Inside.Reading.{leadingWord}
 use Rattle.pauli.proofs.Asking.{asked-yes, asked-no}
 
 -- ---- white space and words at the front

@@ -16,7 +16,7 @@ use Rattle.pauli_group.proofs.Finite.{letters, phases, law2}
 use Rattle.pauli_group.proofs.PaperForms.{power-add}
 use Rattle.pauli.specs.Layout.{phaseByte, phaseOf, letterByte, letterOf}
 use Rattle.pauli.specs.Rows.{phaseBytesProduct}
-use Rattle.pauli.specs.Turns.{LetterByte, forY, ForY, LetterTurns, PhaseTurns, anticommuting}
+use Rattle.pauli.specs.Inside.Turns.{LetterByte, forY, ForY, LetterTurns, PhaseTurns, anticommuting}
 
 -- ---- powers of i
 power-times : (k m : ℕ) → power m ≡ PlusOne → power (k * m) ≡ PlusOne

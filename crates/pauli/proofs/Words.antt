@@ -6,7 +6,7 @@ use Prim.Native.Nat.{ℕ, zero, suc, _+_, _<_}
 use native.Mathlib.Nat.{not-suc-le-zero}
 use native.Mathlib.Omega.{arith}
 use lib.ListN.{length, getD}
-use Rattle.pauli.specs.SparseText.{joined}
+use Rattle.pauli.specs.SparseText.{spaced}
 use Rattle.pauli.specs.Text.{isSpace, Token, token, startsWord, longer, tokens}
 
 -- ---- lists of which each element has a property
@@ -77,13 +77,13 @@ pub tokens-parted : (k c : ℕ) (w t : List ℕ) → Word w → isSpace c ≡ tr
 unfolding startsWord
 tokens-parted k c w t p h = tokens-word k w (c ∷ t) p (ap not h) ∙ ap (λ ts. token k w ∷ ts) (tokens-space (k + length w) c t h)
 
--- words that are joined, each with its offset
+-- words that are spaced, each with its offset
 abbrev pub wordTokens : ℕ → List ℕ → List (List ℕ) → List Token
 wordTokens k w [] = token k w ∷ []
 wordTokens k w (x ∷ ws) = token k w ∷ wordTokens (suc (k + length w)) x ws
 
-pub tokens-joined : (k : ℕ) (w : List ℕ) (ws : List (List ℕ)) → Word w → Each Word ws → tokens k (joined w ws) ≡ wordTokens k w ws
-unfolding joined isSpace
+pub tokens-joined : (k : ℕ) (w : List ℕ) (ws : List (List ℕ)) → Word w → Each Word ws → tokens k (spaced w ws) ≡ wordTokens k w ws
+unfolding spaced isSpace
 tokens-joined k w [] p none = tokens-last k w p
 tokens-joined k w (x ∷ ws) p (more q r) =
-    tokens-parted k 32 w (joined x ws) p refl ∙ ap (λ ts. token k w ∷ ts) (tokens-joined (suc (k + length w)) x ws q r)
+    tokens-parted k 32 w (spaced x ws) p refl ∙ ap (λ ts. token k w ∷ ts) (tokens-joined (suc (k + length w)) x ws q r)

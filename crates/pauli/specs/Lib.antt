@@ -5,10 +5,7 @@ pub mod Entries
 pub mod Questions
 pub mod Rows
 pub mod Strings
-pub mod Turns
-pub mod Writing
-pub mod Marks
 pub mod Text
-pub mod Reading
 pub mod SparseText
 pub mod TextWriting
+pub mod Inside

@@ -55,14 +55,14 @@ entryWords zero f = []
 entryWords (suc n) f = entryWords n f ++ wordsAt (f n) n
 
 -- "with one space between"; a space is 32
-unfoldable pub joined : List ℕ → List (List ℕ) → List ℕ
-joined w [] = w
-joined w (x ∷ ws) = w ++ 32 ∷ joined x ws
+unfoldable pub spaced : List ℕ → List (List ℕ) → List ℕ
+spaced w [] = w
+spaced w (x ∷ ws) = w ++ 32 ∷ spaced x ws
 
 -- "or I where there are none"
 unfoldable pub bodyText : List (List ℕ) → List ℕ
 bodyText [] = letterText I ∷ []
-bodyText (w ∷ ws) = joined w ws
+bodyText (w ∷ ws) = spaced w ws
 
 -- the text of the first n qubits of a string, and of a whole string
 unfoldable pub sparseTextTo : ℕ → PauliString → List ℕ

@@ -45,9 +45,6 @@ isIdentity c = (eqb c 73 || eqb c 105) || eqb c 49
 unfoldable pub leadingSpaces : List ℕ → ℕ
 leadingSpaces t = firstPlace (length t) (λ k. not (isSpace (getD t k 0)))
 
-unfoldable pub leadingWord : List ℕ → ℕ
-leadingWord t = firstPlace (length t) (λ k. isSpace (getD t k 0))
-
 -- the first byte that is no white space, and the place after the last
 unfoldable pub textStart : List ℕ → ℕ
 textStart t = leadingSpaces t

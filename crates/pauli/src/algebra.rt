@@ -7,7 +7,7 @@ ghost use Rattle.pauli.specs.Answers.{LetterAnswered, ProductWritten};
 ghost use Rattle.pauli.specs.Questions.{pairQuestions, mulQuestions};
 ghost use Rattle.pauli.specs.Rows.{letterBytesProduct, productPhaseByte, productLetterByte};
 ghost use Rattle.pauli.specs.Strings.{productRecord};
-ghost use Rattle.pauli.specs.Writing.{Operands};
+ghost use Rattle.pauli.specs.Inside.Writing.{Operands};
 use crate::questions::check_pair;
 use crate::questions::check_room;
 use crate::questions::check_strings;

@@ -5,7 +5,7 @@ ghost use Prim.Native.Nat.{_+_, _<_, max};
 ghost use mathlib.Core.List.{_∷_, _++_};
 ghost use lib.ListN.{length, drop};
 ghost use Rattle.pauli.specs.Answers.{Written};
-ghost use Rattle.pauli.specs.Reading.{EndRead, DenseAt, DenseFit, lettersNamed};
+ghost use Rattle.pauli.specs.Inside.Reading.{EndRead, DenseAt, DenseFit, lettersNamed};
 ghost use Rattle.pauli.specs.Layout.{phaseByte};
 ghost use Rattle.pauli.specs.Text.{isIdentity, textPhase, denseLetter, letterQuestions, fromDenseQuestions, denseRecord};
 use crate::questions::check_room;

@@ -5,7 +5,7 @@ ghost use mathlib.Core.Path.{_≡_};
 ghost use mathlib.Core.List.{_∷_, _++_};
 ghost use lib.ListN.{getD, set, drop};
 ghost use Rattle.pauli.specs.Entries.{entryCount};
-ghost use Rattle.pauli.specs.Marks.{markMore, marksTo, firstTwice, unmarked, MarkFits, Unmarked, marksQuestion, Blank, EntriesRead, lettersMarked, MarksFit};
+ghost use Rattle.pauli.specs.Inside.Marks.{markMore, marksTo, firstTwice, unmarked, MarkFits, Unmarked, marksQuestion, Blank, EntriesRead, lettersMarked, MarksFit};
 ghost use Rattle.pauli.specs.Rows.{shorter};
 ghost use Rattle.pauli.specs.Questions.{evenQuestion, firstBadEntry, entryLettersQuestion, firstHighEntry, entryQubitsQuestion, entryQuestions, roomQuestion, _andThen_};
 use crate::questions::check_byte;

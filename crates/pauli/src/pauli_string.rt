@@ -3,12 +3,12 @@
 ghost use mathlib.Core.Path.{_≡_};
 ghost use lib.ListN.{length};
 ghost use Rattle.pauli.specs.Answers.{ByteAnswered, FlagAnswered, Written, CountWritten, yesOrNo};
-ghost use Rattle.pauli.specs.Marks.{Blank};
+ghost use Rattle.pauli.specs.Inside.Marks.{Blank};
 ghost use Rattle.pauli.specs.Questions.{stringQuestions, stringsQuestions, getQuestions, withPhaseQuestions};
 ghost use Rattle.pauli.specs.SparseText.{textOfRecord, toSparseQuestions};
 ghost use Rattle.pauli.specs.Strings.{phaseOfRecord, letterOfRecord, recordsCommute, entriesRecord};
 ghost use Rattle.pauli.specs.Text.{fromSparseQuestions, sparseRecord, fromDenseQuestions, denseRecord, fromStrQuestions, textRecord};
-ghost use Rattle.pauli.specs.Writing.{Pair};
+ghost use Rattle.pauli.specs.Inside.Writing.{Pair};
 use crate::dense_reader::dense_string;
 use crate::entries::read_entries;
 use crate::entries::write_marked;

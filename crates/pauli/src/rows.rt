@@ -6,7 +6,7 @@ ghost use Rattle.pauli_group.specs.Papers.{power};
 ghost use Rattle.pauli.specs.Layout.{phaseByte, letterByte, letterOf};
 ghost use Rattle.pauli.specs.Questions.{firstBad};
 ghost use Rattle.pauli.specs.Rows.{phaseBytesProduct, placesOf, shorter, RowTimes, rowProduct, copied};
-ghost use Rattle.pauli.specs.Turns.{LetterByte, ForY, LetterTurns, PhaseTurns, anticommuting};
+ghost use Rattle.pauli.specs.Inside.Turns.{LetterByte, ForY, LetterTurns, PhaseTurns, anticommuting};
 
 pub fn smaller(a: usize, b: usize) -> usize
     ensures { λ r. ⌜ r ≡ min a b ⌝ }

@@ -3,8 +3,8 @@
 ghost use mathlib.Core.Path.{_≡_};
 ghost use lib.ListN.{length, drop};
 ghost use Rattle.pauli.specs.Answers.{Written};
-ghost use Rattle.pauli.specs.Marks.{Blank};
-ghost use Rattle.pauli.specs.Reading.{indexAnswer, LetterAt, WordAt, EntryRead, entryAfter, BodyAt, TokensRead, SparseAt, SparseRead};
+ghost use Rattle.pauli.specs.Inside.Marks.{Blank};
+ghost use Rattle.pauli.specs.Inside.Reading.{indexAnswer, LetterAt, WordAt, EntryRead, entryAfter, BodyAt, TokensRead, SparseAt, SparseRead};
 ghost use Rattle.pauli.specs.Text.{tokens, fromSparseQuestions, sparseRecord};
 use crate::entries::check_marks_and_room;
 use crate::entries::mark;

@@ -8,7 +8,8 @@ ghost use lib.Dec.{eqb};
 ghost use lib.ListN.{length};
 ghost use Rattle.pauli.specs.Layout.{phaseOf, letterOf};
 ghost use Rattle.pauli.specs.SparseText.{decimal, prefixText, letterText, entryWord, rowText};
-ghost use Rattle.pauli.specs.TextWriting.{Stored, TextWritten, moreText, endText, NumberFits};
+ghost use Rattle.pauli.specs.TextWriting.{TextWritten};
+ghost use Rattle.pauli.specs.Inside.TextWriting.{Stored, moreText, endText, NumberFits};
 use crate::rows::smaller;
 
 // One byte at a place, where the destination has that place. The answer is the next place.

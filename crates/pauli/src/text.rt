@@ -3,8 +3,8 @@
 ghost use mathlib.Core.Path.{_≡_};
 ghost use Prim.Native.Nat.{_≤_};
 ghost use lib.ListN.{length, getD};
-ghost use Rattle.pauli.specs.Reading.{Skipped, PrefixRead, HeadRead, DigitValue, digitsNumeral, indexNumeral};
-ghost use Rattle.pauli.specs.Text.{isSpace, isDigit, letterNamed, leadingSpaces, leadingWord, firstNotAscii, asciiQuestion, isSparse};
+ghost use Rattle.pauli.specs.Inside.Reading.{Skipped, PrefixRead, HeadRead, DigitValue, digitsNumeral, indexNumeral, leadingWord};
+ghost use Rattle.pauli.specs.Text.{isSpace, isDigit, letterNamed, leadingSpaces, firstNotAscii, asciiQuestion, isSparse};
 use crate::refusal::Outcome;
 use crate::refusal::Refusal;
 

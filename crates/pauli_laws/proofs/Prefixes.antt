@@ -10,7 +10,7 @@ use lib.Seq.{drop-append-seam}
 use borrow.Author.Tests.{ne-eqb}
 use Rattle.pauli_group.specs.Phase.{Phase, PlusOne, MinusOne, PlusI, MinusI, isReal}
 use Rattle.pauli.specs.Layout.{phaseByte, phaseOf}
-use Rattle.pauli.specs.Reading.{PrefixRead, HeadRead}
+use Rattle.pauli.specs.Inside.Reading.{PrefixRead, HeadRead}
 use Rattle.pauli.specs.Text.{isSpace, isSign, isSmallI, textPhase, denseBody}
 use Rattle.pauli.proofs.Records.{phase-back}
 use Rattle.pauli.proofs.TextBytes.{space-high, plus-i, minus-i, plus, minus, just-i, no-prefix, head-none, head-some}

@@ -3,3 +3,4 @@ pub mod Bounds
 pub mod Cases
 pub mod Verdicts
 pub mod Tallies
+pub mod Inside

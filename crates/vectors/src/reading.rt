@@ -1,7 +1,8 @@
 // One line as a case.
 ghost use Prim.Native.Nat.{_≤_};
 ghost use lib.ListN.{length};
-ghost use Rattle.vectors.specs.Cases.{Sized, Empty, Filled};
+ghost use Rattle.vectors.specs.Cases.{CaseFits};
+ghost use Rattle.vectors.specs.Inside.Cases.{Empty, Filled};
 use crate::decode::Decoded;
 use crate::decode::Number;
 use crate::decode::bytes;
@@ -210,7 +211,7 @@ fn read_bytes(line: &[u8], a: &mut [u8], b: &mut [u8], d: &mut [u8], e: &mut [u8
 
 // Reads a line, and puts its bytes at the fronts of the four buffers.
 pub fn read_case(line: &[u8], a: &mut [u8], b: &mut [u8], d: &mut [u8], e: &mut [u8]) -> Case
-    ensures { λ r. ⌜ Sized r (now (a .entry)) (now (b .entry)) (now (d .entry)) (now (e .entry)) ⌝ }
+    ensures { λ r. ⌜ CaseFits r (now (a .entry)) (now (b .entry)) (now (d .entry)) (now (e .entry)) ⌝ }
 {
     if is_blank(line) {
         return no_case(Kind::Blank);

@@ -3,7 +3,7 @@ use Prim.Native.Nat.{_-_}
 use Rattle.clifford_gates.specs.Gates.{twoQubitGates}
 use Rattle.clifford_gates.specs.GateNumbers.{pairUnchanged, twoQubitGate}
 use Rattle.pauli.specs.Layout.{phaseByte, letterByte}
-use Rattle.clifford.specs.GateRows.{pairBytes}
+use Rattle.clifford.specs.Inside.GateRows.{pairBytes}
 use Rattle.clifford.proofs.GateImages.{entry-bytes, two-numbers}
 use Rattle.clifford.proofs.gates.images_2q.Statement.{statement}
 use Rattle.clifford.proofs.gates.images_2q.Tie as tie

@@ -1,6 +1,6 @@
 -- `gates::on_pair` meets its contract.
 use mathlib.Core.Path.{refl}
-use Rattle.clifford.specs.GateRows.{pairOn}
+use Rattle.clifford.specs.Inside.GateRows.{pairOn}
 use Rattle.clifford.proofs.gates.on_pair.Statement.{statement}
 use Rattle.clifford.proofs.gates.on_pair.Tie as tie
 

@@ -13,7 +13,8 @@ use Rattle.clifford_gates.specs.Updates.{timesI, letterImage, pairTimes, pairTi
 use Rattle.pauli.specs.Places.{listed}
 use Rattle.pauli.specs.Layout.{phaseByte, letterByte, letterOf}
 use Rattle.pauli.proofs.Places.{getD-listed}
-use Rattle.clifford.specs.Playing.{twice, movedBy, entryOf, tableOf}
+use Rattle.clifford.specs.Playing.{twice, movedBy}
+use Rattle.clifford.specs.Inside.Playing.{tableEntry, tableOf}
 use Rattle.clifford.proofs.playing.gate_table.Statement.{statement}
 use Rattle.clifford.proofs.playing.gate_table.Tie as tie
 
@@ -24,11 +25,11 @@ two-table g h l =
     getD-listed 14 (λ k. tableOf (24 + k)) (g - 24) [] (omega arith) ∙ ap tableOf own
 
 returns : tie.Need-returns
-unfolding tableOf listed entryOf movedBy twice letterImage timesI oneQubitGate oneQubitGates phaseByte letterByte letterOf letterMul letterPhase letterProduct _·_ negate turn
+unfolding tableOf listed tableEntry movedBy twice letterImage timesI oneQubitGate oneQubitGates phaseByte letterByte letterOf letterMul letterPhase letterProduct _·_ negate turn
 returns c = getD-listed 24 tableOf (c .before .before .args .gate) [] (search needs)
 
 returns-2 : tie.Need-returns-2
-unfolding tableOf listed entryOf movedBy twice letterImage timesI pairImage pairTimes pairTimesI ownImage twoQubitGate twoQubitGates phaseByte letterByte letterOf letterMul letterPhase letterProduct _·_ negate turn
+unfolding tableOf listed tableEntry movedBy twice letterImage timesI pairImage pairTimes pairTimesI ownImage twoQubitGate twoQubitGates phaseByte letterByte letterOf letterMul letterPhase letterProduct _·_ negate turn
 returns-2 c = two-table (c .before .before .args .gate) (search needs) (search needs)
 
 pub gate-table-spec : {M : Type 1} → statement M

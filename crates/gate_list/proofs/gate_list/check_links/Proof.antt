@@ -1,5 +1,5 @@
 -- `gate_list::check_links` meets its contract.
-use Rattle.gate_list.specs.Reading.{linksQuestion}
+use Rattle.gate_list.specs.Inside.Reading.{linksQuestion}
 use Rattle.gate_list.proofs.ListAdmitted.{link-walks}
 use Rattle.gate_list.proofs.gate_list.check_links.Statement.{statement}
 use Rattle.gate_list.proofs.gate_list.check_links.Tie as tie

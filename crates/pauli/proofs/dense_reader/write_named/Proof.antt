@@ -1,7 +1,7 @@
 -- `dense_reader::write_named` meets its contract, by the laws of `Filled`.
 use Prim.Native.Nat.{_-_}
 use lib.ListN.{length}
-use Rattle.pauli.specs.Reading.{lettersNamed}
+use Rattle.pauli.specs.Inside.Reading.{lettersNamed}
 use Rattle.pauli.proofs.Places.{Filled}
 use Rattle.pauli.proofs.DenseReading.{named-fills}
 use Rattle.pauli.proofs.dense_reader.write_named.Statement.{statement}

@@ -4,7 +4,7 @@ use mathlib.Core.Logic.{⊎-elim}
 use lib.Dec.{eqb}
 use lib.ListN.{getD}
 use borrow.Author.Tests.{eq-eqb, ne-eqb}
-use Rattle.pauli.specs.Marks.{firstTwice}
+use Rattle.pauli.specs.Inside.Marks.{firstTwice}
 use Rattle.pauli.proofs.Places.{FirstSeen, first-found, first-held, first-past, firsts}
 use Rattle.pauli.proofs.entries.first_twice.Statement.{statement}
 use Rattle.pauli.proofs.entries.first_twice.Tie as tie

@@ -1,6 +1,6 @@
 -- `entries::write_letters` meets its contract, by the laws of `Filled`.
 use Prim.Native.Nat.{_-_}
-use Rattle.pauli.specs.Marks.{lettersMarked}
+use Rattle.pauli.specs.Inside.Marks.{lettersMarked}
 use Rattle.pauli.proofs.Places.{Filled}
 use Rattle.pauli.proofs.EntryStrings.{letter-fills}
 use Rattle.pauli.proofs.entries.write_letters.Statement.{statement}

@@ -3,7 +3,7 @@ use Rattle.pauli_group.specs.Phase.{turn}
 use Rattle.pauli_group.specs.Letter.{letterProduct, letterPhase}
 use Rattle.pauli_group.specs.Papers.{power}
 use Rattle.pauli.specs.Layout.{letterByte}
-use Rattle.pauli.specs.Turns.{forY}
+use Rattle.pauli.specs.Inside.Turns.{forY}
 use Rattle.pauli.proofs.Turns.{places}
 use Rattle.pauli.proofs.rows.times_turns.Statement.{statement}
 use Rattle.pauli.proofs.rows.times_turns.Tie as tie

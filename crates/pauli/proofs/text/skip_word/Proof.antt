@@ -1,7 +1,7 @@
 -- `text::skip_word` meets its contract.
 use native.Mathlib.Omega.{arith}
 use borrow.Author.Needs.{needs}
-use Rattle.pauli.specs.Text.{leadingWord}
+use Rattle.pauli.specs.Inside.Reading.{leadingWord}
 use Rattle.pauli.proofs.TextBytes.{skipped, words-within}
 use Rattle.pauli.proofs.text.skip_word.Statement.{statement}
 use Rattle.pauli.proofs.text.skip_word.Tie as tie

@@ -1,7 +1,8 @@
 -- `text::word` meets its contract: no white space before the place reached.
 use Prim.Native.Nat.{_-_}
 use lib.ListN.{length, getD}
-use Rattle.pauli.specs.Text.{isSpace, leadingWord}
+use Rattle.pauli.specs.Text.{isSpace}
+use Rattle.pauli.specs.Inside.Reading.{leadingWord}
 use Rattle.pauli.proofs.Places.{NoneBefore}
 use Rattle.pauli.proofs.TextBytes.{word-scans}
 use Rattle.pauli.proofs.text.word.Statement.{statement}

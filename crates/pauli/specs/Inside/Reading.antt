@@ -19,10 +19,14 @@ use Rattle.pauli.specs.declared.refusal.Refusal.the-variants.{NotNumeral
 use Rattle.pauli.specs.declared.refusal.Outcome.{Outcome}
 use Rattle.pauli.specs.declared.refusal.Outcome.the-variants.{Done, Refused}
 use Rattle.pauli.specs.Entries.{entryCount, entryLetter, entryQubit}
-use Rattle.pauli.specs.Marks.{marksTo, Blank}
-use Rattle.pauli.specs.Places.{listed}
+use Rattle.pauli.specs.Inside.Marks.{marksTo, Blank}
+use Rattle.pauli.specs.Places.{listed, firstPlace}
 use Rattle.pauli.specs.Layout.{phaseByte}
-use Rattle.pauli.specs.Text.{textEnd, denseBody, sparseEntries, fromSparseQuestions, isSpace, letterNamed, leadingWord, Token, tokens, tokenQuestions, tokenEntries, isDigit, prefixPhase, prefixLength, textPhase, bodyStart, allDigits, digitsValue, isIndex, indexValue}
+use Rattle.pauli.specs.Text.{textEnd, denseBody, sparseEntries, fromSparseQuestions, isSpace, letterNamed, Token, tokens, tokenQuestions, tokenEntries, isDigit, prefixPhase, prefixLength, textPhase, bodyStart, allDigits, digitsValue, isIndex, indexValue}
+
+-- the bytes before the first space
+unfoldable pub leadingWord : List ℕ → ℕ
+leadingWord t = firstPlace (length t) (λ k. isSpace (getD t k 0))
 
 -- r is as far after k as the text that begins there says
 pub record Skipped (count : List ℕ → ℕ) (t : List ℕ) (k r : ℕ) : Type 0 where

@@ -9,7 +9,7 @@ use Rattle.pauli.specs.Layout.{stringLength, stringOf, WellFormed}
 use Rattle.clifford.specs.Layout.{rowLength, recordLength, widthOf, tableauOf, FormedTableau}
 use Rattle.clifford.specs.Images.{spanTo}
 use Rattle.clifford.specs.Support.{inSupport, supportQubits}
-use Rattle.clifford.specs.Rows.{OwnRow, OwnQubit, Sends, lettersIn}
+use Rattle.clifford.specs.Inside.Rows.{OwnRow, OwnQubit, Sends, lettersIn}
 
 -- a tableau and a string, and room for a string
 pub record Applies (t s d : List ℕ) : Type 0 where

@@ -3,10 +3,10 @@ use Prim.Native.Nat.{ℕ, _+_, _*_, _-_, _≤_, _<_}
 use mathlib.Core.Path.{_≡_}
 use mathlib.Core.Bool.{cond}
 use mathlib.Core.List.{List, _++_}
-use lib.Dec.{ltb, eqb}
+use lib.Dec.{eqb}
 use lib.ListN.{length, drop}
 use Rattle.pauli_group.specs.Phase.{sign}
-use Rattle.pauli_group.specs.Letter.{Letter, X, Z, anticommute}
+use Rattle.pauli_group.specs.Letter.{anticommute}
 use Rattle.pauli_group.specs.PauliString.{PauliString, mul, scale, identityString}
 use Rattle.clifford_group.specs.Tableau.{Tableau}
 use Rattle.pauli.specs.Layout.{phaseByte, phaseOf, letterOf, encodeString, decodeString, WellFormed}
@@ -16,13 +16,6 @@ use Rattle.clifford.specs.Layout.{rowLength, encodeRow, rowPart, widthOf
 pub record Sized (n r : ℕ) : Type 0 where
   pub is : r ≡ n
   pub small : r ≤ 33025
-
--- row r of a record of width w is the image of this letter on this qubit
-unfoldable pub rowQubit : ℕ → ℕ → ℕ
-rowQubit w r = cond (ltb r w) r (r - w)
-
-unfoldable pub rowLetter : ℕ → ℕ → Letter
-rowLetter w r = cond (ltb r w) X Z
 
 -- the letter bytes of row r of a record
 unfoldable pub rowLetters : List ℕ → ℕ → List ℕ
@@ -121,6 +114,11 @@ pub record WorkPlace (d : List ℕ) (q : ℕ) : Type 0 where
 pub record OwnLetter (b : List ℕ) (r q : ℕ) : Type 0 where
   pub row : OwnRow b r
   pub qubit : q < widthOf b
+
+-- the row at the front of b has qubits q and r
+pub record OnRow (q r : ℕ) (b : List ℕ) : Type 0 where
+  pub first : q + 1 < length b
+  pub second : r + 1 < length b
 
 -- a row of any content, to be cleared
 pub record ClearRow (d : List ℕ) (p : ℕ) : Type 0 where

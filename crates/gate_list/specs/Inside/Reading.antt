@@ -9,7 +9,7 @@ use Rattle.pauli.specs.declared.refusal.Refusal.the-variants.{SameQubit}
 use Rattle.pauli.specs.declared.refusal.Outcome.{Outcome}
 use Rattle.pauli.specs.Questions.{ask, _andThen_}
 use Rattle.gate_list.specs.Lists.{recordSize, recordCount, byteOf, nextOf}
-use Rattle.gate_list.specs.ListQuestions.{qubitQuestion, linkQuestion, chainQuestions}
+use Rattle.gate_list.specs.ListQuestions.{stepQubitQuestion, linkQuestion, chainQuestions}
 
 -- record i of the list, and its byte k
 pub record OwnRecord (l : List ℕ) (i : ℕ) : Type 0 where
@@ -25,18 +25,18 @@ pub record ByteSized (n r : ℕ) : Type 0 where
   pub small : r < 256
 
 -- a mark for each record that a list can have, none of them set
-pub record Blank (met : List ℕ) : Type 0 where
+pub record NoneMet (met : List ℕ) : Type 0 where
   pub long : length met ≡ 4096
   pub clear : (k : ℕ) → getD met k 0 ≡ 0
 
 -- beside a list of at least one record; and beside one whose head links to a record
-pub record Unmarked (l met : List ℕ) : Type 0 where
-  pub blank : Blank met
+pub record BeforeHead (l met : List ℕ) : Type 0 where
+  pub blank : NoneMet met
   pub some : 0 < recordCount l
   pub few : recordCount l ≤ 4096
 
-pub record Unmet (l met : List ℕ) : Type 0 where
-  pub blank : Blank met
+pub record BeforeChain (l met : List ℕ) : Type 0 where
+  pub blank : NoneMet met
   pub few : recordCount l ≤ 4096
   pub link : nextOf l 0 < recordCount l
 
@@ -44,11 +44,11 @@ pub record Unmet (l met : List ℕ) : Type 0 where
 unfoldable pub zerosRight : ℕ → ℕ → ℕ → Bool
 zerosRight gate second fixed = eqb fixed 0 && (leb 24 gate || eqb second 0)
 
-unfoldable pub differentQuestion : ℕ → ℕ → ℕ → Outcome
-differentQuestion i q r = ask (not (eqb q r)) (SameQubit i)
+unfoldable pub stepDifferentQuestion : ℕ → ℕ → ℕ → Outcome
+stepDifferentQuestion i q r = ask (not (eqb q r)) (SameQubit i)
 
 unfoldable pub twoQuestions : List ℕ → ℕ → Outcome
-twoQuestions l i = qubitQuestion l i (byteOf l i 2) andThen differentQuestion i (byteOf l i 1) (byteOf l i 2)
+twoQuestions l i = stepQubitQuestion l i (byteOf l i 2) andThen stepDifferentQuestion i (byteOf l i 1) (byteOf l i 2)
 
 unfoldable pub linksQuestion : List ℕ → Outcome
 linksQuestion l = linkQuestion l 0 andThen chainQuestions l [] (recordCount l - 1) (nextOf l 0)

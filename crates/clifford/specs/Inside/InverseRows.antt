@@ -9,8 +9,8 @@ use Rattle.pauli_group.specs.Letter.{Letter}
 use Rattle.pauli_group.specs.PauliString.{PauliString}
 use Rattle.clifford_group.specs.Tableau.{Tableau, hasX, hasZ, transposed}
 use Rattle.pauli.specs.Layout.{encodeString}
-use Rattle.clifford.specs.Layout.{rowLength, recordLength, rowOf, widthOf, tableauOf, FormedTableau}
-use Rattle.clifford.specs.Rows.{OwnRow, rowQubit}
+use Rattle.clifford.specs.Layout.{rowLength, recordLength, rowOf, widthOf, tableauOf, FormedTableau, rowQubit}
+use Rattle.clifford.specs.Inside.Rows.{OwnRow}
 
 -- which bit of a letter row r of the inverse reads, of width w: the z bit for an X row and the x bit for a Z row
 unfoldable pub rowBit : ℕ → ℕ → Letter → Bool
