@@ -1,4 +1,4 @@
-//! Links the archive that `rt staticlib exports` writes.
+//! Links the archive that `rt staticlib renetcleat` writes.
 
 use std::path::PathBuf;
 use std::{env, fs};
@@ -9,12 +9,12 @@ fn main() {
         PathBuf::from(env::var("CARGO_MANIFEST_DIR").unwrap()).join("../../target/staticlib");
     let folder = env::var("RENETCLEAT_LIB").map_or(beside, PathBuf::from);
     let folder = fs::canonicalize(&folder).unwrap_or_else(|error| {
-        panic!("{}: {error}; run `rt staticlib exports`, or name the archive's folder in RENETCLEAT_LIB", folder.display())
+        panic!("{}: {error}; run `rt staticlib renetcleat`, or name the archive's folder in RENETCLEAT_LIB", folder.display())
     });
     println!(
         "cargo:rerun-if-changed={}",
-        folder.join("libexports.a").display()
+        folder.join("librenetcleat.a").display()
     );
     println!("cargo:rustc-link-search=native={}", folder.display());
-    println!("cargo:rustc-link-lib=static=exports");
+    println!("cargo:rustc-link-lib=static=renetcleat");
 }

@@ -26,8 +26,7 @@ use Rattle.pauli.specs.Answers.{written, CountWritten}
 use Rattle.pauli.specs.Layout.{phaseOf, letterOf}
 use Rattle.pauli.specs.Questions.{roomQuestion}
 use Rattle.pauli.specs.Rows.{copied, letterAt}
-use Rattle.pauli.specs.SparseText.{digitsTo, decimal, prefixText, letterText, entryWord, wordsAt, bodyText, entryWords, sparseTextTo, sparseText, rowString, rowText}
-use Rattle.pauli.specs.SparseText as sparse
+use Rattle.pauli.specs.SparseText.{digitsTo, decimal, prefixText, letterText, entryWord, wordsAt, bodyText, entryWords, sparseTextTo, sparseText, rowString, rowText, spaced}
 use Rattle.pauli.specs.TextWriting.{TextWritten}
 use Rattle.pauli.specs.Inside.TextWriting.{stored, Stored}
 use Rattle.pauli.proofs.Answers.{answers, count-done}
@@ -479,5 +478,5 @@ pub display-reading : textOfTableau (2 ∷ 0 ∷ 2 ∷ 0 ∷ 0 ∷ 0 ∷ 1 ∷ 0
     ∷ 32 ∷ 32 ∷ 90 ∷ 95 ∷ 48 ∷ 32 ∷ 45 ∷ 62 ∷ 32 ∷ 43 ∷ 88 ∷ 48 ∷ 32 ∷ 88 ∷ 49 ∷ 10
     ∷ 32 ∷ 32 ∷ 88 ∷ 95 ∷ 49 ∷ 32 ∷ 45 ∷ 62 ∷ 32 ∷ 43 ∷ 88 ∷ 49 ∷ 10
     ∷ 32 ∷ 32 ∷ 90 ∷ 95 ∷ 49 ∷ 32 ∷ 45 ∷ 62 ∷ 32 ∷ 43 ∷ 90 ∷ 48 ∷ 32 ∷ 90 ∷ 49 ∷ 10 ∷ []
-unfolding textOfTableau displayText headerText linesText lineText labelText generatorText displayRow joined rowOf rowLetter rowQubit tableauOf rowPart rowOffset rowLength decodeRow letterText sparseText sparseTextTo qubits prefixText entryWords wordsAt entryWord decimal digitsTo bodyText sparse.joined phaseOf letterOf
+unfolding textOfTableau displayText headerText linesText lineText labelText generatorText displayRow joined rowOf rowLetter rowQubit tableauOf rowPart rowOffset rowLength decodeRow letterText sparseText sparseTextTo qubits prefixText entryWords wordsAt entryWord decimal digitsTo bodyText spaced phaseOf letterOf
 display-reading = refl

@@ -9,4 +9,5 @@ pub mod GateQuestions
 pub mod GateRows
 pub mod GateAnswers
 pub mod Playing
+pub mod Promises
 pub mod Inside

@@ -1,15 +1,14 @@
 // Gates by number: their tableaux, their names, their products and inverses. Ports clifford.rs of PECOS, changed:
 // Copyright 2026 The PECOS Developers, Apache License, Version 2.0.
 ghost use mathlib.Core.Path.{_≡_};
-ghost use lib.ListN.{length};
-ghost use Rattle.clifford_gates.specs.GateNumbers.{composeGate, inverseGate};
+ghost use Rattle.clifford_gates.specs.GateNumbers.{composeGate};
 ghost use Rattle.pauli.specs.declared.refusal.Outcome.the-variants.{Done};
-ghost use Rattle.pauli.specs.Answers.{Written, written};
+ghost use Rattle.pauli.specs.Answers.{written};
 ghost use Rattle.clifford.specs.Layout.{FormedTableau};
-ghost use Rattle.clifford.specs.Questions.{tableauQuestions};
-ghost use Rattle.clifford.specs.GateQuestions.{gateQuestion, secondQuestions, onQubitsQuestions, onQubitsAnswer, onQubitQuestions, onQubitAnswer, composeGateQuestions};
-ghost use Rattle.clifford.specs.GateAnswers.{gateReply, nameAnswer, GateAnswered, NameAnswered, gateRecord, oneQubitRecord, singleQubitCliffordRecord, recordName};
+ghost use Rattle.clifford.specs.GateQuestions.{secondQuestions, onQubitsQuestions, onQubitsAnswer, onQubitQuestions, onQubitAnswer, composeGateQuestions};
+ghost use Rattle.clifford.specs.GateAnswers.{gateReply, nameAnswer, gateRecord, oneQubitRecord, singleQubitCliffordRecord, recordName};
 ghost use Rattle.clifford.specs.Inside.GateRows.{GateOn, GateSpan, GateFits, OneFits, BothSmall, NameIs};
+ghost use Rattle.clifford.specs.Promises.{GateWritten, OneQubitGateWritten, SingleQubitCliffordWritten, GateNamed, GatesComposed, GateInverted};
 use crate::gates::first_gate;
 use crate::gates::inverse_number;
 use crate::gates::letter_image;
@@ -126,7 +125,7 @@ fn write_on_qubits(gate: usize, q: usize, r: usize, dst: &mut [u8])
 
 // A gate on its qubits; the second is not looked at for gates 0 to 23.
 pub fn on_qubits(gate: u8, q0: usize, q1: usize, dst: &mut [u8]) -> Outcome
-    ensures { λ r. ⌜ Written (onQubitsAnswer gate q0 q1 (length (now (dst .entry)))) (gateRecord gate q0 q1) (now (dst .entry)) (now (dst .exit)) r ⌝ }
+    ensures { λ r. ⌜ GateWritten gate q0 q1 (now (dst .entry)) (now (dst .exit)) r ⌝ }
 {
     let g = gate as usize;
     let answer = on_qubits_answer(g, q0, q1, dst.len());
@@ -155,7 +154,7 @@ fn write_on_qubit(gate: usize, q: usize, dst: &mut [u8])
 
 // A one-qubit gate on its qubit.
 pub fn on_qubit(gate: u8, q: usize, dst: &mut [u8]) -> Outcome
-    ensures { λ r. ⌜ Written (onQubitAnswer gate q (length (now (dst .entry)))) (oneQubitRecord gate q) (now (dst .entry)) (now (dst .exit)) r ⌝ }
+    ensures { λ r. ⌜ OneQubitGateWritten gate q (now (dst .entry)) (now (dst .exit)) r ⌝ }
 {
     let g = gate as usize;
     let answer = on_qubit_answer(g, q, dst.len());
@@ -176,7 +175,7 @@ fn write_product(index: usize, q: usize, dst: &mut [u8])
 
 // One of the 24 products of H and SZ, by its index.
 pub fn single_qubit_clifford(index: usize, qubit: usize, dst: &mut [u8]) -> Outcome
-    ensures { λ r. ⌜ Written (onQubitAnswer index qubit (length (now (dst .entry)))) (singleQubitCliffordRecord index qubit) (now (dst .entry)) (now (dst .exit)) r ⌝ }
+    ensures { λ r. ⌜ SingleQubitCliffordWritten index qubit (now (dst .entry)) (now (dst .exit)) r ⌝ }
 {
     let answer = on_qubit_answer(index, qubit, dst.len());
     if let Outcome::Done = answer {
@@ -211,7 +210,7 @@ fn named(n: usize) -> GateAnswer
 
 // The first of the 24 gates, by number, whose images a tableau has.
 pub fn from_clifford_rep(t: &[u8]) -> GateAnswer
-    ensures { λ r. ⌜ NameAnswered (tableauQuestions (now (t .entry))) (recordName (now (t .entry))) r ⌝ }
+    ensures { λ r. ⌜ GateNamed (now (t .entry)) r ⌝ }
 {
     let answer = check_tableau(t);
     match answer {
@@ -244,7 +243,7 @@ fn composed(g: usize, h: usize) -> usize
 
 // g composed with h: h acts first.
 pub fn compose(g: u8, h: u8) -> GateAnswer
-    ensures { λ r. ⌜ GateAnswered (composeGateQuestions g h) (composeGate g h) r ⌝ }
+    ensures { λ r. ⌜ GatesComposed g h r ⌝ }
 {
     let answer = check_gates(g as usize, h as usize);
     match answer {
@@ -255,7 +254,7 @@ pub fn compose(g: u8, h: u8) -> GateAnswer
 
 // The inverse of a gate.
 pub fn inverse(g: u8) -> GateAnswer
-    ensures { λ r. ⌜ GateAnswered (gateQuestion 38 g) (inverseGate g) r ⌝ }
+    ensures { λ r. ⌜ GateInverted g r ⌝ }
 {
     let answer = check_gate(38, g as usize);
     match answer {

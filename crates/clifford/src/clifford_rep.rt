@@ -1,17 +1,15 @@
 // Tableaux: their action on strings, their composition, their images. Ports clifford_rep.rs of PECOS, changed:
 // Copyright 2024 The PECOS Developers, Apache License, Version 2.0.
 ghost use mathlib.Core.Path.{_≡_};
-ghost use Prim.Native.Nat.{max, _+_};
-ghost use lib.ListN.{length};
+ghost use Prim.Native.Nat.{max};
 ghost use Rattle.pauli.specs.declared.refusal.Outcome.the-variants.{Done};
-ghost use Rattle.pauli.specs.Answers.{CountWritten, FlagAnswered, Written, written};
-ghost use Rattle.clifford.specs.Answers.{CountAnswered};
-ghost use Rattle.clifford.specs.Layout.{widthOf, rowOffset};
-ghost use Rattle.clifford.specs.Display.{nameText, textOfTableau, displayAnswer, startsWith};
-ghost use Rattle.clifford.specs.Questions.{tableauQuestions, imageQuestions, setQuestions, identityAnswer, applyQuestions, applyAnswer, composeAnswer, extendQuestions, extendAnswer, inverseAnswer, pauliAnswer, supportAnswer};
-ghost use Rattle.clifford.specs.Tableaux.{recordValid, xImagePart, zImagePart, setXRecord, setZRecord, identityRecord, applyRecord, composeRecord, extendRecord, inverseRecord, pauliRecord, supportBytes};
+ghost use Rattle.pauli.specs.Answers.{written};
+ghost use Rattle.clifford.specs.Display.{nameText, displayAnswer, startsWith};
+ghost use Rattle.clifford.specs.Questions.{imageQuestions, setQuestions, identityAnswer, applyQuestions, applyAnswer, composeAnswer, extendQuestions, extendAnswer, inverseAnswer, pauliAnswer, supportAnswer};
+ghost use Rattle.clifford.specs.Tableaux.{xImagePart, zImagePart, identityRecord, applyRecord, composeRecord, extendRecord, inverseRecord, pauliRecord};
 ghost use Rattle.clifford.specs.Inside.Writing.{Applies, Identifies, ExtendsTo, ComposesTo, SignsTo};
 ghost use Rattle.clifford.specs.Inside.InverseRows.{InvertsTo};
+ghost use Rattle.clifford.specs.Promises.{XImageAt, ZImageAt, XImageSet, ZImageSet, IdentityWritten, Applied, Composed, Extended, Inverted, ValidityTold, FromPauliString, SupportWritten, Displayed};
 use crate::composing::write_composed;
 use crate::composing::write_extended;
 use crate::displaying::display_length;
@@ -97,7 +95,7 @@ pub fn z_image(t: &[u8], slot: usize) -> &[u8]
 
 // Where in the record the image of X on this qubit starts.
 pub fn x_image_offset(t: &[u8], slot: usize) -> CountAnswer
-    ensures { λ r. ⌜ CountAnswered (imageQuestions (now (t .entry)) slot) (rowOffset (widthOf (now (t .entry))) slot) r ⌝ }
+    ensures { λ r. ⌜ XImageAt (now (t .entry)) slot r ⌝ }
 {
     let answer = check_image(t, slot);
     match answer {
@@ -108,7 +106,7 @@ pub fn x_image_offset(t: &[u8], slot: usize) -> CountAnswer
 
 // Where in the record the image of Z on this qubit starts.
 pub fn z_image_offset(t: &[u8], slot: usize) -> CountAnswer
-    ensures { λ r. ⌜ CountAnswered (imageQuestions (now (t .entry)) slot) (rowOffset (widthOf (now (t .entry))) (widthOf (now (t .entry)) + slot)) r ⌝ }
+    ensures { λ r. ⌜ ZImageAt (now (t .entry)) slot r ⌝ }
 {
     let answer = check_image(t, slot);
     match answer {
@@ -135,7 +133,7 @@ fn set_answer(t: &[u8], slot: usize, s: &[u8]) -> Outcome
 
 // The image of X on this qubit, replaced by the string s.
 pub fn set_x_image(t: &mut [u8], slot: usize, s: &[u8]) -> Outcome
-    ensures { λ r. ⌜ Written (setQuestions (now (t .entry)) slot (now (s .entry))) (setXRecord (now (t .entry)) slot (now (s .entry))) (now (t .entry)) (now (t .exit)) r ⌝ }
+    ensures { λ r. ⌜ XImageSet slot (now (s .entry)) (now (t .entry)) (now (t .exit)) r ⌝ }
 {
     let answer = set_answer(t, slot, s);
     if let Outcome::Done = answer {
@@ -146,7 +144,7 @@ pub fn set_x_image(t: &mut [u8], slot: usize, s: &[u8]) -> Outcome
 
 // The image of Z on this qubit, replaced by the string s.
 pub fn set_z_image(t: &mut [u8], slot: usize, s: &[u8]) -> Outcome
-    ensures { λ r. ⌜ Written (setQuestions (now (t .entry)) slot (now (s .entry))) (setZRecord (now (t .entry)) slot (now (s .entry))) (now (t .entry)) (now (t .exit)) r ⌝ }
+    ensures { λ r. ⌜ ZImageSet slot (now (s .entry)) (now (t .entry)) (now (t .exit)) r ⌝ }
 {
     let answer = set_answer(t, slot, s);
     if let Outcome::Done = answer {
@@ -178,7 +176,7 @@ fn write_identity(n: usize, dst: &mut [u8])
 
 // The identity of width n.
 pub fn identity(n: usize, dst: &mut [u8]) -> Outcome
-    ensures { λ r. ⌜ Written (identityAnswer n (length (now (dst .entry)))) (identityRecord n) (now (dst .entry)) (now (dst .exit)) r ⌝ }
+    ensures { λ r. ⌜ IdentityWritten n (now (dst .entry)) (now (dst .exit)) r ⌝ }
 {
     let answer = identity_answer(n, dst.len());
     if let Outcome::Done = answer {
@@ -218,7 +216,7 @@ fn write_applied(t: &[u8], s: &[u8], dst: &mut [u8])
 
 // The image of the string s.
 pub fn apply(t: &[u8], s: &[u8], dst: &mut [u8]) -> Outcome
-    ensures { λ r. ⌜ Written (applyAnswer (now (t .entry)) (now (s .entry)) (length (now (dst .entry)))) (applyRecord (now (t .entry)) (now (s .entry))) (now (dst .entry)) (now (dst .exit)) r ⌝ }
+    ensures { λ r. ⌜ Applied (now (t .entry)) (now (s .entry)) (now (dst .entry)) (now (dst .exit)) r ⌝ }
 {
     let answer = apply_answer(t, s, dst.len());
     if let Outcome::Done = answer {
@@ -248,7 +246,7 @@ fn compose_into(a: &[u8], b: &[u8], dst: &mut [u8])
 
 // a composed with b: b acts first.
 pub fn compose(a: &[u8], b: &[u8], dst: &mut [u8]) -> Outcome
-    ensures { λ r. ⌜ Written (composeAnswer (now (a .entry)) (now (b .entry)) (length (now (dst .entry)))) (composeRecord (now (a .entry)) (now (b .entry))) (now (dst .entry)) (now (dst .exit)) r ⌝ }
+    ensures { λ r. ⌜ Composed (now (a .entry)) (now (b .entry)) (now (dst .entry)) (now (dst .exit)) r ⌝ }
 {
     let answer = compose_answer(a, b, dst.len());
     if let Outcome::Done = answer {
@@ -288,7 +286,7 @@ fn extend_into(t: &[u8], n: usize, dst: &mut [u8])
 
 // The tableau widened to n; a smaller n gives a copy.
 pub fn extended_to(t: &[u8], n: usize, dst: &mut [u8]) -> Outcome
-    ensures { λ r. ⌜ Written (extendAnswer (now (t .entry)) n (length (now (dst .entry)))) (extendRecord (now (t .entry)) n) (now (dst .entry)) (now (dst .exit)) r ⌝ }
+    ensures { λ r. ⌜ Extended (now (t .entry)) n (now (dst .entry)) (now (dst .exit)) r ⌝ }
 {
     let answer = extend_answer(t, n, dst.len());
     if let Outcome::Done = answer {
@@ -318,7 +316,7 @@ fn inverse_into(t: &[u8], dst: &mut [u8])
 
 // The inverse. Of an invalid tableau, what the same rule gives.
 pub fn inverse(t: &[u8], dst: &mut [u8]) -> Outcome
-    ensures { λ r. ⌜ Written (inverseAnswer (now (t .entry)) (length (now (dst .entry)))) (inverseRecord (now (t .entry))) (now (dst .entry)) (now (dst .exit)) r ⌝ }
+    ensures { λ r. ⌜ Inverted (now (t .entry)) (now (dst .entry)) (now (dst .exit)) r ⌝ }
 {
     let answer = inverse_answer(t, dst.len());
     if let Outcome::Done = answer {
@@ -331,7 +329,7 @@ pub fn inverse(t: &[u8], dst: &mut [u8]) -> Outcome
 
 // Whether the tableau is valid.
 pub fn is_valid(t: &[u8]) -> Flag
-    ensures { λ r. ⌜ FlagAnswered (tableauQuestions (now (t .entry))) (recordValid (now (t .entry))) r ⌝ }
+    ensures { λ r. ⌜ ValidityTold (now (t .entry)) r ⌝ }
 {
     let answer = check_tableau(t);
     match answer {
@@ -361,7 +359,7 @@ fn write_pauli(s: &[u8], dst: &mut [u8])
 
 // The string as a tableau, of width 1 where it has no letters.
 pub fn from_pauli_string(s: &[u8], dst: &mut [u8]) -> Outcome
-    ensures { λ r. ⌜ Written (pauliAnswer (now (s .entry)) (length (now (dst .entry)))) (pauliRecord (now (s .entry))) (now (dst .entry)) (now (dst .exit)) r ⌝ }
+    ensures { λ r. ⌜ FromPauliString (now (s .entry)) (now (dst .entry)) (now (dst .exit)) r ⌝ }
 {
     let answer = pauli_answer(s, dst.len());
     if let Outcome::Done = answer {
@@ -384,7 +382,7 @@ fn support_answer(t: &[u8], room: usize) -> Outcome
 
 // The qubits of the support, rising, and their number.
 pub fn support_qubits(t: &[u8], dst: &mut [u8]) -> CountAnswer
-    ensures { λ r. ⌜ CountWritten (supportAnswer (now (t .entry)) (length (now (dst .entry)))) (supportBytes (now (t .entry))) (now (dst .entry)) (now (dst .exit)) r ⌝ }
+    ensures { λ r. ⌜ SupportWritten (now (t .entry)) (now (dst .entry)) (now (dst .exit)) r ⌝ }
 {
     let answer = support_answer(t, dst.len());
     match answer {
@@ -410,7 +408,7 @@ fn display_answer(t: &[u8], room: usize) -> Outcome
 
 // The text that shows a tableau; the answer is its length.
 pub fn display(t: &[u8], dst: &mut [u8]) -> CountAnswer
-    ensures { λ r. ⌜ CountWritten (displayAnswer (now (t .entry)) (length (now (dst .entry)))) (textOfTableau (now (t .entry))) (now (dst .entry)) (now (dst .exit)) r ⌝ }
+    ensures { λ r. ⌜ Displayed (now (t .entry)) (now (dst .entry)) (now (dst .exit)) r ⌝ }
 {
     let answer = display_answer(t, dst.len());
     match answer {

@@ -3,4 +3,5 @@ pub mod ListQuestions
 pub mod Runs
 pub mod Reports
 pub mod OrderedLists
+pub mod Promises
 pub mod Inside

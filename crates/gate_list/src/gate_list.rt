@@ -1,12 +1,10 @@
 // Gate lists: what is asked of them, their run, and what is written of it.
 ghost use mathlib.Core.Path.{_≡_};
 ghost use Rattle.gate_list.specs.ListQuestions.{listQuestions};
-ghost use lib.ListN.{length};
-ghost use Rattle.pauli.specs.Answers.{CountWritten};
-ghost use Rattle.gate_list.specs.Reports.{reportAnswer, reportText};
 ghost use Rattle.gate_list.specs.Inside.Reports.{WorkRoom};
-ghost use Rattle.gate_list.specs.Runs.{RunAnswered, runAnswer, runRecord, stepCount};
+ghost use Rattle.gate_list.specs.Runs.{runAnswer};
 ghost use Rattle.gate_list.specs.Inside.Reading.{NoneMet, BeforeHead, linksQuestion};
+ghost use Rattle.gate_list.specs.Promises.{ListRun, Reported};
 use crate::chain::check_chain;
 use crate::questions::check_head;
 use crate::questions::check_link;
@@ -66,7 +64,7 @@ fn run_answer(list: &[u8], room: usize) -> Outcome
 
 // The tableau of all gates on the chain, each composed on the left; the answer is their number.
 pub fn run(list: &[u8], dst: &mut [u8]) -> CountAnswer
-    ensures { λ r. ⌜ RunAnswered (runAnswer (now (list .entry)) (length (now (dst .entry)))) (stepCount (now (list .entry))) (runRecord (now (list .entry))) (now (dst .entry)) (now (dst .exit)) r ⌝ }
+    ensures { λ r. ⌜ ListRun (now (list .entry)) (now (dst .entry)) (now (dst .exit)) r ⌝ }
 {
     let answer = run_answer(list, dst.len());
     match answer {
@@ -80,7 +78,7 @@ pub fn run(list: &[u8], dst: &mut [u8]) -> CountAnswer
 
 fn report_with(list: &[u8], work: &mut [u8], out: &mut [u8]) -> CountAnswer
     requires { ⌜ WorkRoom (now work) ⌝ }
-    ensures { λ r. ⌜ CountWritten (reportAnswer (now (list .entry)) (length (now (out .entry)))) (reportText (now (list .entry))) (now (out .entry)) (now (out .exit)) r ⌝ }
+    ensures { λ r. ⌜ Reported (now (list .entry)) (now (out .entry)) (now (out .exit)) r ⌝ }
 {
     let answer = check_list(list);
     match answer {
@@ -91,7 +89,7 @@ fn report_with(list: &[u8], work: &mut [u8], out: &mut [u8]) -> CountAnswer
 
 // The display text of the run, or the text of the refusal; the answer is its length.
 pub fn report(list: &[u8], out: &mut [u8]) -> CountAnswer
-    ensures { λ r. ⌜ CountWritten (reportAnswer (now (list .entry)) (length (now (out .entry)))) (reportText (now (list .entry))) (now (out .entry)) (now (out .exit)) r ⌝ }
+    ensures { λ r. ⌜ Reported (now (list .entry)) (now (out .entry)) (now (out .exit)) r ⌝ }
 {
     let mut work = [0u8; 33025];
     report_with(list, &mut work, out)

@@ -1,1 +1,2 @@
 pub mod PlayQuestions
+pub mod Promises

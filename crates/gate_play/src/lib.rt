@@ -1,9 +1,7 @@
 // A gate on a tableau record, in place: its own tableau composed on the left, after all questions. Nothing of it is PECOS's.
 ghost use mathlib.Core.Path.{_≡_};
-ghost use Rattle.pauli.specs.Answers.{Written};
-ghost use Rattle.clifford.specs.Tableaux.{composeRecord};
-ghost use Rattle.clifford.specs.GateAnswers.{gateRecord};
 ghost use Rattle.gate_play.specs.PlayQuestions.{ownQubitQuestion, qubitsQuestions, playQuestions};
+ghost use Rattle.gate_play.specs.Promises.{Played};
 use clifford::layout::width;
 use clifford::playing::play_gate;
 use clifford::questions::check_different;
@@ -50,7 +48,7 @@ fn check_play(t: &[u8], gate: usize, q: usize, r: usize) -> Outcome
 
 // The gate's tableau on q0 and q1 composed on the left of the tableau t: t acts first. q1 is not looked at for gates 0 to 23.
 pub fn play(t: &mut [u8], gate: u8, q0: usize, q1: usize) -> Outcome
-    ensures { λ r. ⌜ Written (playQuestions (now (t .entry)) gate q0 q1) (composeRecord (gateRecord gate q0 q1) (now (t .entry))) (now (t .entry)) (now (t .exit)) r ⌝ }
+    ensures { λ r. ⌜ Played gate q0 q1 (now (t .entry)) (now (t .exit)) r ⌝ }
 {
     let answer = check_play(t, gate as usize, q0, q1);
     if let Outcome::Done = answer {

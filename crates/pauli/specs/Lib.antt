@@ -8,4 +8,5 @@ pub mod Strings
 pub mod Text
 pub mod SparseText
 pub mod TextWriting
+pub mod Promises
 pub mod Inside

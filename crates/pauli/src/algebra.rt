@@ -2,12 +2,12 @@
 // Copyright 2024 The PECOS Developers, Apache License, Version 2.0.
 ghost use mathlib.Core.Path.{_≡_};
 ghost use mathlib.Core.List.{_++_};
-ghost use lib.ListN.{length, drop};
-ghost use Rattle.pauli.specs.Answers.{LetterAnswered, ProductWritten};
-ghost use Rattle.pauli.specs.Questions.{pairQuestions, mulQuestions};
-ghost use Rattle.pauli.specs.Rows.{letterBytesProduct, productPhaseByte, productLetterByte};
+ghost use lib.ListN.{drop};
+ghost use Rattle.pauli.specs.Questions.{mulQuestions};
+ghost use Rattle.pauli.specs.Rows.{letterBytesProduct};
 ghost use Rattle.pauli.specs.Strings.{productRecord};
 ghost use Rattle.pauli.specs.Inside.Writing.{Operands};
+ghost use Rattle.pauli.specs.Promises.{LettersMultiplied, StringsMultiplied};
 use crate::questions::check_pair;
 use crate::questions::check_room;
 use crate::questions::check_strings;
@@ -55,7 +55,7 @@ pub fn multiply_paulis(a: u8, b: u8) -> PhasedLetter
 
 // The product of two letters, as a phase and a letter.
 pub fn letter_product(a: u8, b: u8) -> LetterAnswer
-    ensures { λ r. ⌜ LetterAnswered (pairQuestions a b) (productPhaseByte a b) (productLetterByte a b) r ⌝ }
+    ensures { λ r. ⌜ LettersMultiplied a b r ⌝ }
 {
     let answer = check_pair(a, b);
     match answer {
@@ -92,7 +92,7 @@ fn write_product(s: &[u8], t: &[u8], dst: &mut [u8])
 
 // The product s·t of two string records.
 pub fn mul(s: &[u8], t: &[u8], dst: &mut [u8]) -> Product
-    ensures { λ r. ⌜ ProductWritten (mulQuestions (now (s .entry)) (now (t .entry)) (length (now (dst .entry)))) (productRecord (now (s .entry)) (now (t .entry))) (now (dst .entry)) (now (dst .exit)) r ⌝ }
+    ensures { λ r. ⌜ StringsMultiplied (now (s .entry)) (now (t .entry)) (now (dst .entry)) (now (dst .exit)) r ⌝ }
 {
     let answer = mul_answer(s, t, dst.len());
     match answer {

@@ -8,6 +8,7 @@ ghost use Rattle.pauli.specs.Answers.{Written};
 ghost use Rattle.pauli.specs.Inside.Reading.{EndRead, DenseAt, DenseFit, lettersNamed};
 ghost use Rattle.pauli.specs.Layout.{phaseByte};
 ghost use Rattle.pauli.specs.Text.{isIdentity, textPhase, denseLetter, letterQuestions, fromDenseQuestions, denseRecord};
+ghost use Rattle.pauli.specs.Promises.{FromDenseText};
 use crate::questions::check_room;
 use crate::refusal::Outcome;
 use crate::refusal::Refusal;
@@ -136,7 +137,7 @@ fn dense_body(t: &[u8], phase: u8, body: &[u8], offset: usize, dst: &mut [u8]) -
 
 // The string of a dense text.
 pub(crate) fn dense_string(t: &[u8], dst: &mut [u8]) -> Outcome
-    ensures { λ r. ⌜ Written (fromDenseQuestions (now (t .entry)) (length (now (dst .entry)))) (denseRecord (now (t .entry))) (now (dst .entry)) (now (dst .exit)) r ⌝ }
+    ensures { λ r. ⌜ FromDenseText (now (t .entry)) (now (dst .entry)) (now (dst .exit)) r ⌝ }
 {
     let head = read_head(t);
     let at = head.at;

@@ -1,14 +1,13 @@
 // String records: reading them, comparing them, making them from entries, writing them as text. Ports pauli_string.rs of PECOS, changed:
 // Copyright 2024 The PECOS Developers, Apache License, Version 2.0.
 ghost use mathlib.Core.Path.{_≡_};
-ghost use lib.ListN.{length};
-ghost use Rattle.pauli.specs.Answers.{ByteAnswered, FlagAnswered, Written, CountWritten, yesOrNo};
+ghost use Rattle.pauli.specs.Answers.{yesOrNo};
 ghost use Rattle.pauli.specs.Inside.Marks.{Blank};
-ghost use Rattle.pauli.specs.Questions.{stringQuestions, stringsQuestions, getQuestions, withPhaseQuestions};
-ghost use Rattle.pauli.specs.SparseText.{textOfRecord, toSparseQuestions};
-ghost use Rattle.pauli.specs.Strings.{phaseOfRecord, letterOfRecord, recordsCommute, entriesRecord};
-ghost use Rattle.pauli.specs.Text.{fromSparseQuestions, sparseRecord, fromDenseQuestions, denseRecord, fromStrQuestions, textRecord};
+ghost use Rattle.pauli.specs.Questions.{getQuestions};
+ghost use Rattle.pauli.specs.SparseText.{toSparseQuestions};
+ghost use Rattle.pauli.specs.Strings.{recordsCommute};
 ghost use Rattle.pauli.specs.Inside.Writing.{Pair};
+ghost use Rattle.pauli.specs.Promises.{PhaseOfString, LetterOfString, StringsCommute, FromEntries, FromSparseText, FromDenseText, FromText, SparseTextWritten};
 use crate::dense_reader::dense_string;
 use crate::entries::read_entries;
 use crate::entries::write_marked;
@@ -28,7 +27,7 @@ use crate::text::any_digit;
 
 // The phase of a string record.
 pub fn phase(s: &[u8]) -> ByteAnswer
-    ensures { λ r. ⌜ ByteAnswered (stringQuestions (now (s .entry))) (phaseOfRecord (now (s .entry))) r ⌝ }
+    ensures { λ r. ⌜ PhaseOfString (now (s .entry)) r ⌝ }
 {
     let answer = check_string(s);
     match answer {
@@ -50,7 +49,7 @@ fn get_answer(s: &[u8], qubit: usize) -> Outcome
 
 // The letter of a string record at one qubit.
 pub fn get(s: &[u8], qubit: usize) -> ByteAnswer
-    ensures { λ r. ⌜ ByteAnswered (getQuestions (now (s .entry)) qubit) (letterOfRecord (now (s .entry)) qubit) r ⌝ }
+    ensures { λ r. ⌜ LetterOfString (now (s .entry)) qubit r ⌝ }
 {
     let answer = get_answer(s, qubit);
     match answer {
@@ -70,7 +69,7 @@ fn even_places(s: &[u8], t: &[u8]) -> Flag
 
 // Whether two string records commute.
 pub fn commutes_with(s: &[u8], t: &[u8]) -> Flag
-    ensures { λ r. ⌜ FlagAnswered (stringsQuestions (now (s .entry)) (now (t .entry))) (recordsCommute (now (s .entry)) (now (t .entry))) r ⌝ }
+    ensures { λ r. ⌜ StringsCommute (now (s .entry)) (now (t .entry)) r ⌝ }
 {
     let answer = check_strings(s, t);
     match answer {
@@ -82,7 +81,7 @@ pub fn commutes_with(s: &[u8], t: &[u8]) -> Flag
 // The string of a phase and entries. The marks are a buffer of 128 zeros.
 fn string_of_entries(phase: u8, entries: &[u8], marks: &mut [u8], dst: &mut [u8]) -> Outcome
     requires { ⌜ Blank (now marks) ⌝ }
-    ensures { λ r. ⌜ Written (withPhaseQuestions phase (now (entries .entry)) (length (now (dst .entry)))) (entriesRecord phase (now (entries .entry))) (now (dst .entry)) (now (dst .exit)) r ⌝ }
+    ensures { λ r. ⌜ FromEntries phase (now (entries .entry)) (now (dst .entry)) (now (dst .exit)) r ⌝ }
 {
     let answer = read_entries(phase, entries, marks, dst.len());
     if let Outcome::Done = answer {
@@ -93,7 +92,7 @@ fn string_of_entries(phase: u8, entries: &[u8], marks: &mut [u8], dst: &mut [u8]
 
 // The string with this phase and these entries, byte pairs (letter, qubit).
 pub fn with_phase_and_paulis(phase: u8, entries: &[u8], dst: &mut [u8]) -> Outcome
-    ensures { λ r. ⌜ Written (withPhaseQuestions phase (now (entries .entry)) (length (now (dst .entry)))) (entriesRecord phase (now (entries .entry))) (now (dst .entry)) (now (dst .exit)) r ⌝ }
+    ensures { λ r. ⌜ FromEntries phase (now (entries .entry)) (now (dst .entry)) (now (dst .exit)) r ⌝ }
 {
     let mut marks = [0u8; 128];
     string_of_entries(phase, entries, &mut marks, dst)
@@ -101,7 +100,7 @@ pub fn with_phase_and_paulis(phase: u8, entries: &[u8], dst: &mut [u8]) -> Outco
 
 // The string that a sparse text names.
 pub fn from_sparse_str(t: &[u8], dst: &mut [u8]) -> Outcome
-    ensures { λ r. ⌜ Written (fromSparseQuestions (now (t .entry)) (length (now (dst .entry)))) (sparseRecord (now (t .entry))) (now (dst .entry)) (now (dst .exit)) r ⌝ }
+    ensures { λ r. ⌜ FromSparseText (now (t .entry)) (now (dst .entry)) (now (dst .exit)) r ⌝ }
 {
     let mut marks = [0u8; 128];
     sparse_string(t, &mut marks, dst)
@@ -109,14 +108,14 @@ pub fn from_sparse_str(t: &[u8], dst: &mut [u8]) -> Outcome
 
 // The string that a dense text names.
 pub fn from_dense_str(t: &[u8], dst: &mut [u8]) -> Outcome
-    ensures { λ r. ⌜ Written (fromDenseQuestions (now (t .entry)) (length (now (dst .entry)))) (denseRecord (now (t .entry))) (now (dst .entry)) (now (dst .exit)) r ⌝ }
+    ensures { λ r. ⌜ FromDenseText (now (t .entry)) (now (dst .entry)) (now (dst .exit)) r ⌝ }
 {
     dense_string(t, dst)
 }
 
 // The string that a text names: sparse where it holds a digit, otherwise dense.
 pub fn from_str(t: &[u8], dst: &mut [u8]) -> Outcome
-    ensures { λ r. ⌜ Written (fromStrQuestions (now (t .entry)) (length (now (dst .entry)))) (textRecord (now (t .entry))) (now (dst .entry)) (now (dst .exit)) r ⌝ }
+    ensures { λ r. ⌜ FromText (now (t .entry)) (now (dst .entry)) (now (dst .exit)) r ⌝ }
 {
     if any_digit(t) {
         return from_sparse_str(t, dst);
@@ -137,7 +136,7 @@ fn to_sparse_answer(s: &[u8], room: usize) -> Outcome
 
 // The sparse text of a string record; the answer is its length.
 pub fn to_sparse_str(s: &[u8], dst: &mut [u8]) -> CountAnswer
-    ensures { λ r. ⌜ CountWritten (toSparseQuestions (now (s .entry)) (length (now (dst .entry)))) (textOfRecord (now (s .entry))) (now (dst .entry)) (now (dst .exit)) r ⌝ }
+    ensures { λ r. ⌜ SparseTextWritten (now (s .entry)) (now (dst .entry)) (now (dst .exit)) r ⌝ }
 {
     let answer = to_sparse_answer(s, dst.len());
     match answer {

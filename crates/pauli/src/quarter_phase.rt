@@ -1,10 +1,10 @@
 // Phases. Ports quarter_phase.rs of PECOS, changed: Apache License, Version 2.0.
 ghost use mathlib.Core.Path.{_≡_};
 ghost use Rattle.pauli_group.specs.Phase.{isReal};
-ghost use Rattle.pauli.specs.Answers.{ByteAnswered, FlagAnswered, yesOrNo};
+ghost use Rattle.pauli.specs.Answers.{yesOrNo};
 ghost use Rattle.pauli.specs.Layout.{phaseOf};
-ghost use Rattle.pauli.specs.Questions.{byteQuestion, pairQuestions};
-ghost use Rattle.pauli.specs.Rows.{phaseBytesProduct, conjugateByte};
+ghost use Rattle.pauli.specs.Rows.{conjugateByte};
+ghost use Rattle.pauli.specs.Promises.{PhasesMultiplied, PhaseConjugated, PhaseIsReal};
 use crate::questions::check_byte;
 use crate::questions::check_pair;
 use crate::refusal::ByteAnswer;
@@ -14,7 +14,7 @@ use crate::rows::phase_times;
 
 // The product of two phases.
 pub fn multiply(a: u8, b: u8) -> ByteAnswer
-    ensures { λ r. ⌜ ByteAnswered (pairQuestions a b) (phaseBytesProduct a b) r ⌝ }
+    ensures { λ r. ⌜ PhasesMultiplied a b r ⌝ }
 {
     let answer = check_pair(a, b);
     match answer {
@@ -36,7 +36,7 @@ pub fn phase_conjugate(p: u8) -> u8
 }
 
 pub fn conjugate(p: u8) -> ByteAnswer
-    ensures { λ r. ⌜ ByteAnswered (byteQuestion p) (conjugateByte p) r ⌝ }
+    ensures { λ r. ⌜ PhaseConjugated p r ⌝ }
 {
     let answer = check_byte(p);
     match answer {
@@ -58,7 +58,7 @@ fn real_phase(p: u8) -> Flag
 }
 
 pub fn is_real(p: u8) -> Flag
-    ensures { λ r. ⌜ FlagAnswered (byteQuestion p) (isReal (phaseOf p)) r ⌝ }
+    ensures { λ r. ⌜ PhaseIsReal p r ⌝ }
 {
     let answer = check_byte(p);
     match answer {

@@ -1,11 +1,11 @@
 // Sparse text, token by token: each letter with its index is read and its qubit marked. Ports `from_sparse_str` of pauli_string.rs of
 // PECOS, changed: Copyright 2024 The PECOS Developers, Apache License, Version 2.0.
 ghost use mathlib.Core.Path.{_≡_};
-ghost use lib.ListN.{length, drop};
-ghost use Rattle.pauli.specs.Answers.{Written};
+ghost use lib.ListN.{drop};
 ghost use Rattle.pauli.specs.Inside.Marks.{Blank};
 ghost use Rattle.pauli.specs.Inside.Reading.{indexAnswer, LetterAt, WordAt, EntryRead, entryAfter, BodyAt, TokensRead, SparseAt, SparseRead};
-ghost use Rattle.pauli.specs.Text.{tokens, fromSparseQuestions, sparseRecord};
+ghost use Rattle.pauli.specs.Text.{tokens};
+ghost use Rattle.pauli.specs.Promises.{FromSparseText};
 use crate::entries::check_marks_and_room;
 use crate::entries::mark;
 use crate::entries::write_marked;
@@ -150,7 +150,7 @@ fn sparse_answer(t: &[u8], at: usize, marks: &mut [u8], room: usize) -> Outcome
 // The string of a sparse text. The marks are a buffer of 128 zeros.
 pub(crate) fn sparse_string(t: &[u8], marks: &mut [u8], dst: &mut [u8]) -> Outcome
     requires { ⌜ Blank (now marks) ⌝ }
-    ensures { λ r. ⌜ Written (fromSparseQuestions (now (t .entry)) (length (now (dst .entry)))) (sparseRecord (now (t .entry))) (now (dst .entry)) (now (dst .exit)) r ⌝ }
+    ensures { λ r. ⌜ FromSparseText (now (t .entry)) (now (dst .entry)) (now (dst .exit)) r ⌝ }
 {
     let head = read_head(t);
     let at = head.at;

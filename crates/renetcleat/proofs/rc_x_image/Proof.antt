@@ -1,0 +1,12 @@
+-- `rc_x_image` meets its contract.
+use Rattle.renetcleat.proofs.Replying.{replies}
+use Rattle.renetcleat.proofs.rc_x_image.Statement.{statement}
+use Rattle.renetcleat.proofs.rc_x_image.Tie as tie
+
+pub rc-x-image-spec : {M : Type 1} → statement M
+rc-x-image-spec =
+    tie.close
+    (tie.spec
+    (λ c κs. search replies)
+    (λ c κs. search replies)
+    (λ c. search replies))
