@@ -1,7 +1,8 @@
 /* Pauli strings and Clifford tableaux over byte records: the C interface.
  *
- * Link with target/staticlib/librenetcleat.a, which `rt staticlib renetcleat` writes: x86-64 Linux, calls by the System V convention. It
- * needs memcpy and memset, of any C library, and nothing else: no heap, no input or output, no writable data of its own.
+ * Link with target/staticlib/librenetcleat.a, which `rt staticlib renetcleat` writes: x86-64 Linux, calls by the System V
+ * convention. It needs memcpy and memset, of any C library, and nothing else: no heap, no input or output, no writable data of its
+ * own.
  *
  * Records
  *   phase byte    0 is +1, 1 is -1, 2 is +i, 3 is -i
@@ -11,34 +12,14 @@
  *   entries       pairs of bytes: letter, qubit
  *   gate list     1 to 4096 records of six bytes: gate, qubit, second qubit (0 for a one-qubit gate), 0, next index low, high;
  *                 record 0 is the head: 0, width, 0, 0, next low, high; next 0 ends the chain
- *   gate          0 to 23 act on one qubit, 24 to 37 on two
+ *   gate          a number of enum rc_gate: 0 to 23 act on one qubit, 24 to 37 on two
+ *   text          ASCII, by its length: a zero byte ends nothing, and none is put behind what is written
  *
  * Replies
- *   Every function takes any bytes of any length and replies with two numbers: 0 and a value, or a refusal's number and its detail.
+ *   Every function takes any bytes of any length and replies with two numbers: 0 and a value, or a refusal's number (enum
+ *   rc_refusal) and its detail. The value is 0 where none is named below.
  *   A refusal writes nothing. An answer writes its own bytes at the start of the destination and leaves what lies behind them;
  *   rc_set_x_image, rc_set_z_image and rc_play change the tableau itself and have no destination.
- *
- *   number  question                                                       detail
- *    0      (none: the value is the answer, and 0 where none is named below)
- *    1      is the width at most 128?                                      0
- *    2      is the length exact?                                           0
- *    3      is every phase and letter at most 3?                           the first bad offset; 0 for a byte given by itself
- *    4      is the gate at most 37, or 23 where one qubit is meant?        0; in a list the record
- *    5      is each qubit below 128, or below the width (rc_play, list)?   the qubit; in a list the record
- *    6      are two qubits different?                                      the qubit; in a list the record
- *    7      is the destination long enough for this answer?                0
- *    8      is every byte of the text below 128?                           its offset
- *    9      is it a known letter?                                          its offset
- *   10      is there an index?                                             the letter's offset
- *   11      is it a numeral below 2^64?                                    the numeral's offset
- *   12      is each qubit named once?                                      the smallest duplicated qubit
- *   13      is the qubit of a non-I letter below 128?                      the offset of numeral or letter
- *   14      is the image inside the width?                                 its lowest qubit outside
- *   15      is the slot below the width?                                   the slot
- *   16      is the list a multiple of 6 bytes, from 6 to 24576?            0
- *   17      are the head and the fixed zeros right?                        the record
- *   18      is the next index below the record count?                      the record holding it
- *   19      does the chain end?                                            the record met again
  *
  * The one thing trusted
  *   A pointer is valid for its length: to be read, and to be written where it is not const. A destination overlaps no other buffer
@@ -61,6 +42,74 @@ struct rc_reply {
     uint64_t value;
 };
 
+/* Questions on entry that were answered with no: the reply's number. After the semicolon its detail, 0 where none is named. */
+enum rc_refusal {
+    RC_REFUSED_WIDTH = 1,        /* a width is above 128 */
+    RC_REFUSED_LENGTH = 2,       /* a length is not exact */
+    RC_REFUSED_BAD_BYTE = 3,     /* a phase or letter is above 3; the first such offset, 0 for a byte given by itself */
+    RC_REFUSED_GATE = 4,         /* a gate is above 37, or above 23 where one qubit is meant; in a list the record */
+    RC_REFUSED_QUBIT = 5,        /* a qubit is not below 128, or the width (rc_play, list); the qubit, in a list the record */
+    RC_REFUSED_SAME_QUBIT = 6,   /* two qubits are equal; the qubit, in a list the record */
+    RC_REFUSED_ROOM = 7,         /* the destination is too short for this answer */
+    RC_REFUSED_NOT_ASCII = 8,    /* a byte of the text is above 127; its offset */
+    RC_REFUSED_NOT_LETTER = 9,   /* no known letter; its offset */
+    RC_REFUSED_NO_INDEX = 10,    /* a letter has no index; the letter's offset */
+    RC_REFUSED_NOT_NUMERAL = 11, /* an index is no numeral below 2^64; the numeral's offset */
+    RC_REFUSED_DUPLICATE = 12,   /* a qubit is named twice; the smallest such qubit */
+    RC_REFUSED_TEXT_QUBIT = 13,  /* the qubit of a non-I letter is not below 128; the offset of numeral or letter */
+    RC_REFUSED_IMAGE_WIDTH = 14, /* an image reaches outside the width; its lowest qubit outside */
+    RC_REFUSED_SLOT = 15,        /* a slot is not below the width; the slot */
+    RC_REFUSED_LIST_LENGTH = 16, /* a list is no multiple of 6 bytes, or not from 6 to 24576 */
+    RC_REFUSED_LIST_RECORD = 17, /* the head or a fixed zero is wrong; the record */
+    RC_REFUSED_LINK = 18,        /* a next index is not below the record count; the record holding it */
+    RC_REFUSED_LOOP = 19         /* the chain does not end; the record met again */
+};
+
+/* Gates by number, named as in PECOS's `Clifford`; DG is the inverse. */
+enum rc_gate {
+    RC_I = 0,
+    RC_X = 1,
+    RC_Y = 2,
+    RC_Z = 3,
+    RC_H = 4,
+    RC_H2 = 5,
+    RC_H3 = 6,
+    RC_H4 = 7,
+    RC_H5 = 8,
+    RC_H6 = 9,
+    RC_SX = 10,
+    RC_SXDG = 11,
+    RC_SY = 12,
+    RC_SYDG = 13,
+    RC_SZ = 14,
+    RC_SZDG = 15,
+    RC_F = 16,
+    RC_FDG = 17,
+    RC_F2 = 18,
+    RC_F2DG = 19,
+    RC_F3 = 20,
+    RC_F3DG = 21,
+    RC_F4 = 22,
+    RC_F4DG = 23,
+    /* on two qubits */
+    RC_CX = 24,
+    RC_CY = 25,
+    RC_CZ = 26,
+    RC_SWAP = 27,
+    RC_SXX = 28,
+    RC_SXXDG = 29,
+    RC_SYY = 30,
+    RC_SYYDG = 31,
+    RC_SZZ = 32,
+    RC_SZZDG = 33,
+    RC_ISWAP = 34,
+    RC_ISWAPDG = 35,
+    RC_G = 36,
+    RC_GDG = 37
+};
+/* The value of rc_from_clifford_rep where no gate matches: an answer, and no gate to call with. */
+#define RC_NO_GATE 255
+
 /* Lengths in bytes. */
 #define RC_STRING_LENGTH 129
 #define RC_TABLEAU_LENGTH(n) (1 + 2 * (size_t)(n) * ((size_t)(n) + 1))
@@ -69,8 +118,6 @@ struct rc_reply {
 #define RC_SPARSE_MOST 531
 #define RC_DISPLAY_MOST 138813
 #define RC_REPORT_MOST 138557
-/* The value of rc_from_clifford_rep where no gate matches. */
-#define RC_NO_GATE 255
 
 /* ---- phases and letters */
 
@@ -96,13 +143,13 @@ struct rc_reply rc_mul(const uint8_t *s, size_t s_len, const uint8_t *t, size_t 
 /* Writes the string of a phase and entries, 129 bytes. */
 struct rc_reply rc_with_phase_and_paulis(uint8_t phase, const uint8_t *entries, size_t entries_len, uint8_t *dst, size_t dst_len);
 /* Writes the string of a sparse text, as "-i X0 z 7": 129 bytes. */
-struct rc_reply rc_from_sparse_str(const uint8_t *text, size_t text_len, uint8_t *dst, size_t dst_len);
+struct rc_reply rc_from_sparse_str(const char *text, size_t text_len, uint8_t *dst, size_t dst_len);
 /* Writes the string of a dense text, as "-iXIIIIIIZ": 129 bytes. */
-struct rc_reply rc_from_dense_str(const uint8_t *text, size_t text_len, uint8_t *dst, size_t dst_len);
+struct rc_reply rc_from_dense_str(const char *text, size_t text_len, uint8_t *dst, size_t dst_len);
 /* Writes the string of a text, sparse where it has a digit, otherwise dense: 129 bytes. */
-struct rc_reply rc_from_str(const uint8_t *text, size_t text_len, uint8_t *dst, size_t dst_len);
-/* Writes the string's sparse text; the value is its length, at most RC_SPARSE_MOST. No zero byte is put behind it. */
-struct rc_reply rc_to_sparse_str(const uint8_t *s, size_t s_len, uint8_t *dst, size_t dst_len);
+struct rc_reply rc_from_str(const char *text, size_t text_len, uint8_t *dst, size_t dst_len);
+/* Writes the string's sparse text; the value is its length, at most RC_SPARSE_MOST. */
+struct rc_reply rc_to_sparse_str(const uint8_t *s, size_t s_len, char *dst, size_t dst_len);
 
 /* ---- tableaux */
 
@@ -131,9 +178,8 @@ struct rc_reply rc_support_qubits(const uint8_t *t, size_t t_len, uint8_t *dst, 
 /* Writes the tableau of conjugation by the string s; its phase is dropped. The width is 1 + the highest qubit with a letter, 1
  * where there is none. */
 struct rc_reply rc_from_pauli_string(const uint8_t *s, size_t s_len, uint8_t *dst, size_t dst_len);
-/* Writes the tableau's text, a line for each generator; the value is its length, at most RC_DISPLAY_MOST. No zero byte is put
- * behind it. */
-struct rc_reply rc_display(const uint8_t *t, size_t t_len, uint8_t *dst, size_t dst_len);
+/* Writes the tableau's text, a line for each generator; the value is its length, at most RC_DISPLAY_MOST. */
+struct rc_reply rc_display(const uint8_t *t, size_t t_len, char *dst, size_t dst_len);
 
 /* ---- gates */
 
@@ -163,7 +209,7 @@ struct rc_reply rc_from_clifford_rep(const uint8_t *t, size_t t_len);
 struct rc_reply rc_run(const uint8_t *list, size_t list_len, uint8_t *dst, size_t dst_len);
 /* Writes what the program writes of the list: its run's display text, or "refused N at D" and a newline; the value is its length,
  * at most RC_REPORT_MOST. A list's refusal is text here: only 7 is ever replied. */
-struct rc_reply rc_report(const uint8_t *list, size_t list_len, uint8_t *out, size_t out_len);
+struct rc_reply rc_report(const uint8_t *list, size_t list_len, char *out, size_t out_len);
 
 #ifdef __cplusplus
 }

@@ -1,11 +1,11 @@
-/* A Bell pair: H on qubit 0, then CX from 0 to 1. Composes the two, shows the tableau, and undoes it. */
+/* A Bell pair: H on qubit 0, then CX from 0 to 1. Composes the two, shows the tableau, sends a string through it, and undoes it. */
 #include "renetcleat.h"
 
 #include <stdio.h>
 #include <stdlib.h>
 #include <string.h>
 
-enum { H = 4, CX = 24, WIDTH = 2, LENGTH = RC_TABLEAU_LENGTH(WIDTH) };
+enum { WIDTH = 2, LENGTH = RC_TABLEAU_LENGTH(WIDTH) };
 
 static const char EXPECTED[] = "CliffordRep(2 qubits):\n"
                                "  X_0 -> +Z0\n"
@@ -32,16 +32,26 @@ static void expect(const char *what, int held) {
 /* The pair's tableau. The gate that acts first stands on the right. */
 static void bell(uint8_t pair[LENGTH]) {
     uint8_t h[RC_TABLEAU_LENGTH(1)], cx[LENGTH];
-    value("on_qubit", rc_on_qubit(H, 0, h, sizeof h));
-    value("on_qubits", rc_on_qubits(CX, 0, 1, cx, sizeof cx));
+    value("on_qubit", rc_on_qubit(RC_H, 0, h, sizeof h));
+    value("on_qubits", rc_on_qubits(RC_CX, 0, 1, cx, sizeof cx));
     value("compose", rc_compose(cx, sizeof cx, h, sizeof h, pair, LENGTH));
 }
 
 static void show(const uint8_t pair[LENGTH]) {
-    uint8_t text[200];
+    char text[200];
     size_t length = value("display", rc_display(pair, LENGTH, text, sizeof text));
     fwrite(text, 1, length, stdout);
     expect("text", length == strlen(EXPECTED) && memcmp(text, EXPECTED, length) == 0);
+}
+
+/* The pair sends X0 to Z0 and Z1 to Z0 Z1, so the product X0 Z1 to Z1. */
+static void send(const uint8_t pair[LENGTH]) {
+    uint8_t s[RC_STRING_LENGTH], image[RC_STRING_LENGTH];
+    char text[RC_SPARSE_MOST];
+    value("from_str", rc_from_str("X0 Z1", 5, s, sizeof s));
+    value("apply", rc_apply(pair, LENGTH, s, sizeof s, image, sizeof image));
+    size_t length = value("to_sparse_str", rc_to_sparse_str(image, sizeof image, text, sizeof text));
+    expect("image", length == 3 && memcmp(text, "+Z1", 3) == 0);
 }
 
 /* The inverse, composed with the pair, is the identity. */
@@ -59,7 +69,7 @@ static void refused(const uint8_t pair[LENGTH]) {
     memset(small, 0xaa, sizeof small);
     memcpy(before, small, sizeof before);
     struct rc_reply reply = rc_inverse(pair, LENGTH, small, sizeof small);
-    expect("refusal", reply.number == 7 && reply.value == 0 && memcmp(small, before, sizeof small) == 0);
+    expect("refusal", reply.number == RC_REFUSED_ROOM && reply.value == 0 && memcmp(small, before, sizeof small) == 0);
 }
 
 int main(void) {
@@ -67,6 +77,7 @@ int main(void) {
     bell(pair);
     expect("valid", value("is_valid", rc_is_valid(pair, sizeof pair)) == 1);
     show(pair);
+    send(pair);
     undo(pair);
     refused(pair);
     return 0;

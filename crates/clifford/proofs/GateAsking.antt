@@ -1,10 +1,11 @@
 -- The questions put to gates, and what they let by.
-use mathlib.Core.Path.{_≡_, sym, ap, _∙_, subst}
+use mathlib.Core.Path.{_≡_, refl, sym, ap, ap₂, _∙_}
 use mathlib.Core.Bool.{cond, not}
 use mathlib.Core.Logic.{_≢_}
 use mathlib.Core.List.{List}
-use Prim.Native.Nat.{ℕ, suc, max, _+_, _≤_, _<_}
+use Prim.Native.Nat.{ℕ, _+_, _≤_, _<_}
 use native.Mathlib.Omega.{arith}
+use native.Mathlib.Decide.{decLt}
 use lib.Dec.{ltb, eqb}
 use lib.ListN.{length}
 use mir.Syntax.{w64}
@@ -12,33 +13,39 @@ use mir.Val.{Fits}
 use borrow.Author.Needs.{needs}
 use borrow.Author.Tests.{lt-ltb, le-ltb, eq-eqb, ne-eqb, ltb-true, eqb-false, not-true}
 use Rattle.pauli.specs.declared.refusal.Refusal.{Refusal}
-use Rattle.pauli.specs.declared.refusal.Refusal.the-variants.{Gate, SameQubit}
+use Rattle.pauli.specs.declared.refusal.Refusal.the-variants.{Gate, Qubit, SameQubit}
 use Rattle.pauli.specs.declared.refusal.Outcome.{Outcome}
 use Rattle.pauli.specs.declared.refusal.Outcome.the-variants.{Done, Refused}
-use Rattle.pauli.specs.Answers.{written}
-use Rattle.pauli.specs.Questions.{_andThen_, qubitQuestion, roomQuestion}
-use Rattle.pauli.proofs.Answers.{answers}
-use Rattle.pauli.proofs.Asking.{asked-yes, asked-no, ask-done, refused, passed, done-first, done-second, qubit-below, room-is}
+use Rattle.pauli.specs.Answers.{Written}
+use Rattle.pauli.specs.Questions.{_andThen_, roomQuestion}
+use Rattle.pauli.proofs.Asking.{asked-yes, asked-no, ask-done, done-first, done-second}
 use Rattle.clifford_gates.specs.GateNumbers.{gateTableau}
 use Rattle.clifford.specs.Layout.{recordLength, tableauRecord}
-use Rattle.clifford.specs.Inside.Rows.{Sized}
-use Rattle.clifford.specs.GateQuestions.{gateQuestion, differentQuestion, secondQuestions, gateWidth, onQubitsQuestions, onQubitsAnswer, onQubitQuestions}
-use Rattle.clifford.specs.GateAnswers.{gateRecord}
-use Rattle.clifford.specs.Inside.GateRows.{GateOn, GateSpan, GateFits, WritesGate}
-use Rattle.clifford.proofs.GateWriting.{width-narrow}
+use Rattle.pauli_group.specs.PauliString.{qubits}
+use Rattle.clifford_group.specs.Tableau.{widen}
+use Rattle.clifford_group.proofs.Same.{same-refl}
+use Rattle.clifford.specs.Questions.{widthQuestion}
+use Rattle.clifford.proofs.Asking.{width-done}
+use Rattle.clifford.specs.declared.writing.Made.the-variants.{OfGate}
+use Rattle.clifford.specs.GateQuestions.{gateQuestion, differentQuestion, ownQubitQuestion, qubitsQuestions, gateWidth, onQubitsQuestions, onQubitsAnswer, onWidthQuestions, onWidthAnswer}
+use Rattle.clifford.specs.GateAnswers.{gateRecord, widthGateRecord}
+use Rattle.clifford.specs.Inside.GateRows.{GateOn, GateSpan}
+use Rattle.clifford.specs.Inside.Made.{madeTableau, MadeFrom, Makes}
+use Rattle.clifford.proofs.GateWriting.{width-narrow, gate-width, width-one, width-two, widened-own}
+use Rattle.clifford.proofs.Answers.{made-answer, refused-answer}
 
 -- ---- one question
 pub gate-in : {limit g : ℕ} → g < limit → Done ≡ gateQuestion limit g
 unfolding gateQuestion
-gate-in {limit} {g} h = asked-yes (Gate 0) (lt-ltb g limit h)
+gate-in {limit} {g} h = asked-yes Gate (lt-ltb g limit h)
 
-pub gate-out : {limit g : ℕ} → limit ≤ g → Refused (Gate 0) ≡ gateQuestion limit g
+pub gate-out : {limit g : ℕ} → limit ≤ g → Refused Gate ≡ gateQuestion limit g
 unfolding gateQuestion
-gate-out {limit} {g} h = asked-no (Gate 0) (le-ltb g limit h)
+gate-out {limit} {g} h = asked-no Gate (le-ltb g limit h)
 
 pub gate-below : (limit g : ℕ) → gateQuestion limit g ≡ Done → g < limit
 unfolding gateQuestion
-gate-below limit g e = ltb-true g limit (ask-done (ltb g limit) (Gate 0) e)
+gate-below limit g e = ltb-true g limit (ask-done (ltb g limit) Gate e)
 
 pub qubits-equal : {q r : ℕ} → q ≡ r → Refused (SameQubit q) ≡ differentQuestion q r
 unfolding differentQuestion
@@ -52,85 +59,71 @@ pub are-different : (q r : ℕ) → differentQuestion q r ≡ Done → q ≢ r
 unfolding differentQuestion
 are-different q r e = eqb-false q r (not-true (eqb q r) (ask-done (not (eqb q r)) (SameQubit q) e))
 
--- ---- the second qubit
-second-passed : (g q r : ℕ) → g < 24 → secondQuestions g q r ≡ Done
-unfolding secondQuestions
-second-passed g q r h = ap (λ b. cond b Done (qubitQuestion r andThen differentQuestion q r)) (lt-ltb g 24 h)
+pub own-in : {w q : ℕ} → q < w → Done ≡ ownQubitQuestion w q
+unfolding ownQubitQuestion
+own-in {w} {q} h = asked-yes (Qubit q) (lt-ltb q w h)
 
-second-asked : (g q r : ℕ) → 24 ≤ g → secondQuestions g q r ≡ (qubitQuestion r andThen differentQuestion q r)
-unfolding secondQuestions
-second-asked g q r h = ap (λ b. cond b Done (qubitQuestion r andThen differentQuestion q r)) (le-ltb g 24 h)
+pub own-out : {w q : ℕ} → w ≤ q → Refused (Qubit q) ≡ ownQubitQuestion w q
+unfolding ownQubitQuestion
+own-out {w} {q} h = asked-no (Qubit q) (le-ltb q w h)
 
-pub second-free : {g : ℕ} (q r : ℕ) → g ≤ 23 → Done ≡ secondQuestions g q r
-second-free {g} q r h = sym (second-passed g q r (omega arith))
+pub own-below : (w q : ℕ) → ownQubitQuestion w q ≡ Done → q < w
+unfolding ownQubitQuestion
+own-below w q e = ltb-true q w (ask-done (ltb q w) (Qubit q) e)
 
-pub second-high : {g : ℕ} (q r : ℕ) {a : Outcome} {x : Refusal} → 23 < g → a ≡ qubitQuestion r → a ≡ Refused x → a ≡ secondQuestions g q r
-second-high {g} q r h e f = refused (differentQuestion q r) e f ∙ sym (second-asked g q r (omega arith))
+-- ---- the qubits of a gate
+then-done : (a : Outcome) → a ≡ (a andThen Done)
+unfolding _andThen_
+then-done Done = refl
+then-done (Refused r) = refl
 
-pub second-other : {g : ℕ} (q r : ℕ) {a b : Outcome} → 23 < g → a ≡ qubitQuestion r → a ≡ Done → b ≡ differentQuestion q r → b ≡ secondQuestions g q r
-second-other {g} q r h e f d = passed e f d ∙ sym (second-asked g q r (omega arith))
+qubits-of-one : (w g q r : ℕ) → g < 24 → (ownQubitQuestion w q andThen Done) ≡ qubitsQuestions w g q r
+unfolding qubitsQuestions
+qubits-of-one w g q r h = sym (ap (λ b. ownQubitQuestion w q andThen cond b Done (ownQubitQuestion w r andThen differentQuestion q r)) (lt-ltb g 24 h))
 
--- ---- a gate and its qubits
-pub gate-refused : (g q r : ℕ) {a : Outcome} {x : Refusal} → a ≡ gateQuestion 38 g → a ≡ Refused x → a ≡ onQubitsQuestions g q r
-unfolding onQubitsQuestions
-gate-refused g q r e f = refused _ e f
+pub qubits-of-two : (w g q r : ℕ) → 24 ≤ g → (ownQubitQuestion w q andThen ownQubitQuestion w r andThen differentQuestion q r) ≡ qubitsQuestions w g q r
+unfolding qubitsQuestions
+qubits-of-two w g q r h = sym (ap (λ b. ownQubitQuestion w q andThen cond b Done (ownQubitQuestion w r andThen differentQuestion q r)) (le-ltb g 24 h))
 
-pub qubit-refused : (g q r : ℕ) {a b : Outcome} {x : Refusal} → a ≡ gateQuestion 38 g → a ≡ Done → b ≡ qubitQuestion q → b ≡ Refused x → b ≡ onQubitsQuestions g q r
-unfolding onQubitsQuestions
-qubit-refused g q r e f d h = passed e f (refused _ d h)
+pub qubits-one : (w : ℕ) {g : ℕ} (q r : ℕ) {a : Outcome} → g ≤ 23 → a ≡ ownQubitQuestion w q → a ≡ qubitsQuestions w g q r
+qubits-one w {g} q r h e = e ∙ then-done (ownQubitQuestion w q) ∙ qubits-of-one w g q r (omega arith)
 
-pub both-asked : (g q r : ℕ) {a b c : Outcome} → a ≡ gateQuestion 38 g → a ≡ Done → b ≡ qubitQuestion q → b ≡ Done → c ≡ secondQuestions g q r → c ≡ onQubitsQuestions g q r
-unfolding onQubitsQuestions
-both-asked g q r e f d h k = passed e f (passed d h k)
+pub qubits-two : (w : ℕ) {g : ℕ} (q r : ℕ) {a b c d o : Outcome} → 23 < g → a ≡ ownQubitQuestion w q → b ≡ ownQubitQuestion w r
+    → c ≡ differentQuestion q r → d ≡ (b andThen c) → o ≡ (a andThen d)
+    → o ≡ qubitsQuestions w g q r
+qubits-two w {g} q r h ea eb ec ed eo = eo ∙ ap₂ _andThen_ ea (ed ∙ ap₂ _andThen_ eb ec) ∙ qubits-of-two w g q r (omega arith)
 
-pub one-refused : (g q : ℕ) {a : Outcome} {x : Refusal} → a ≡ gateQuestion 24 g → a ≡ Refused x → a ≡ onQubitQuestions g q
-unfolding onQubitQuestions
-one-refused g q e f = refused _ e f
+pub ruleset gate-questions = (gate-in, gate-out, qubits-equal, qubits-differ, own-in, own-out, qubits-one, qubits-two, needs)
 
-pub one-asked : (g q : ℕ) {a b : Outcome} → a ≡ gateQuestion 24 g → a ≡ Done → b ≡ qubitQuestion q → b ≡ onQubitQuestions g q
-unfolding onQubitQuestions
-one-asked g q e f d = passed e f d
+-- ---- what they let by: a gate with a place on w qubits
+module _ (w g q r : ℕ) (n : w ≤ 128) (e : (gateQuestion 38 g andThen qubitsQuestions w g q r) ≡ Done) where
+  placed : qubitsQuestions w g q r ≡ Done
+  placed = done-second (gateQuestion 38 g) _ e
 
-pub ruleset gate-questions = (
-  gate-in,
-  gate-out,
-  qubits-equal,
-  qubits-differ,
-  second-free,
-  second-high,
-  second-other,
-  gate-refused,
-  qubit-refused,
-  both-asked,
-  one-refused,
-  one-asked,
-  needs,
-)
+  first : q < w
+  first = unfold qubitsQuestions in own-below w q (done-first _ _ placed)
 
--- ---- what they let by
-on-qubits-done : (g q r : ℕ) → onQubitsQuestions g q r ≡ Done → GateOn g q r
-unfolding onQubitsQuestions
-on-qubits-done g q r e =
-    let rest = done-second (gateQuestion 38 g) _ e in
-    let second = done-second (qubitQuestion q) _ rest in
-    record {
-      gate = gate-below 38 g (done-first _ _ e);
-      first = qubit-below q (done-first _ _ rest);
-      second = λ h. qubit-below r (done-first _ _ (sym (second-asked g q r h) ∙ second));
-      different = λ h. are-different q r (done-second (qubitQuestion r) _ (sym (second-asked g q r h) ∙ second));
-    }
+  two : 24 ≤ g → (ownQubitQuestion w r andThen differentQuestion q r) ≡ Done
+  two h = done-second (ownQubitQuestion w q) _ (qubits-of-two w g q r h ∙ placed)
 
-pub gate-is-on : (g q r : ℕ) {a : Outcome} → a ≡ onQubitsQuestions g q r → a ≡ Done → GateOn g q r
-gate-is-on g q r e f = on-qubits-done g q r (sym e ∙ f)
+  second : 24 ≤ g → r < w
+  second h = own-below w r (done-first _ _ (two h))
 
-pub width-one : (g q r : ℕ) → g < 24 → gateWidth g q r ≡ suc q
-unfolding gateWidth
-width-one g q r h = ap (λ b. cond b (suc q) (suc (max q r))) (lt-ltb g 24 h)
+  pub placed-on : GateOn g q r
+  placed-on = record {
+    gate = gate-below 38 g (done-first _ _ e);
+    first = omega (arith, first);
+    second = λ h. omega (arith, second h);
+    different = λ h. are-different q r (done-second (ownQubitQuestion w r) _ (two h));
+  }
 
-width-two : (g q r : ℕ) → 24 ≤ g → gateWidth g q r ≡ suc (max q r)
-unfolding gateWidth
-width-two g q r h = ap (λ b. cond b (suc q) (suc (max q r))) (le-ltb g 24 h)
+  pub placed-inside : gateWidth g q r ≤ w
+  placed-inside = elim (decLt g 24) [
+    | yes l ↦ omega (arith, first, width-one g q r l)
+    | no l ↦ let m : 24 ≤ g = omega arith in omega (arith, first, second m, width-two g q r m)
+  ]
 
+-- ---- its width
 module _ {g q r : ℕ} (o : GateOn g q r) where
   span : {w : ℕ} → w ≡ gateWidth g q r → GateSpan g q r w
   span e = record { is = e; small = width-narrow o e }
@@ -149,40 +142,56 @@ module _ {g q r : ℕ} (o : GateOn g q r) where
 
 pub ruleset gate-spans = (span-one, span-second, span-first, second-fits, needs)
 
-pub on-qubits-room : (g q r room : ℕ) {w n : ℕ} {a b : Outcome} → a ≡ onQubitsQuestions g q r → a ≡ Done → GateSpan g q r w → Sized (recordLength w) n → b ≡ roomQuestion n room
-    → b ≡ onQubitsAnswer g q r room
-unfolding onQubitsAnswer
-on-qubits-room g q r room e f s z d = passed e f (d ∙ ap (λ (j : ℕ). roomQuestion j room) (z .is ∙ ap recordLength (s .is)))
+-- ---- a gate at its own width
+module _ (g q r : ℕ) {a b x : Outcome} (ea : a ≡ gateQuestion 38 g) (eb : b ≡ qubitsQuestions 128 g q r) (ex : x ≡ (a andThen b)) where
+  asked : x ≡ onQubitsQuestions g q r
+  unfolding onQubitsQuestions qubits
+  asked = ex ∙ ap₂ _andThen_ ea eb
 
-pub on-qubits-refused : (g q r room : ℕ) {a : Outcome} {x : Refusal} → a ≡ onQubitsQuestions g q r → a ≡ Refused x → a ≡ onQubitsAnswer g q r room
-unfolding onQubitsAnswer
-on-qubits-refused g q r room e f = refused _ e f
+  module _ (h : x ≡ Done) where
+    pub gate-on : GateOn g q r
+    gate-on = placed-on 128 g q r (omega arith) (sym (ex ∙ ap₂ _andThen_ ea eb) ∙ h)
 
-pub span-small : {g q r w : ℕ} → GateSpan g q r w → w ≤ 128
-span-small s = s .small
+    pub gate-makes : {w : ℕ} (c f : List ℕ) → GateSpan g q r w → Makes (OfGate g q r) c f w
+    unfolding MadeFrom
+    gate-makes c f s = record { from = record { on = gate-on; wide = omega (arith, s .is) }; narrow = s .small }
 
-pub gate-fits : (g q r : ℕ) (d : List ℕ) {a : Outcome} → a ≡ onQubitsAnswer g q r (length d) → a ≡ Done → GateFits g q r d
-unfolding onQubitsAnswer
-gate-fits g q r d e f =
-    let done : onQubitsQuestions g q r andThen roomQuestion (recordLength (gateWidth g q r)) (length d) ≡ Done = sym e ∙ f in
-    record {
-      on = on-qubits-done g q r (done-first _ _ done);
-      room = room-is (recordLength (gateWidth g q r)) (length d) (done-second (onQubitsQuestions g q r) _ done);
-    }
+    pub gate-written : {w : ℕ} {y : Outcome} (c f d e : List ℕ) → GateSpan g q r w
+        → Written (roomQuestion (recordLength w) (length d)) (tableauRecord (madeTableau (OfGate g q r) c f w)) d e y → Written (onQubitsAnswer g q r (length d)) (gateRecord g q r) d e y
+    unfolding onQubitsAnswer gateRecord madeTableau
+    gate-written {w} c f d e s o = made-answer asked h (s .is) (widened-own w (gateTableau g q r) (omega (arith, s .is, gate-width g q r))) o
 
-pub fits-on : {g q r : ℕ} {d : List ℕ} → GateFits g q r d → GateOn g q r
-fits-on o = o .on
+  pub gate-refused : {y : Refusal} (d : List ℕ) → x ≡ Refused y → Written (onQubitsAnswer g q r (length d)) (gateRecord g q r) d d x
+  unfolding onQubitsAnswer
+  gate-refused d h = refused-answer _ _ d asked h
 
-pub fits-written : {g q r w : ℕ} {d : List ℕ} → GateFits g q r d → GateSpan g q r w → WritesGate g q r w d
-fits-written {g} {q} {r} {w} {d} o s = record {
-  on = o .on;
-  wide = s .is;
-  narrow = s .small;
-  room = subst (λ (j : ℕ). recordLength j ≤ length d) (sym (s .is)) (o .room);
-}
+pub ruleset gate-answers = (gate-on, gate-makes, gate-written, gate-refused, needs)
 
-pub gate-record : (g q r : ℕ) (d : List ℕ) {e : List ℕ} → e ≡ written Done (tableauRecord (gateTableau g q r)) d → e ≡ written Done (gateRecord g q r) d
-unfolding gateRecord
-gate-record g q r d h = h
+-- ---- a gate at the width n
+module _ (n g q r : ℕ) {a b c u x : Outcome} (eu : u ≡ (b andThen c)) (ex : x ≡ (a andThen u)) (ea : a ≡ widthQuestion n) (eb : b ≡ gateQuestion 38 g) (ec : c ≡ qubitsQuestions n g q r) where
+  asked-width : x ≡ onWidthQuestions n g q r
+  unfolding onWidthQuestions
+  asked-width = ex ∙ ap₂ _andThen_ ea (eu ∙ ap₂ _andThen_ eb ec)
 
-pub ruleset gate-answers = (gate-is-on, on-qubits-room, on-qubits-refused, span-small, gate-fits, fits-on, fits-written, gate-record, answers, needs)
+  module _ (h : x ≡ Done) where
+    narrow : n ≤ 128
+    narrow = width-done ea (done-first a u (sym ex ∙ h))
+
+    put : (gateQuestion 38 g andThen qubitsQuestions n g q r) ≡ Done
+    put = sym (eu ∙ ap₂ _andThen_ eb ec) ∙ done-second a u (sym ex ∙ h)
+
+    pub width-makes : (d e : List ℕ) → Makes (OfGate g q r) d e n
+    unfolding MadeFrom
+    width-makes d e = record { from = record { on = placed-on n g q r narrow put; wide = placed-inside n g q r narrow put }; narrow = narrow }
+
+    pub width-written : {y : Outcome} (k f d e : List ℕ)
+        → Written (roomQuestion (recordLength n) (length d)) (tableauRecord (madeTableau (OfGate g q r) k f n)) d e y
+        → Written (onWidthAnswer n g q r (length d)) (widthGateRecord n g q r) d e y
+    unfolding onWidthAnswer widthGateRecord madeTableau
+    width-written k f d e o = made-answer asked-width h refl (same-refl (widen n (gateTableau g q r))) o
+
+  pub width-refused : {y : Refusal} (d : List ℕ) → x ≡ Refused y → Written (onWidthAnswer n g q r (length d)) (widthGateRecord n g q r) d d x
+  unfolding onWidthAnswer
+  width-refused d h = refused-answer _ _ d asked-width h
+
+pub ruleset width-answers = (width-makes, width-written, width-refused, needs)

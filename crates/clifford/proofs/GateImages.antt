@@ -8,7 +8,7 @@ use lib.ListN.{length, getD}
 use borrow.Author.Needs.{needs}
 use Rattle.pauli_group.specs.Phase.{PlusI, _·_}
 use Rattle.pauli_group.specs.Letter.{letterMul, letterPhase}
-use Rattle.clifford_gates.specs.Gates.{Image, OneQubit, PairImage, TwoQubit}
+use Rattle.clifford_gates.specs.Gates.{OneQubit, TwoQubit}
 use Rattle.clifford_gates.specs.GateNumbers.{twoQubitGate}
 use Rattle.clifford_gates.specs.Updates.{timesI, letterImage}
 use Rattle.pauli.specs.Layout.{phaseByte, phaseOf, letterByte, letterOf}
@@ -16,9 +16,8 @@ use Rattle.pauli.specs.Rows.{phaseBytesProduct, productPhaseByte, productLetter
 use Rattle.pauli.specs.declared.algebra.PhasedLetter.{PhasedLetter}
 use Rattle.pauli.proofs.Cases.{three-up}
 use Rattle.pauli.proofs.Records.{phase-back, letter-back}
-use Rattle.clifford.specs.declared.gates.PairBytes.{PairBytes}
 use Rattle.clifford.specs.GateRows.{imageBytes, yBytes, ImageOf}
-use Rattle.clifford.specs.Inside.GateRows.{pairBytes, TakesTwo, generatorImage, PairOf}
+use Rattle.clifford.specs.Inside.GateRows.{pairBytes, PairOf, TakesTwo, EntryPlace, entryPair}
 
 -- ---- a table in bytes: its entries are those of the table of gates
 abbrev pub in-bytes : {A : Type 0} → (A → List ℕ) → List A → List (List ℕ)
@@ -31,12 +30,6 @@ entry-bytes f (a ∷ rest) d zero h = refl
 entry-bytes f (a ∷ rest) d (suc k) h = entry-bytes f rest d k (le-of-suc-le-suc h)
 
 -- ---- images of one-qubit gates
-abbrev byteImage : Image → PhasedLetter
-byteImage i = (phaseByte (i .phase), letterByte (i .letter))
-
-image-bytes : (i : Image) → ImageOf i (byteImage i)
-image-bytes i = record { phase = refl; letter = refl }
-
 image-at : (g : OneQubit) {l k : ℕ} {r : PhasedLetter} → l ≡ k → ImageOf (letterImage g (letterOf k)) r → ImageOf (letterImage g (letterOf l)) r
 image-at g {l} {k} {r} e h = subst (λ (j : ℕ). ImageOf (letterImage g (letterOf j)) r) (sym e) h
 
@@ -81,43 +74,33 @@ two-from t = t .from
 
 pub ruleset two-numbers = (two-number, two-from, needs)
 
-generator-X : (x z : PairImage) {l : ℕ} → l ≡ 1 → x ≡ generatorImage x z l
-unfolding generatorImage
-generator-X x z e = ap (generatorImage x z) (sym e)
+pub place-two : {g k : ℕ} → EntryPlace g k → TakesTwo g
+place-two o = o .two
 
-generator-Z : (x z : PairImage) (l : ℕ) → (l ≡ 1 → ⊥) → z ≡ generatorImage x z l
-unfolding generatorImage
-generator-Z x z zero h = refl
-generator-Z x z (suc zero) h = absurd (h refl)
-generator-Z x z (suc (suc l)) h = refl
+pub place-inside : {g k : ℕ} → EntryPlace g k → k ≤ 9
+place-inside o = o .inside
 
--- the four parts of an entry
-abbrev part : List ℕ → ℕ → PairBytes
-part e k = (getD e k 0, getD e (1 + k) 0, getD e (2 + k) 0)
+pub pair-read : (g k q r : ℕ) {e : List ℕ} → e ≡ pairBytes (twoQubitGate g)
+    → record { sign = getD e k 0; first = getD e (k + 1) 0; place = q; second = getD e (k + 2) 0; other = r } ≡ entryPair (pairBytes (twoQubitGate g)) k q r
+unfolding entryPair
+pair-read g k q r h = ap (λ (l : List ℕ). entryPair l k q r) h
 
-parts : (g : TwoQubit) → PairOf (g .x0) (part (pairBytes g) 0) × PairOf (g .x1) (part (pairBytes g) 3) × PairOf (g .z0) (part (pairBytes g) 6) × PairOf (g .z1) (part (pairBytes g) 9)
-unfolding pairBytes
-parts g = (
-  record { phase = refl; first = refl; second = refl },
-  record { phase = refl; first = refl; second = refl },
-  record { phase = refl; first = refl; second = refl },
-  record { phase = refl; first = refl; second = refl },
-)
+pub ruleset pair-reads = (place-two, place-inside, pair-read, needs)
 
-module _ (g : ℕ) {e : List ℕ} (p : e ≡ pairBytes (twoQubitGate g)) where
-  part-of : (k : ℕ) {i j : PairImage} → i ≡ j → PairOf i (part (pairBytes (twoQubitGate g)) k) → PairOf j (part e k)
-  part-of k {i} {j} q h = subst (λ x. PairOf x (part e k)) q (subst (λ x. PairOf i (part x k)) (sym p) h)
+-- the four images of an entry
+module _ (g : TwoQubit) (q r : ℕ) where
+  pub at-x0 : PairOf (g .x0) (entryPair (pairBytes g) 0 q r)
+  unfolding pairBytes entryPair
+  at-x0 = record { phase = refl; first = refl; second = refl }
 
-  pub first-X : {l : ℕ} → l ≡ 1 → PairOf (generatorImage (twoQubitGate g .x0) (twoQubitGate g .z0) l) (getD e 0 0, getD e 1 0, getD e 2 0)
-  first-X h = part-of 0 (generator-X _ _ h) (parts (twoQubitGate g) .0)
+  pub at-x1 : PairOf (g .x1) (entryPair (pairBytes g) 3 q r)
+  unfolding pairBytes entryPair
+  at-x1 = record { phase = refl; first = refl; second = refl }
 
-  pub first-Z : {l : ℕ} → (l ≡ 1 → ⊥) → PairOf (generatorImage (twoQubitGate g .x0) (twoQubitGate g .z0) l) (getD e 6 0, getD e 7 0, getD e 8 0)
-  first-Z {l} h = part-of 6 (generator-Z _ _ l h) (parts (twoQubitGate g) .2)
+  pub at-z0 : PairOf (g .z0) (entryPair (pairBytes g) 6 q r)
+  unfolding pairBytes entryPair
+  at-z0 = record { phase = refl; first = refl; second = refl }
 
-  pub second-X : {l : ℕ} → l ≡ 1 → PairOf (generatorImage (twoQubitGate g .x1) (twoQubitGate g .z1) l) (getD e 3 0, getD e 4 0, getD e 5 0)
-  second-X h = part-of 3 (generator-X _ _ h) (parts (twoQubitGate g) .1)
-
-  pub second-Z : {l : ℕ} → (l ≡ 1 → ⊥) → PairOf (generatorImage (twoQubitGate g .x1) (twoQubitGate g .z1) l) (getD e 9 0, getD e 10 0, getD e 11 0)
-  second-Z {l} h = part-of 9 (generator-Z _ _ l h) (parts (twoQubitGate g) .3)
-
-pub ruleset pair-images = (first-X, first-Z, second-X, second-Z, needs)
+  pub at-z1 : PairOf (g .z1) (entryPair (pairBytes g) 9 q r)
+  unfolding pairBytes entryPair
+  at-z1 = record { phase = refl; first = refl; second = refl }

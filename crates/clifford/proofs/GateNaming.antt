@@ -25,12 +25,11 @@ use Rattle.pauli.specs.declared.algebra.PhasedLetter.{PhasedLetter}
 use Rattle.pauli.specs.Layout.{phaseByte, phaseOf, letterByte, letterOf}
 use Rattle.pauli.specs.Rows.{phaseBytesProduct}
 use Rattle.pauli.proofs.Records.{phase-back, letter-back}
-use Rattle.clifford.specs.Layout.{widthOf, tableauOf, rowOf, FormedTableau}
-use Rattle.clifford.specs.Inside.Rows.{OwnRow, OwnLetter}
+use Rattle.clifford.specs.Layout.{widthOf, tableauOf, rowOf, readRow, FormedTableau}
 use Rattle.clifford.specs.GateAnswers.{recordName}
 use Rattle.clifford.specs.GateRows.{imageBytes, ImageOf}
 use Rattle.clifford.specs.Inside.GateRows.{imageHeld, minusByte, signedBytes, sameEntry, firstEntry, NameIs, BothSmall}
-use Rattle.clifford.proofs.TableauRecords.{width-of}
+use Rattle.clifford.proofs.Rows.{read-own, width-of}
 
 -- ---- signs and entries
 pub minus-one : {p : ℕ} → p ≡ 1 → 1 ≡ minusByte p
@@ -96,7 +95,8 @@ pub record NoneBefore (e : List ℕ) (g : ℕ) : Type 0 where
   pub within : g ≤ 24
   pub none : (k : ℕ) → k < g → sameEntry (imageBytes (oneQubitGate k)) e ≡ false
 
-first-at : {A : Type 0} (f : A → Bool) (l : List A) (d : A) (g : ℕ) → g < length l → ((k : ℕ) → k < g → f (getD l k d) ≡ false) → f (getD l g d) ≡ true → g ≡ firstWith f l
+first-at : {A : Type 0} (f : A → Bool) (l : List A) (d : A) (g : ℕ) → g < length l → ((k : ℕ) → k < g → f (getD l k d) ≡ false)
+    → f (getD l g d) ≡ true → g ≡ firstWith f l
 unfolding firstWith
 first-at f [] d g h n t = absurd (not-suc-le-zero h)
 first-at f (a ∷ l) d zero h n t = sym (ap (λ b. cond b 0 (suc (firstWith f l))) t)
@@ -201,18 +201,6 @@ unfolding recordName
 no-name t e h = record { is = sym (name-none (tableauOf t) (λ q. h (e ∙ sym (width-of t) ∙ q))); small = omega arith }
 
 module _ {t : List ℕ} (f : FormedTableau t) {w : ℕ} (e : w ≡ widthOf t) (one : w ≡ 1) where
-  pub x-row : OwnRow t 0
-  x-row = record { tableau = f; own = omega (arith, e, one) }
-
-  pub z-row : OwnRow t 1
-  z-row = record { tableau = f; own = omega (arith, e, one) }
-
-  pub x-letter : OwnLetter t 0 0
-  x-letter = record { row = x-row; qubit = omega (arith, e, one) }
-
-  pub z-letter : OwnLetter t 1 0
-  z-letter = record { row = z-row; qubit = omega (arith, e, one) }
-
   T : Tableau
   T = tableauOf t
 
@@ -227,23 +215,29 @@ module _ {t : List ℕ} (f : FormedTableau t) {w : ℕ} (e : w ≡ widthOf t) (o
     ap (λ (j : ℕ). cond (ltb 1 j) (tableauOf t .xImage 1) (tableauOf t .zImage (1 - j))) wide,
   )
 
-  pub name-found : (a : ℕ) {b : ℕ} (c : ℕ) {d r : ℕ} {es : List ℕ} → phaseOf a ≡ rowOf (tableauOf t) 0 .phase → b ≡ letterByte (rowOf (tableauOf t) 0 .letters 0)
-      → phaseOf c ≡ rowOf (tableauOf t) 1 .phase → d ≡ letterByte (rowOf (tableauOf t) 1 .letters 0) → es ≡ signedBytes (a, b) (c, d) → NameIs (firstEntry es) r → NameIs (recordName t) r
+  x-read : readRow t 0 ≡ tableauOf t .xImage 0
+  x-read = read-own t 0 (f .narrow) (omega (arith, e, one)) ∙ rows .0
+
+  z-read : readRow t 1 ≡ tableauOf t .zImage 0
+  z-read = read-own t 1 (f .narrow) (omega (arith, e, one)) ∙ rows .1
+
+  pub name-found : {a b c d r : ℕ} {es : List ℕ} → a ≡ phaseByte (readRow t 0 .phase) → b ≡ letterByte (readRow t 0 .letters 0)
+      → c ≡ phaseByte (readRow t 1 .phase) → d ≡ letterByte (readRow t 1 .letters 0) → es ≡ signedBytes (a, b) (c, d) → NameIs (firstEntry es) r → NameIs (recordName t) r
   unfolding recordName T
-  name-found a {b} c {d} ha hb hc hd he n = record {
+  name-found {a} {b} {c} {d} ha hb hc hd he n = record {
     is = n .is ∙ ap firstEntry he ∙ first-named (oneQubit (imageIn (tableauOf t .xImage 0)) (imageIn (tableauOf t .zImage 0))) (a, b) (c, d) held ∙ sym (name-one (tableauOf t) wide);
     small = n .small;
   }
     where
       held : Holds (oneQubit (imageIn (tableauOf t .xImage 0)) (imageIn (tableauOf t .zImage 0))) (a, b) (c, d)
       held = record {
-        xPhase = ha ∙ ap (λ (s : PauliString). s .phase) (rows .0);
-        xLetter = hb ∙ ap (λ (s : PauliString). letterByte (s .letters 0)) (rows .0);
-        zPhase = hc ∙ ap (λ (s : PauliString). s .phase) (rows .1);
-        zLetter = hd ∙ ap (λ (s : PauliString). letterByte (s .letters 0)) (rows .1);
+        xPhase = ap phaseOf ha ∙ phase-back _ ∙ ap (λ (s : PauliString). s .phase) x-read;
+        xLetter = hb ∙ ap (λ (s : PauliString). letterByte (s .letters 0)) x-read;
+        zPhase = ap phaseOf hc ∙ phase-back _ ∙ ap (λ (s : PauliString). s .phase) z-read;
+        zLetter = hd ∙ ap (λ (s : PauliString). letterByte (s .letters 0)) z-read;
       }
 
-pub ruleset record-names = (no-name, x-row, z-row, x-letter, z-letter, name-found, needs)
+pub ruleset record-names = (no-name, name-found, needs)
 
 -- ---- products by number
 pub sent-made : (g : OneQubit) (i : PhasedLetter) {m : PhasedLetter} {p : ℕ} → ImageOf (letterImage g (letterOf (i .1))) m → p ≡ phaseBytesProduct (i .0) (m .0)
@@ -255,7 +249,8 @@ held-image : (i : Image) (r : PhasedLetter) → ImageOf i r → imageHeld r ≡ 
 unfolding imageHeld
 held-image i r h = ap₂ (λ (p : Phase) (l : Letter). record { phase = p; letter = l }) (ap phaseOf (h .phase) ∙ phase-back (i .phase)) (ap letterOf (h .letter) ∙ letter-back (i .letter))
 
-held-both : (G H : OneQubit) {i j x z : PhasedLetter} → ImageOf (H .x) i → ImageOf (H .z) j → ImageOf (sentImage G (imageHeld i)) x → ImageOf (sentImage G (imageHeld j)) z
+held-both : (G H : OneQubit) {i j x z : PhasedLetter} → ImageOf (H .x) i → ImageOf (H .z) j → ImageOf (sentImage G (imageHeld i)) x
+    → ImageOf (sentImage G (imageHeld j)) z
     → Holds (composeImages G H) x z
 unfolding composeImages
 held-both G H {i} {j} {x} {z} hi hj hx hz = record {
@@ -265,7 +260,8 @@ held-both G H {i} {j} {x} {z} hi hj hx hz = record {
   zLetter = hz .letter ∙ ap (λ k. letterByte (sentImage G k .letter)) (held-image (H .z) j hj);
 }
 
-pub name-composed : {g h r : ℕ} {i j x z : PhasedLetter} {es : List ℕ} → BothSmall g h → ImageOf (letterImage (oneQubitGate h) (letterOf 1)) i → ImageOf (letterImage (oneQubitGate h) (letterOf 2)) j
+pub name-composed : {g h r : ℕ} {i j x z : PhasedLetter} {es : List ℕ} → BothSmall g h
+    → ImageOf (letterImage (oneQubitGate h) (letterOf 1)) i → ImageOf (letterImage (oneQubitGate h) (letterOf 2)) j
     → ImageOf (sentImage (oneQubitGate g) (imageHeld i)) x → ImageOf (sentImage (oneQubitGate g) (imageHeld j)) z → es ≡ signedBytes x z → NameIs (firstEntry es) r → NameIs (composeGate g h) r
 unfolding letterImage letterOf
 name-composed {g} {h} {r} {i} {j} {x} {z} b hi hj hx hz he n = record {

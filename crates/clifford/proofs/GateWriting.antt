@@ -1,43 +1,43 @@
--- The rows of a gate's tableau, and the tableau written.
+-- The images of a gate on any qubit, as strings and as work rows.
 use mathlib.Core.Path.{_≡_, refl, sym, ap, ap₂, _∙_, subst}
 use mathlib.Core.Bool.{Bool, true, false, cond}
-use mathlib.Core.Logic.{_≢_}
 use mathlib.Core.List.{List}
-use Prim.Native.Nat.{ℕ, zero, suc, max, _+_, _*_, _-_, _≤_, _<_}
+use Prim.Native.Nat.{ℕ, zero, suc, max, _≤_, _<_, _*_, _-_}
 use native.Mathlib.Nat.{not-suc-le-zero}
 use native.Mathlib.Omega.{arith}
+use native.Mathlib.Decide.{decLt}
 use lib.Dec.{ltb, eqb}
-use lib.ListN.{length, set, take, drop, replicate}
+use lib.ListN.{length}
+use mir.Syntax.{w64}
+use mir.Val.{Fits}
 use borrow.Author.Needs.{needs}
 use borrow.Author.Tests.{lt-ltb, le-ltb, eq-eqb, ne-eqb, ltb-false}
 use Rattle.pauli_group.specs.Phase.{Phase}
-use Rattle.pauli_group.specs.Letter.{Letter, I, X, Z}
-use Rattle.pauli_group.specs.PauliString.{PauliString, mul, scale, identityString, single, Within}
+use Rattle.pauli_group.specs.Letter.{I, X, Z}
+use Rattle.pauli_group.specs.PauliString.{PauliString, qubits, mul, scale, identityString, single, Within}
 use Rattle.pauli_group.proofs.Strings.{scale-mul, identity-mul, mul-identity, scale-one, within-scale, within-single, within-mul, within-identity}
-use Rattle.clifford_group.specs.Tableau.{Tableau, rowImage}
+use Rattle.clifford_group.specs.Tableau.{Tableau, rowImage, imageOf, widen, Proper, Same}
+use Rattle.clifford_group.proofs.Images.{image-own, image-above}
 use Rattle.clifford_group.proofs.Singles.{single-I}
 use Rattle.clifford_gates.specs.Gates.{Image, oneQubitGates, PairImage}
 use Rattle.clifford_gates.specs.GateTableaux.{imageString, gateOnEach, unchanged, onQubit, pairString, pairRow, onQubits}
 use Rattle.clifford_gates.specs.GateNumbers.{oneQubitGate, twoQubitGate, gateTableau}
 use Rattle.clifford_gates.specs.Updates.{letterImage}
+use Rattle.clifford_gates.proofs.GateNames.{gate-one, gate-clifford}
 use Rattle.pauli.specs.declared.algebra.PhasedLetter.{PhasedLetter}
-use Rattle.pauli.specs.declared.refusal.Outcome.the-variants.{Done}
-use Rattle.pauli.specs.Answers.{written}
-use Rattle.pauli.specs.Layout.{phaseOf, letterByte, letterOf, encodeString}
+use Rattle.pauli.specs.Layout.{phaseOf, letterOf, encodeString}
 use Rattle.pauli.proofs.Places.{from}
 use Rattle.pauli.proofs.Records.{phase-back, phase-small, letter-back, length-encode}
-use Rattle.clifford.specs.declared.gates.PairBytes.{PairBytes}
 use Rattle.clifford.specs.declared.gates.RowImage.{RowImage}
-use Rattle.clifford.specs.Layout.{rowOffset, rowOf, tableauRecord, rowQubit, rowLetter}
-use Rattle.clifford.specs.Inside.Rows.{Sized, Finished, ClearRow, WorkPlace, rowTimes, rowWritten, clearedRow, lettersIn, stringIn}
+use Rattle.clifford.specs.Inside.Rows.{ClearRow, WorkPlace, rowTimes, clearedRow, lettersIn}
 use Rattle.clifford.specs.Inside.Writing.{IsGenerator}
 use Rattle.clifford.specs.GateQuestions.{gateWidth}
 use Rattle.clifford.specs.GateRows.{ImageOf}
-use Rattle.clifford.specs.Inside.GateRows.{PairOf, generatorImage, TakesTwo, rowImageString, OneRow, pairOn, RowImageOf, GateOn, ImageAsked, PutsImage, WritesGate, WritesGateRow, WritesGateBy}
-use Rattle.clifford.proofs.RecordWriting.{RowsTo, rows-none, rows-all, rows-room, rows-start, rows-index, rows-more, rows-length, encoded-row, put-row, put-room, zeros-long, some-room, letter-of-row, qubit-below, row-made}
-use Rattle.clifford.proofs.Sendings.{length-cleared, cleared-formed}
+use Rattle.clifford.specs.Inside.GateRows.{pairBytes, PairOf, generatorImage, EntryPlace, rowImageString, OneRow, entryPair, RowImageOf, GateOn, ImageAsked, PutsImage}
+use Rattle.clifford.proofs.GateImages.{at-x0, at-x1, at-z0, at-z1}
+use Rattle.clifford.proofs.RowWriting.{encoded-row}
+use Rattle.clifford.proofs.Apply.{length-cleared, cleared-formed}
 use Rattle.clifford.proofs.WorkRows.{length-times, times-formed}
-use Rattle.clifford.proofs.PauliTableaux.{generator-is}
 
 -- ---- images as strings
 image-string : (i : Image) (k : ℕ) {r : PhasedLetter} → ImageOf i r → scale (phaseOf (r .0)) (mul (single (letterOf (r .1)) k) (single I k)) ≡ imageString i k
@@ -51,12 +51,36 @@ pub one-made : (i : Image) (k : ℕ) {r : PhasedLetter} → ImageOf i r
 unfolding rowImageString letterOf
 one-made i k {r} h = record { string = image-string i k h; sign = omega (arith, h .phase, phase-small (i .phase)); first = refl; second = refl }
 
-pair-made : (i : PairImage) (q r : ℕ) {p : PairBytes} → PairOf i p → rowImageString (pairOn p q r) ≡ pairString i q r
-unfolding rowImageString pairOn pairString
-pair-made i q r {p} h =
+pair-made : (i : PairImage) {q r : ℕ} {x : RowImage} → PairOf i x → x .place ≡ q → x .other ≡ r → rowImageString x ≡ pairString i q r
+unfolding rowImageString pairString
+pair-made i {q} {r} {x} h ep eo =
     ap₂ scale (ap phaseOf (h .phase) ∙ phase-back (i .phase))
-    (ap₂ mul (ap (λ (l : ℕ). single (letterOf l) q) (h .first) ∙ ap (λ l. single l q) (letter-back (i .first)))
-    (ap (λ (l : ℕ). single (letterOf l) r) (h .second) ∙ ap (λ l. single l r) (letter-back (i .second))))
+    (ap₂ mul (ap₂ single (ap letterOf (h .first) ∙ letter-back (i .first)) ep) (ap₂ single (ap letterOf (h .second) ∙ letter-back (i .second)) eo))
+
+-- ---- the width
+pub gate-width : (g q r : ℕ) → gateTableau g q r .width ≡ gateWidth g q r
+unfolding gateTableau gateWidth onQubit gateOnEach onQubits
+gate-width g q r = by (ltb g 24)
+  where
+    by : (b : Bool) → cond b (onQubit (oneQubitGate g) q) (onQubits (twoQubitGate g) q r) .width ≡ cond b (suc q) (suc (max q r))
+    by true = refl
+    by false = refl
+
+pub width-narrow : {g q r w : ℕ} → GateOn g q r → w ≡ gateWidth g q r → w ≤ 128
+unfolding gateWidth
+width-narrow {g} {q} {r} {w} o e = by (ltb g 24) refl
+  where
+    by : (b : Bool) → ltb g 24 ≡ b → w ≤ 128
+    by true h = omega (arith, o .first, e ∙ ap (λ b. cond b (suc q) (suc (max q r))) h)
+    by false h = omega (arith, o .first, o .second (ltb-false g 24 h), e ∙ ap (λ b. cond b (suc q) (suc (max q r))) h)
+
+pub width-one : (g q r : ℕ) → g < 24 → gateWidth g q r ≡ suc q
+unfolding gateWidth
+width-one g q r h = ap (λ b. cond b (suc q) (suc (max q r))) (lt-ltb g 24 h)
+
+pub width-two : (g q r : ℕ) → 24 ≤ g → gateWidth g q r ≡ suc (max q r)
+unfolding gateWidth
+width-two g q r h = ap (λ b. cond b (suc q) (suc (max q r))) (le-ltb g 24 h)
 
 -- ---- a gate's image of X or of Z
 by-generator : (P : ℕ → Type 0) → P 1 → P 2 → (l : ℕ) → IsGenerator l → P l
@@ -96,7 +120,8 @@ module _ (g q r k : ℕ) where
   unfolding gateTableau
   is-two h = ap (λ b. cond b (onQubit (oneQubitGate g) q) (onQubits (twoQubitGate g) q r)) (le-ltb g 24 h)
 
-  row-on : (l : ℕ) → IsGenerator l → rowImage (onQubit (oneQubitGate g) q) k (letterOf l) ≡ imageString (letterImage (cond (eqb k q) (oneQubitGate g) unchanged) (letterOf l)) k
+  row-on : (l : ℕ) → IsGenerator l
+      → rowImage (onQubit (oneQubitGate g) q) k (letterOf l) ≡ imageString (letterImage (cond (eqb k q) (oneQubitGate g) unchanged) (letterOf l)) k
   unfolding rowImage onQubit gateOnEach letterImage letterOf
   row-on l h = by-generator (λ l. rowImage (onQubit (oneQubitGate g) q) k (letterOf l) ≡ imageString (letterImage (cond (eqb k q) (oneQubitGate g) unchanged) (letterOf l)) k) refl refl l h
 
@@ -116,86 +141,94 @@ module _ (g q r k : ℕ) where
   row-two : (l : ℕ) → IsGenerator l → 24 ≤ g → rowImage T k (letterOf l) ≡ pairRow q r (firstOf l) (secondOf l) (letterOf l) k
   row-two l h s = ap (λ t. rowImage t k (letterOf l)) (is-two s) ∙ row-pair l h
 
-  width-two : 24 ≤ g → gateWidth g q r ≡ suc (max q r)
-  unfolding gateWidth
-  width-two h = ap (λ b. cond b (suc q) (suc (max q r))) (le-ltb g 24 h)
+  itself : (l : ℕ) → IsGenerator l → imageString (letterImage (oneQubitGate 0) (letterOf l)) k ≡ single (letterOf l) k
+  itself l h = ap (λ x. imageString (letterImage x (letterOf l)) k) gate-zero
+      ∙ by-generator (λ l. imageString (letterImage unchanged (letterOf l)) k ≡ single (letterOf l) k) (keep-X k) (keep-Z k) l h
 
-  module _ {l : ℕ} (a : ImageAsked g q r k l) where
-    pub one-row : {m : ℕ} {i : RowImage} → g < 24 → m ≡ cond (eqb k q) g 0 → OneRow (imageString (letterImage (oneQubitGate m) (letterOf l)) k) k i
-        → RowImageOf (gateWidth g q r) (rowImage T k (letterOf l)) i
-    one-row s e o = record {
-      string = o .string ∙ ap (λ (j : ℕ). imageString (letterImage (oneQubitGate j) (letterOf l)) k) e ∙ sym (row-one l (a .letter) s);
-      sign = o .sign;
-      first = omega (arith, o .first, a .place);
-      second = omega (arith, o .second, a .place);
-    }
+  -- the image of X or Z on any qubit
+  image-one : (l : ℕ) → IsGenerator l → g < 24 → imageOf T k (letterOf l) ≡ imageString (letterImage (oneQubitGate (cond (eqb k q) g 0)) (letterOf l)) k
+  image-one l h s = elim (decLt k (T .width)) [
+    | yes b ↦ image-own T k (letterOf l) b ∙ row-one l h s
+    | no b ↦ image-above T k (letterOf l) (omega arith)
+        ∙ sym (ap (λ c. imageString (letterImage (oneQubitGate (cond c g 0)) (letterOf l)) k) (ne-eqb k q (λ e. b (omega (arith, gate-width g q r, width-one g q r s)))) ∙ itself l h)
+  ]
 
-    pub takes-two : 24 ≤ g → TakesTwo g
-    takes-two s = record { from = s; below = a .on .gate }
+  abbrev pairAtRow : ℕ → Bool → Bool → PauliString
+  pairAtRow l b c = cond b (pairString (firstOf l) q r) (cond c (pairString (secondOf l) q r) (single (letterOf l) k))
 
-    pair-row : {p : PairBytes} (i : PairImage) → 24 ≤ g → pairString i q r ≡ rowImage T k (letterOf l) → PairOf i p
-        → RowImageOf (gateWidth g q r) (rowImage T k (letterOf l)) (pairOn p q r)
-    unfolding pairOn
-    pair-row {p} i s e h = record {
-      string = pair-made i q r h ∙ e;
-      sign = omega (arith, h .phase, phase-small (i .phase));
-      first = omega (arith, width-two s);
-      second = omega (arith, width-two s);
-    }
+  image-two : (l : ℕ) → IsGenerator l → 24 ≤ g → imageOf T k (letterOf l) ≡ pairAtRow l (eqb k q) (eqb k r)
+  unfolding pairRow
+  image-two l h s = elim (decLt k (T .width)) [
+    | yes b ↦ image-own T k (letterOf l) b ∙ row-two l h s
+    | no b ↦ let away : suc (max q r) ≤ k = omega (arith, gate-width g q r, width-two g q r s) in
+        image-above T k (letterOf l) (omega arith)
+        ∙ sym (ap₂ (pairAtRow l) (ne-eqb k q (λ e. omega arith)) (ne-eqb k r (λ e. omega arith)))
+  ]
 
-    at-first : 24 ≤ g → k ≡ q → pairString (firstOf l) q r ≡ rowImage T k (letterOf l)
-    unfolding pairRow
-    at-first s e = sym (row-two l (a .letter) s ∙ ap (λ b. cond b (pairString (firstOf l) q r) (cond (eqb k r) (pairString (secondOf l) q r) (single (letterOf l) k))) (eq-eqb k q e))
+  module _ {l : ℕ} (a : ImageAsked g q r l) where
+    abbrev W : ℕ
+    W = max (gateWidth g q r) (suc k)
 
-    at-second : 24 ≤ g → k ≢ q → k ≡ r → pairString (secondOf l) q r ≡ rowImage T k (letterOf l)
-    unfolding pairRow
-    at-second s d e =
-        sym (row-two l (a .letter) s ∙ ap (λ b. cond b (pairString (firstOf l) q r) (cond (eqb k r) (pairString (secondOf l) q r) (single (letterOf l) k))) (ne-eqb k q d)
-        ∙ ap (λ b. cond b (pairString (secondOf l) q r) (single (letterOf l) k)) (eq-eqb k r e))
+    row-one-is : (m : ℕ) {i : RowImage} → OneRow (imageString (letterImage (oneQubitGate m) (letterOf l)) k) k i
+        → imageOf T k (letterOf l) ≡ imageString (letterImage (oneQubitGate m) (letterOf l)) k → RowImageOf W (imageOf T k (letterOf l)) i
+    row-one-is m o e = record { string = o .string ∙ sym e; sign = o .sign; first = omega (arith, o .first); second = omega (arith, o .second) }
 
-    at-other : 24 ≤ g → k ≢ q → k ≢ r → single (letterOf l) k ≡ rowImage T k (letterOf l)
-    unfolding pairRow
-    at-other s d e =
-        sym (row-two l (a .letter) s ∙ ap (λ b. cond b (pairString (firstOf l) q r) (cond (eqb k r) (pairString (secondOf l) q r) (single (letterOf l) k))) (ne-eqb k q d)
-        ∙ ap (λ b. cond b (pairString (secondOf l) q r) (single (letterOf l) k)) (ne-eqb k r e))
+    pub own-row : {i : RowImage} → g < 24 → k ≡ q → OneRow (imageString (letterImage (oneQubitGate g) (letterOf l)) k) k i
+        → RowImageOf W (imageOf T k (letterOf l)) i
+    own-row s e o = row-one-is g o (image-one l (a .letter) s ∙ ap (λ b. imageString (letterImage (oneQubitGate (cond b g 0)) (letterOf l)) k) (eq-eqb k q e))
 
-    pub first-row : {p : PairBytes} {o : RowImage} → 24 ≤ g → k ≡ q → PairOf (firstOf l) p → o ≡ pairOn p q r
-        → RowImageOf (gateWidth g q r) (rowImage T k (letterOf l)) o
-    first-row s e h m = subst (RowImageOf (gateWidth g q r) (rowImage T k (letterOf l))) (sym m) (pair-row (firstOf l) s (at-first s e) h)
-
-    pub second-row : {p : PairBytes} {o : RowImage} → 24 ≤ g → (k ≡ q → ⊥) → k ≡ r → PairOf (secondOf l) p → o ≡ pairOn p q r
-        → RowImageOf (gateWidth g q r) (rowImage T k (letterOf l)) o
-    second-row s d e h m = subst (RowImageOf (gateWidth g q r) (rowImage T k (letterOf l))) (sym m) (pair-row (secondOf l) s (at-second s d e) h)
-
-    itself : imageString (letterImage (oneQubitGate 0) (letterOf l)) k ≡ single (letterOf l) k
-    itself = ap (λ x. imageString (letterImage x (letterOf l)) k) gate-zero ∙ kept l (a .letter)
-      where
-        kept : (l : ℕ) → IsGenerator l → imageString (letterImage unchanged (letterOf l)) k ≡ single (letterOf l) k
-        kept l h = by-generator (λ l. imageString (letterImage unchanged (letterOf l)) k ≡ single (letterOf l) k) (keep-X k) (keep-Z k) l h
+    pub away-row : {i : RowImage} → g < 24 → (k ≡ q → ⊥) → OneRow (imageString (letterImage (oneQubitGate 0) (letterOf l)) k) k i
+        → RowImageOf W (imageOf T k (letterOf l)) i
+    away-row s d o = row-one-is 0 o (image-one l (a .letter) s ∙ ap (λ b. imageString (letterImage (oneQubitGate (cond b g 0)) (letterOf l)) k) (ne-eqb k q d))
 
     pub other-row : {i : RowImage} → 24 ≤ g → (k ≡ q → ⊥) → (k ≡ r → ⊥) → OneRow (imageString (letterImage (oneQubitGate 0) (letterOf l)) k) k i
-        → RowImageOf (gateWidth g q r) (rowImage T k (letterOf l)) i
-    other-row s d e o = record {
-      string = o .string ∙ itself ∙ at-other s d e;
-      sign = o .sign;
-      first = omega (arith, o .first, a .place);
-      second = omega (arith, o .second, a .place);
-    }
+        → RowImageOf W (imageOf T k (letterOf l)) i
+    other-row s d e o = row-one-is 0 o (image-two l (a .letter) s ∙ ap₂ (pairAtRow l) (ne-eqb k q d) (ne-eqb k r e) ∙ sym (itself l (a .letter)))
 
-pub gate-small : {g m : ℕ} (b : Bool) → g < 24 → m ≡ cond b g 0 → m < 24
-gate-small true h e = omega (arith, e)
-gate-small false h e = omega (arith, e)
+    -- the images of X start at 0 and 3 of an entry, those of Z at 6 and 9
+    module _ (s : 24 ≤ g) {n : ℕ} (en : n ≡ l) where
+      pub place-first : EntryPlace g (6 * n - 6)
+      place-first = record { two = record { from = s; below = a .on .gate }; inside = omega (arith, a .letter .small) }
 
-pub ruleset gate-images = (one-row, takes-two, first-row, second-row, other-row, gate-small, needs)
+      pub place-second : EntryPlace g (6 * n - 3)
+      place-second = record { two = record { from = s; below = a .on .gate }; inside = omega (arith, a .letter .small) }
 
--- ---- the gate on a qubit
-pub gate-here : (g : ℕ) {k q : ℕ} → k ≡ q → g ≡ cond (eqb k q) g 0
-gate-here g {k} {q} e = sym (ap (λ b. cond b g 0) (eq-eqb k q e))
+      pair-row : {x : RowImage} (i : PairImage) (m : ℕ) → PairOf i (entryPair (pairBytes (twoQubitGate g)) m q r) → imageOf T k (letterOf l) ≡ pairString i q r
+          → x ≡ entryPair (pairBytes (twoQubitGate g)) m q r → RowImageOf W (imageOf T k (letterOf l)) x
+      unfolding entryPair
+      pair-row i m h e m′ = subst (RowImageOf W (imageOf T k (letterOf l))) (sym m′) (record {
+        string = pair-made i h refl refl ∙ sym e;
+        sign = omega (arith, h .phase, phase-small (i .phase));
+        first = omega (arith, width-two g q r s);
+        second = omega (arith, width-two g q r s);
+      })
 
-pub gate-away : (g : ℕ) {k q : ℕ} → (k ≡ q → ⊥) → 0 ≡ cond (eqb k q) g 0
-gate-away g {k} {q} e = sym (ap (λ b. cond b g 0) (ne-eqb k q e))
+      pub first-row : {x : RowImage} → k ≡ q → x ≡ entryPair (pairBytes (twoQubitGate g)) (6 * n - 6) q r → RowImageOf W (imageOf T k (letterOf l)) x
+      unfolding generatorImage
+      first-row e h =
+          pair-row (firstOf l) (6 * l - 6)
+          (by-generator (λ (j : ℕ). PairOf (firstOf j) (entryPair (pairBytes (twoQubitGate g)) (6 * j - 6) q r)) (at-x0 (twoQubitGate g) q r) (at-z0 (twoQubitGate g) q r) l (a .letter))
+          (image-two l (a .letter) s ∙ ap (λ b. pairAtRow l b (eqb k r)) (eq-eqb k q e)) (h ∙ ap (λ (j : ℕ). entryPair (pairBytes (twoQubitGate g)) (6 * j - 6) q r) en)
 
-pub ruleset gates-at = (gate-here, gate-away, needs)
+      pub second-row : {x : RowImage} → (k ≡ q → ⊥) → k ≡ r → x ≡ entryPair (pairBytes (twoQubitGate g)) (6 * n - 3) q r
+          → RowImageOf W (imageOf T k (letterOf l)) x
+      unfolding generatorImage
+      second-row d e h =
+          pair-row (secondOf l) (6 * l - 3)
+          (by-generator (λ (j : ℕ). PairOf (secondOf j) (entryPair (pairBytes (twoQubitGate g)) (6 * j - 3) q r)) (at-x1 (twoQubitGate g) q r) (at-z1 (twoQubitGate g) q r) l (a .letter))
+          (image-two l (a .letter) s ∙ ap₂ (pairAtRow l) (ne-eqb k q d) (eq-eqb k r e)) (h ∙ ap (λ (j : ℕ). entryPair (pairBytes (twoQubitGate g)) (6 * j - 3) q r) en)
+
+module _ {g q r l : ℕ} (a : ImageAsked g q r l) {n : ℕ} (en : n ≡ l) where
+  pub row-fits : Fits w64 (6 * n)
+  row-fits = record { fits = omega (arith, a .letter .small) }
+
+  pub row-first : 6 ≤ 6 * n
+  row-first = omega (arith, a .letter .some)
+
+  pub row-second : 3 ≤ 6 * n
+  row-second = omega (arith, a .letter .some)
+
+pub ruleset gate-images = (own-row, away-row, other-row, place-first, place-second, first-row, second-row, row-fits, row-first, row-second, needs)
 
 -- ---- an image as a work row
 -- a work row that holds the string s, multiplied by t
@@ -257,93 +290,18 @@ module _ {i : RowImage} {d : List ℕ} (o : PutsImage i d) where
 
 pub ruleset image-puts = (put-clear, put-first, put-second, put-made, needs)
 
--- ---- one row
-pub gate-width : (g q r : ℕ) → gateTableau g q r .width ≡ gateWidth g q r
-unfolding gateTableau gateWidth onQubit gateOnEach onQubits
-gate-width g q r = by (ltb g 24)
+-- ---- a tableau of the width of a record
+pub gate-proper : {g q r : ℕ} → GateOn g q r → Proper (gateTableau g q r)
+unfolding qubits
+gate-proper {g} {q} {r} o = elim (decLt g 24) [
+  | yes l ↦ subst Proper (gate-one g q q l ∙ sym (gate-one g q r l)) (gate-clifford g q q (o .gate) (o .first) (o .first) (λ h. absurd (never l h)) .proper)
+  | no l ↦ let m : 24 ≤ g = omega arith in gate-clifford g q r (o .gate) (o .first) (o .second m) (λ h. o .different h) .proper
+]
   where
-    by : (b : Bool) → cond b (onQubit (oneQubitGate g) q) (onQubits (twoQubitGate g) q r) .width ≡ cond b (suc q) (suc (max q r))
-    by true = refl
-    by false = refl
+    never : g < 24 → 24 ≤ g → ⊥
+    never l h = omega arith
 
-pub width-narrow : {g q r w : ℕ} → GateOn g q r → w ≡ gateWidth g q r → w ≤ 128
-unfolding gateWidth
-width-narrow {g} {q} {r} {w} o e = by (ltb g 24) refl
-  where
-    by : (b : Bool) → ltb g 24 ≡ b → w ≤ 128
-    by true h = omega (arith, o .first, e ∙ ap (λ b. cond b (suc q) (suc (max q r))) h)
-    by false h = omega (arith, o .first, o .second (ltb-false g 24 h), e ∙ ap (λ b. cond b (suc q) (suc (max q r))) h)
-
-module _ {g q r w i : ℕ} {k out : List ℕ} (o : WritesGateBy g q r w i k out) where
-  pub row-asked : {c l : ℕ} → c ≡ rowQubit w i → l ≡ letterByte (rowLetter w i) → ImageAsked g q r c l
-  row-asked ec el = record {
-    on = o .row .on;
-    place = omega (arith, qubit-below w i ec (o .row .own), o .row .wide);
-    letter = generator-is w i el;
-  }
-
-  module _ {s : PauliString} {m : RowImage} (im : RowImageOf (gateWidth g q r) s m) where
-    pub row-puts : PutsImage m k
-    row-puts = record {
-      sign = im .sign;
-      first = omega (arith, im .first, o .row .wide, o .work);
-      second = omega (arith, im .second, o .row .wide, o .work);
-      narrow = omega (arith, o .work, o .row .narrow);
-    }
-
-    module _ {k₁ : List ℕ} (e₁ : k₁ ≡ encodeString (lettersIn k) (rowImageString m)) where
-      holds : k₁ ≡ encodeString w s
-      holds = let same : lettersIn k ≡ w = omega (arith, o .work) in e₁ ∙ ap₂ encodeString same (im .string)
-
-      pub row-finished : Finished k₁ out
-      row-finished = put-room w s holds (o .row .room)
-
-      inside : Within w s
-      unfolding rowImageString
-      inside =
-          subst (Within w) (im .string)
-          (within-scale w _ _ (within-mul w _ _ (within-single w _ (m .place) (omega (arith, im .first, o .row .wide))) (within-single w _ (m .other) (omega (arith, im .second, o .row .wide)))))
-
-      put-string : {e : List ℕ} → e ≡ rowWritten (lettersIn k₁) (stringIn k₁) out → e ≡ rowWritten w s out
-      put-string e = put-row w out s holds inside e
-
-  width-is : gateTableau g q r .width ≡ w
-  width-is = gate-width g q r ∙ sym (o .row .wide)
-
-  pub row-written : {c l : ℕ} → c ≡ rowQubit w i → l ≡ letterByte (rowLetter w i) → {m : RowImage} → RowImageOf (gateWidth g q r) (rowImage (gateTableau g q r) c (letterOf l)) m
-      → {k₁ : List ℕ} → k₁ ≡ encodeString (lettersIn k) (rowImageString m) → {e : List ℕ} → e ≡ rowWritten (lettersIn k₁) (stringIn k₁) out
-      → e ≡ rowWritten w (rowOf (gateTableau g q r) i) out
-  unfolding rowImage
-  row-written {c} {l} ec el im e₁ e =
-      put-string im e₁ e
-      ∙ ap (λ x. rowWritten w x out)
-      (ap₂ (λ (j : ℕ) (a : Letter). rowImage (gateTableau g q r) j a) ec (letter-of-row w i el)
-      ∙ sym (row-made (gateTableau g q r) (λ j a. rowImage (gateTableau g q r) j a) (λ j. refl) (λ j. refl) w i width-is (o .row .own)))
-
-pub row-zeros : {g q r w i : ℕ} {out : List ℕ} → WritesGateRow g q r w i out → WritesGateBy g q r w i (take (w + 1 - 0) (drop 0 (replicate 129 0))) out
-row-zeros o = record { row = o; work = zeros-long _ (o .narrow) }
-
-pub gate-narrow : {g q r w i : ℕ} {out : List ℕ} → WritesGateRow g q r w i out → w ≤ 128
-gate-narrow o = o .narrow
-
-pub ruleset gate-rows = (row-asked, row-puts, row-finished, row-written, row-zeros, gate-narrow, needs)
-
--- ---- all rows
-pub gates-none : {g q r w : ℕ} {d : List ℕ} → WritesGate g q r w d → RowsTo w (rowOf (gateTableau g q r)) (set d 0 w) 0 (set d 0 w)
-gates-none {g} {q} {r} {w} {d} o = rows-none w (rowOf (gateTableau g q r)) d (o .narrow) (o .room)
-
-pub gates-here : {g q r w : ℕ} {d′ : List ℕ} {f : ℕ → PauliString} {d₀ : List ℕ} {i : ℕ} {d : List ℕ} {at : ℕ} → WritesGate g q r w d′ → RowsTo w f d₀ i d → i < 2 * w
-    → Sized (rowOffset w i) at → WritesGateRow g q r w i (from at d)
-gates-here {d = d} {at = at} o m h z = record { on = o .on; wide = o .wide; narrow = o .narrow; own = h; room = rows-room d at m h z }
-
-pub gates-all : {g q r w : ℕ} {d : List ℕ} {i : ℕ} {e : List ℕ} → WritesGate g q r w d → RowsTo w (rowOf (gateTableau g q r)) (set d 0 w) i e → 2 * w ≤ i
-    → e ≡ written Done (tableauRecord (gateTableau g q r)) d
-gates-all {g} {q} {r} {w} {d} o m h = rows-all (gateTableau g q r) d (gate-width g q r ∙ sym (o .wide)) m h
-
-pub gates-first : {g q r w : ℕ} {d : List ℕ} → WritesGate g q r w d → 0 < length d
-gates-first {g} {q} {r} {w} o = omega (arith, o .room, some-room w)
-
-pub gates-narrow : {g q r w : ℕ} {d : List ℕ} → WritesGate g q r w d → w ≤ 128
-gates-narrow o = o .narrow
-
-pub ruleset gate-loops = (gates-none, gates-here, gates-all, gates-first, gates-narrow, rows-start, rows-index, rows-more, rows-length, needs)
+-- ---- a tableau at its own width
+pub widened-own : (w : ℕ) (t : Tableau) → w ≤ t .width → Same (widen w t) t
+unfolding widen rowImage
+widened-own w t h = record { width = omega arith; xImage = λ q l. image-own t q X (omega arith); zImage = λ q l. image-own t q Z (omega arith) }

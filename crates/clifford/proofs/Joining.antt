@@ -1,12 +1,12 @@
 -- Lists of one length, one after another.
-use mathlib.Core.Path.{_≡_, refl, sym, ap, ap₂, _∙_, subst}
+use mathlib.Core.Path.{_≡_, refl, sym, ap, ap₂, _∙_}
 use mathlib.Core.List.{List, _++_}
-use Prim.Native.Nat.{ℕ, zero, suc, _+_, _*_, _-_, _≤_, _<_, zero-le}
+use Prim.Native.Nat.{ℕ, zero, suc, _+_, _*_, _≤_, _<_}
 use native.Mathlib.Nat.{le-refl, not-suc-le-zero, mul-le-mul-right, suc-mul, zero-mul}
 use native.Mathlib.Omega.{arith}
-use native.Mathlib.Decide.{ℕ-discrete, decLt}
-use lib.ListN.{length, getD, take, drop, length-append, length-drop, List·getD-append}
-use lib.Seq.{take-add, take-all, drop-at, take-append-le, drop-append-le, getD-append-add}
+use native.Mathlib.Decide.{ℕ-discrete}
+use lib.ListN.{length, take, drop, length-append, length-drop}
+use lib.Seq.{take-add, take-all, drop-at, take-append-le, drop-append-le}
 use Rattle.clifford.specs.Layout.{joined}
 
 pub joined-ext : (k : ℕ) (f g : ℕ → List ℕ) → ((r : ℕ) → r < k → f r ≡ g r) → joined k f ≡ joined k g
@@ -47,14 +47,3 @@ unfolding joined
 parts-joined zero m l = ap (λ j. take j l) (sym (zero-mul m))
 parts-joined (suc k) m l =
     ap (λ a. a ++ take m (drop (k * m) l)) (parts-joined k m l) ∙ sym (take-add (k * m) m l) ∙ ap (λ j. take j l) (sym (suc-mul k m))
-
--- a byte of them is a byte of one of them
-pub joined-small : (b : ℕ) (f : ℕ → List ℕ) → ((r i : ℕ) → getD (f r) i 0 ≤ b) → (k i : ℕ) → getD (joined k f) i 0 ≤ b
-unfolding joined
-joined-small b f h zero i = zero-le
-joined-small b f h (suc k) i = elim (decLt i (length (joined k f))) [
-  | yes l ↦ omega (arith, List·getD-append (joined k f) (f k) 0 i l, joined-small b f h k i)
-  | no l ↦ let at : i ≡ length (joined k f) + (i - length (joined k f)) = omega arith in
-      subst (λ j. getD (joined k f ++ f k) j 0 ≤ b) (sym at)
-      (omega (arith, getD-append-add (joined k f) (f k) (i - length (joined k f)) 0, h k (i - length (joined k f))))
-]

@@ -18,15 +18,12 @@ use Rattle.pauli.proofs.Asking.{admitted-strings}
 use Rattle.pauli.proofs.Records.{decode-encode, decode-within}
 use Rattle.clifford.specs.Layout.{widthOf, tableauOf, tableauRecord, recordLength, FormedTableau}
 use Rattle.clifford.specs.Tableaux.{recordValid, Good, identityRecord, applyRecord, composeRecord, inverseRecord}
-use Rattle.clifford.proofs.TableauRecords.{length-record, width-of, record-back, record-there, proper-of, record-formed, same-record}
+use Rattle.clifford.proofs.Rows.{width-of}
+use Rattle.clifford.proofs.Records.{length-record, width-record, record-back, record-there, proper-of, record-formed, same-record}
 
 clifford-of : {b : List ℕ} → Good b → Clifford (tableauOf b)
 unfolding recordValid
 clifford-of g = record { proper = proper-of (g .formed); valid = g .valid }
-
-width-record : (t : Tableau) → widthOf (tableauRecord t) ≡ t .width
-unfolding tableauRecord
-width-record t = refl
 
 narrow : {b : List ℕ} → FormedTableau b → tableauOf b .width ≤ qubits
 narrow f = proper-of f .narrow

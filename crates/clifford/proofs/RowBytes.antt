@@ -2,7 +2,7 @@
 use mathlib.Core.Path.{_≡_, refl, sym, ap, ap₂, _∙_}
 use mathlib.Core.List.{List, [], _∷_, _++_, append-assoc, append-nil}
 use Prim.Native.Nat.{ℕ, suc, _+_, _*_, _-_, _≤_, _<_}
-use native.Mathlib.Nat.{not-suc-le-zero, zero-mul}
+use native.Mathlib.Nat.{not-suc-le-zero}
 use native.Mathlib.Numerals.{add-one}
 use native.Mathlib.Omega.{arith}
 use lib.ListN.{length, take, drop, length-append, length-drop, drop-of-length-le, take-append-drop}
@@ -12,7 +12,7 @@ use Rattle.pauli.proofs.Places.{from, from-is, length-from}
 use Rattle.clifford.specs.Layout.{rowLength, rowOffset, recordLength, joined, widthOf}
 use Rattle.clifford.specs.Inside.Rows.{Sized, RowIndex}
 use Rattle.clifford.proofs.Joining.{length-below, joined-more}
-use Rattle.clifford.proofs.TableauRecords.{row-room}
+use Rattle.clifford.proofs.Rows.{some-bytes, first-offset, next-offset, all-rows, row-room}
 
 -- ---- the rows before r stand in d, and then what stood in d₀
 abbrev bytesBefore : ℕ → (ℕ → List ℕ) → ℕ → List ℕ
@@ -31,22 +31,6 @@ unfolding rowOffset
 length-before w f each r h =
     ap suc (length-below (rowLength w) f r (λ i l. each i (omega arith)))
     ∙ (let e : suc (r * rowLength w) ≡ 1 + r * rowLength w = omega arith in e)
-
-pub some-bytes : (w : ℕ) → 0 < recordLength w
-unfolding recordLength
-some-bytes w = omega arith
-
-first-offset : (w : ℕ) → rowOffset w 0 ≡ 1
-unfolding rowOffset
-first-offset w = omega (arith, zero-mul (rowLength w))
-
-next-offset : (w r : ℕ) → rowOffset w r + rowLength w ≡ rowOffset w (suc r)
-unfolding rowOffset
-next-offset w r = omega arith
-
-all-rows : (w : ℕ) → rowOffset w (2 * w) ≡ recordLength w
-unfolding rowOffset recordLength
-all-rows w = refl
 
 -- d with the width w, none of its rows looked at yet
 pub bytes-none : (w : ℕ) (f : ℕ → List ℕ) (d : List ℕ) → w ≤ 128 → recordLength w ≤ length d → widthOf d ≡ w

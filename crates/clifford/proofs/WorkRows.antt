@@ -1,20 +1,18 @@
 -- Work rows: multiplied by rows and by letters, and written into a record.
 use mathlib.Core.Path.{_≡_, refl, sym, ap, ap₂, _∙_, subst}
 use mathlib.Core.Bool.{cond}
-use mathlib.Core.List.{List, _++_}
-use Prim.Native.Nat.{ℕ, zero, suc, _+_, _*_, _-_, _≤_, _<_}
+use mathlib.Core.List.{List}
+use Prim.Native.Nat.{ℕ, zero, suc, _+_, _-_, _≤_, _<_}
 use native.Mathlib.Nat.{not-suc-le-zero}
 use native.Mathlib.Numerals.{add-one}
 use native.Mathlib.Omega.{arith}
 use native.Mathlib.Decide.{ℕ-discrete}
-use lib.ListN.{length, getD, set, take, drop, length-set}
-use lib.Seq.{ext-getD, take-all, getD-set-same, getD-set-other}
-use mir.Syntax.{w64}
-use mir.Val.{Fits}
+use lib.ListN.{length, getD, set, length-set}
+use lib.Seq.{ext-getD, getD-set-same, getD-set-other}
 use borrow.Author.Needs.{needs}
-use borrow.Author.Tests.{lt-ltb, le-ltb, eq-eqb, ne-eqb}
+use borrow.Author.Tests.{eq-eqb, ne-eqb}
 use Rattle.pauli_group.specs.Phase.{Phase, PlusOne, PlusI, _·_}
-use Rattle.pauli_group.specs.Letter.{Letter, I, X, Z, Y, letterMul, letterPhase}
+use Rattle.pauli_group.specs.Letter.{Letter, I, Y, letterMul, letterPhase}
 use Rattle.pauli_group.specs.PauliString.{PauliString, qubits, mul, scale, identityString, single, phaseOfLetters, Within}
 use Rattle.pauli_group.proofs.Laws.{·-comm, ·-one, letterMul-I, letterPhase-I}
 use Rattle.pauli_group.proofs.Products.{productTo-at}
@@ -23,77 +21,14 @@ use Rattle.clifford_group.specs.Tableau.{imageOf, rowImage}
 use Rattle.clifford_group.proofs.Images.{image-own, image-above, image-I}
 use Rattle.pauli.specs.Layout.{phaseByte, phaseOf, letterByte, letterOf, encodeString, decodeString, WellFormed}
 use Rattle.pauli.specs.declared.algebra.PhasedLetter.{PhasedLetter}
-use Rattle.pauli.specs.Rows.{phaseBytesProduct, letterBytesProduct, productPhaseByte, productLetterByte, rowProduct, copied, shorter}
+use Rattle.pauli.specs.Rows.{phaseBytesProduct, letterBytesProduct, productPhaseByte, productLetterByte}
 use Rattle.pauli.proofs.Records.{phase-back, phase-there, letter-there, length-encode, encode-phase, encode-letter, encode-formed, decode-encode, encode-decode, decode-within, decode-letter, decode-phase}
-use Rattle.pauli.proofs.StringProducts.{row-product-is}
-use Rattle.clifford.specs.Layout.{rowLength, rowOffset, recordLength, rowOf, widthOf, rowPart, tableauOf, rowQubit, rowLetter}
-use Rattle.clifford.specs.Inside.Rows.{Sized, RowIndex, OwnRow, WorkRow, WorkOnRow, WorkOnQubit, WorkOnOwn, WorkOnLetter, WorkPlace, ClearRow, Finished, clearedRow, rowTimes, rowWritten, lettersIn, stringIn}
-use Rattle.clifford.proofs.TableauRows.{row-of-string, string-of-row, row-formed}
-use Rattle.clifford.proofs.TableauRecords.{row-x, row-z, row-part, row-room, record-small, part-formed, proper-of, width-of}
+use Rattle.clifford.specs.Layout.{rowOf, widthOf, tableauOf}
+use Rattle.clifford.specs.Inside.Rows.{WorkRow, WorkOnRow, WorkOnQubit, WorkOnOwn, WorkOnLetter, WorkPlace, ClearRow, clearedRow, rowTimes, lettersIn, stringIn}
+use Rattle.clifford.proofs.Rows.{row-x, row-z, width-of}
+use Rattle.clifford.proofs.Records.{proper-of}
 
--- ---- where rows are
-row-end : (w r : ℕ) → RowIndex w r → 1 + r * (w + 1) + (w + 1) ≤ 33025
-unfolding rowOffset recordLength rowLength
-row-end w r i = omega (arith, row-room w r (i .own), record-small w (i .narrow))
-
-pub offset-fits : (w r : ℕ) → RowIndex w r → Fits w64 (r * (w + 1))
-offset-fits w r i = record { fits = omega (arith, row-end w r i) }
-
-pub offset-one-fits : (w r : ℕ) → RowIndex w r → Fits w64 (1 + r * (w + 1))
-offset-one-fits w r i = record { fits = omega (arith, row-end w r i) }
-
-offset-is : (w r : ℕ) → 1 + r * (w + 1) ≡ rowOffset w r
-unfolding rowOffset rowLength
-offset-is w r = omega arith
-
-pub offset-sized : (w r : ℕ) → RowIndex w r → Sized (rowOffset w r) (1 + r * (w + 1))
-offset-sized w r i = record { is = offset-is w r; small = omega (arith, row-end w r i) }
-
-pub own-index : {b : List ℕ} {r n : ℕ} → OwnRow b r → n ≡ widthOf b → RowIndex n r
-own-index o e = record { narrow = omega (arith, o .tableau .narrow); own = omega (arith, o .own) }
-
-part-inside : {b : List ℕ} {r n at : ℕ} → OwnRow b r → n ≡ widthOf b → Sized (rowOffset n r) at → at + (n + 1) ≤ length b
-part-inside {b} {r} {n} o e s =
-    let long : length b ≡ recordLength n = o .tableau .long ∙ ap recordLength (sym e) in
-    omega (arith, s .is, row-room n r (omega (arith, o .own)), (let z : rowLength n ≡ n + 1 = unfold rowLength in omega arith in z))
-
-pub part-end : {b : List ℕ} {r n at : ℕ} → OwnRow b r → n ≡ widthOf b → Sized (rowOffset n r) at → at + (n + 1) ≤ length b
-part-end = part-inside
-
-pub part-is : {b : List ℕ} {r n at : ℕ} → OwnRow b r → n ≡ widthOf b → Sized (rowOffset n r) at → take (at + (n + 1) - at) (drop at b) ≡ rowPart b r
-unfolding rowPart rowLength
-part-is {b} {r} {n} {at} o e s =
-    let size : at + (n + 1) - at ≡ suc n = omega arith in
-    ap₂ (λ (i : ℕ) (j : ℕ). take i (drop j b)) (size ∙ ap suc e) (s .is ∙ ap (λ (j : ℕ). rowOffset j r) e)
-
--- ---- the generator of a row
-pub qubit-x : (w r : ℕ) → r < w → r ≡ rowQubit w r
-unfolding rowQubit
-qubit-x w r h = sym (ap (λ b. cond b r (r - w)) (lt-ltb r w h))
-
-pub qubit-z : (w r : ℕ) → w ≤ r → r - w ≡ rowQubit w r
-unfolding rowQubit
-qubit-z w r h = sym (ap (λ b. cond b r (r - w)) (le-ltb r w h))
-
-pub letter-x : (w r : ℕ) → r < w → 1 ≡ letterByte (rowLetter w r)
-unfolding rowLetter letterByte
-letter-x w r h = sym (ap (λ b. letterByte (cond b X Z)) (lt-ltb r w h))
-
-pub letter-z : (w r : ℕ) → w ≤ r → 2 ≡ letterByte (rowLetter w r)
-unfolding rowLetter letterByte
-letter-z w r h = sym (ap (λ b. letterByte (cond b X Z)) (le-ltb r w h))
-
--- ---- a work row multiplied by a row of a record
-pub work-on : {b d : List ℕ} {r : ℕ} → WorkOnRow b d r → OwnRow b r
-work-on o = record { tableau = o .work .tableau; own = o .own }
-
-pub times-row : {b d p e : List ℕ} {r : ℕ} → WorkOnRow b d r → p ≡ rowPart b r → e ≡ rowProduct d p → e ≡ rowTimes d (rowOf (tableauOf b) r)
-unfolding rowTimes qubits
-times-row {b} {d} {p} {e} {r} o ep ee =
-    ee ∙ ap (rowProduct d) ep
-    ∙ row-product-is (omega (arith, o .work .wide, o .work .row .long)) (omega (arith, o .work .narrow)) (o .work .row) (row-formed (part-formed (o .work .tableau) r (o .own)))
-    ∙ ap (λ s. encodeString (lettersIn d) (mul (stringIn d) s)) (sym (row-part b r (o .own) ∙ string-of-row (widthOf b) (rowPart b r)))
-
+-- ---- a work row multiplied
 pub length-times : {d : List ℕ} (e : List ℕ) (s : PauliString) → WellFormed (lettersIn d) d → e ≡ rowTimes d s → length e ≡ length d
 unfolding rowTimes
 length-times {d} e s f h = ap length h ∙ length-encode (lettersIn d) _ ∙ sym (f .long)
@@ -108,16 +43,6 @@ pub times-work : {b d e : List ℕ} (s : PauliString) → WorkRow b d → e ≡ 
 times-work {b} {d} {e} s o h =
     let l : length e ≡ length d = length-times e s (o .row) h in
     record { tableau = o .tableau; row = times-formed s (o .row) h; wide = omega (arith, o .wide); narrow = omega (arith, o .narrow) }
-
--- ---- a finished row written
-pub row-written : (d out : List ℕ) {e : List ℕ} → Finished d out → e ≡ copied d out → e ≡ rowWritten (lettersIn d) (stringIn d) out
-unfolding rowWritten copied rowLength
-row-written d out {e} f h =
-    let long : length d ≡ suc (lettersIn d) = f .row .long in
-    let short : shorter d out ≡ suc (lettersIn d) = omega (arith, f .room) in
-    h ∙ ap (λ (j : ℕ). take j d ++ drop j out) short
-    ∙ ap (λ (l : List ℕ). l ++ drop (suc (lettersIn d)) out)
-    (take-all (suc (lettersIn d)) d (omega arith) ∙ sym (encode-decode (f .row)) ∙ sym (row-of-string (lettersIn d) (stringIn d)))
 
 -- ---- a work row cleared
 pub record Cleared (n i : ℕ) (d : List ℕ) : Type 0 where
@@ -232,7 +157,8 @@ times-phase {d} {p} k f e =
     (getD-set-same d 0 p 0 (omega (arith, f .long)) ∙ e ∙ ap phaseByte (·-comm _ (phaseOf k) ∙ ap (λ x. phaseOf k · x) (sym (decode-phase w d))))
     (λ c l. getD-set-other d 0 (suc c) p 0 (omega arith) ∙ sym (letter-there (getD d (suc c) 0) (f .small (suc c) (omega (arith, f .long)))) ∙ ap letterByte (sym (decode-letter w d c l)))
 
-times-i : {d : List ℕ} {p : ℕ} → WellFormed (lettersIn d) d → p ≡ phaseBytesProduct (getD d 0 0) 2 → set d 0 p ≡ encodeString (lettersIn d) (scale PlusI (stringIn d))
+times-i : {d : List ℕ} {p : ℕ} → WellFormed (lettersIn d) d → p ≡ phaseBytesProduct (getD d 0 0) 2
+    → set d 0 p ≡ encodeString (lettersIn d) (scale PlusI (stringIn d))
 unfolding phaseOf
 times-i f e = times-phase 2 f e
 
@@ -262,7 +188,8 @@ work-z o e = record { work = o .work; own = omega (arith, o .own) }
 pub work-next : {b d e : List ℕ} {q n : ℕ} (s : PauliString) → WorkOnRow b d q → q < widthOf b → n ≡ widthOf b → e ≡ rowTimes d s → WorkOnRow b e (n + q)
 work-next s o h en e = record { work = times-work s (o .work) e; own = omega arith }
 
-pub own-x : (b d : List ℕ) {e : List ℕ} {q l : ℕ} → WorkOnLetter b d q l → l ≡ 1 → e ≡ rowTimes d (rowOf (tableauOf b) q) → e ≡ rowTimes d (rowImage (tableauOf b) q (letterOf l))
+pub own-x : (b d : List ℕ) {e : List ℕ} {q l : ℕ} → WorkOnLetter b d q l → l ≡ 1 → e ≡ rowTimes d (rowOf (tableauOf b) q)
+    → e ≡ rowTimes d (rowImage (tableauOf b) q (letterOf l))
 unfolding rowImage letterOf
 own-x b d {e} {q} {l} o h k =
     k ∙ ap (rowTimes d) (row-x (tableauOf b) q (omega (arith, o .work .own, width-of b)))
@@ -271,7 +198,8 @@ own-x b d {e} {q} {l} o h k =
 row-z-at : (b : List ℕ) {n : ℕ} (q : ℕ) → n ≡ widthOf b → rowOf (tableauOf b) (n + q) ≡ tableauOf b .zImage q
 row-z-at b q e = ap (λ (j : ℕ). rowOf (tableauOf b) (j + q)) (e ∙ sym (width-of b)) ∙ row-z (tableauOf b) q
 
-pub own-z : (b d : List ℕ) {e : List ℕ} {q l n : ℕ} → WorkOnLetter b d q l → l ≡ 2 → n ≡ widthOf b → e ≡ rowTimes d (rowOf (tableauOf b) (n + q)) → e ≡ rowTimes d (rowImage (tableauOf b) q (letterOf l))
+pub own-z : (b d : List ℕ) {e : List ℕ} {q l n : ℕ} → WorkOnLetter b d q l → l ≡ 2 → n ≡ widthOf b
+    → e ≡ rowTimes d (rowOf (tableauOf b) (n + q)) → e ≡ rowTimes d (rowImage (tableauOf b) q (letterOf l))
 unfolding rowImage letterOf
 own-z b d {e} {q} {l} {n} o h en k =
     k ∙ ap (rowTimes d) (row-z-at b q en) ∙ ap (λ (j : ℕ). rowTimes d (rowImage (tableauOf b) q (letterOf j))) (sym h)
@@ -338,10 +266,12 @@ image-letter o h e k = record { work = record { work = o .work; own = omega arit
 pub image-place : {b d : List ℕ} {q : ℕ} → WorkOnQubit b d q → WorkPlace d q
 image-place o = record { row = o .work .row; place = o .place; narrow = o .work .narrow }
 
-pub image-below : (b d : List ℕ) {e : List ℕ} {q n : ℕ} (l : ℕ) → n ≡ widthOf b → q < n → e ≡ rowTimes d (rowImage (tableauOf b) q (letterOf l)) → e ≡ rowTimes d (imageOf (tableauOf b) q (letterOf l))
+pub image-below : (b d : List ℕ) {e : List ℕ} {q n : ℕ} (l : ℕ) → n ≡ widthOf b → q < n
+    → e ≡ rowTimes d (rowImage (tableauOf b) q (letterOf l)) → e ≡ rowTimes d (imageOf (tableauOf b) q (letterOf l))
 image-below b d {e} {q} l en h k = k ∙ ap (rowTimes d) (sym (image-own (tableauOf b) q (letterOf l) (omega (arith, width-of b))))
 
-pub image-over : (b d : List ℕ) {e : List ℕ} {q n : ℕ} (l : ℕ) → n ≡ widthOf b → n ≤ q → e ≡ rowTimes d (single (letterOf l) q) → e ≡ rowTimes d (imageOf (tableauOf b) q (letterOf l))
+pub image-over : (b d : List ℕ) {e : List ℕ} {q n : ℕ} (l : ℕ) → n ≡ widthOf b → n ≤ q → e ≡ rowTimes d (single (letterOf l) q)
+    → e ≡ rowTimes d (imageOf (tableauOf b) q (letterOf l))
 image-over b d {e} {q} l en h k = k ∙ ap (rowTimes d) (sym (image-above (tableauOf b) q (letterOf l) (omega (arith, width-of b))))
 
 pub ruleset clearing = (cleared-none, cleared-step, cleared-length, cleared-all, needs)
@@ -351,20 +281,3 @@ pub ruleset letter-products = (times-letter, place-some, needs)
 pub ruleset images = (turned-work, work-x, work-z, work-next, own-x, own-z, own-y, own-work, times-both, both-length, length-times, needs)
 
 pub ruleset image-products = (image-none, image-letter, image-place, image-below, image-over, length-times, needs)
-
-pub ruleset row-access = (
-  offset-fits,
-  offset-one-fits,
-  offset-sized,
-  own-index,
-  part-end,
-  part-is,
-  qubit-x,
-  qubit-z,
-  letter-x,
-  letter-z,
-  work-on,
-  times-row,
-  row-written,
-  needs,
-)

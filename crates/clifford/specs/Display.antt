@@ -7,21 +7,21 @@ use lib.ListN.{length}
 use Rattle.pauli_group.specs.Letter.{Letter}
 use Rattle.clifford_group.specs.Tableau.{Tableau}
 use Rattle.pauli.specs.declared.refusal.Outcome.{Outcome}
+use Rattle.pauli.specs.QuotedText.{bytesOf}
 use Rattle.pauli.specs.Questions.{_andThen_, roomQuestion}
 use Rattle.pauli.specs.SparseText.{decimal, letterText, sparseText}
 use Rattle.clifford.specs.Layout.{rowOf, joined, tableauOf, rowQubit, rowLetter}
 use Rattle.clifford.specs.Questions.{tableauQuestions}
 
--- "CliffordRep(", the bytes that it starts with
+-- the bytes that it starts with
 abbrev pub nameText : List ℕ
-nameText = 67 ∷ 108 ∷ 105 ∷ 102 ∷ 102 ∷ 111 ∷ 114 ∷ 100 ∷ 82 ∷ 101 ∷ 112 ∷ 40 ∷ []
+nameText = bytesOf "CliffordRep("
 
--- " qubits):", " -> " and a newline
 abbrev pub qubitsText : List ℕ
-qubitsText = 32 ∷ 113 ∷ 117 ∷ 98 ∷ 105 ∷ 116 ∷ 115 ∷ 41 ∷ 58 ∷ []
+qubitsText = bytesOf " qubits):"
 
 abbrev pub arrowText : List ℕ
-arrowText = 32 ∷ 45 ∷ 62 ∷ 32 ∷ []
+arrowText = bytesOf " -> "
 
 abbrev pub newline : ℕ
 newline = 10

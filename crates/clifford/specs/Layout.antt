@@ -1,39 +1,54 @@
 -- The bytes of a tableau record. Its layout stands here and nowhere else. Scope document, "Tableau record".
 use Prim.Native.Nat.{ℕ, zero, suc, _+_, _*_, _-_, _≤_, _<_}
 use mathlib.Core.Path.{_≡_}
-use mathlib.Core.Bool.{cond}
+use mathlib.Core.Bool.{cond, _&&_}
 use mathlib.Core.List.{List, [], _∷_, _++_}
-use lib.Dec.{ltb}
+use lib.Dec.{ltb, leb}
 use lib.ListN.{length, take, drop, getD, set}
 use Rattle.pauli_group.specs.Phase.{_·_}
 use Rattle.pauli_group.specs.Letter.{Letter, I, X, Z}
-use Rattle.pauli_group.specs.PauliString.{PauliString}
+use Rattle.pauli_group.specs.PauliString.{PauliString, qubits, identityString}
 use Rattle.clifford_group.specs.Tableau.{Tableau}
 use Rattle.clifford_gates.specs.Gates.{PairImage}
 use Rattle.pauli.specs.Places.{listed}
 use Rattle.pauli.specs.Layout.{phaseByte, phaseOf, letterByte, letterOf}
 
 -- ---- rows: "a row is a phase and n letters". A row of a tableau has a codec of its own, apart from that of strings.
+
+-- where the letter of qubit q stands in a row: the letters come last
+unfoldable pub letterPlace : ℕ → ℕ
+letterPlace q = suc q
+
 unfoldable pub rowLength : ℕ → ℕ
-rowLength w = suc w
+rowLength w = letterPlace w
 
 unfoldable pub encodeRow : ℕ → PauliString → List ℕ
 encodeRow w s = phaseByte (s .phase) ∷ listed w (λ q. letterByte (s .letters q))
 
+-- Of a row of any bytes, where one above 3 is read as 3: the letter on qubit q.
+unfoldable pub letterIn : List ℕ → ℕ → Letter
+letterIn b q = letterOf (getD b (letterPlace q) 0)
+
 unfoldable pub decodeRow : ℕ → List ℕ → PauliString
 decodeRow w b = record {
   phase = phaseOf (getD b 0 0);
-  letters = λ q. cond (ltb q w) (letterOf (getD b (suc q) 0)) I;
+  letters = λ q. cond (ltb q w) (letterIn b q) I;
 }
-
--- Of a row of any bytes, where one above 3 is read as 3: the letter on qubit q.
-unfoldable pub letterIn : List ℕ → ℕ → Letter
-letterIn b q = letterOf (getD b (suc q) 0)
 
 -- Its phase times that of an image, and the image's letters on qubits q and r; every other byte stays.
 unfoldable pub withPair : ℕ → ℕ → PairImage → List ℕ → List ℕ
 withPair q r i b =
-    set (set (set b 0 (phaseByte (phaseOf (getD b 0 0) · i .phase))) (suc q) (letterByte (i .first))) (suc r) (letterByte (i .second))
+    set (set (set b 0 (phaseByte (phaseOf (getD b 0 0) · i .phase))) (letterPlace q) (letterByte (i .first))) (letterPlace r) (letterByte (i .second))
+
+-- its letter bytes
+unfoldable pub lettersOf : List ℕ → List ℕ
+lettersOf b = drop (letterPlace 0) b
+
+-- the bytes of some row of w letters
+pub record FormedRow (w : ℕ) (b : List ℕ) : Type 0 where
+  pub long : length b ≡ rowLength w
+  pub phase : getD b 0 0 ≤ 3
+  pub letters : (q : ℕ) → q < w → getD b (letterPlace q) 0 ≤ 3
 
 -- ---- records: "Byte 0 is the width n, 0 to 128. X rows 0 to n−1 follow, then Z rows"
 
@@ -44,6 +59,10 @@ rowOffset w r = 1 + r * rowLength w
 -- "Length 1 + 2n(n+1)"
 unfoldable pub recordLength : ℕ → ℕ
 recordLength w = 1 + 2 * w * rowLength w
+
+-- "at most 33,025 bytes": a record of width 128
+abbrev pub longestRecord : ℕ
+longestRecord = 33025
 
 -- the rows of a tableau in the order of its record
 unfoldable pub rowOf : Tableau → ℕ → PauliString
@@ -78,6 +97,10 @@ tableauOf b = record {
   zImage = λ q. decodeRow (widthOf b) (rowPart b (widthOf b + q));
 }
 
+-- row r of a record of any bytes, as it is read by letter: the identity string where a record of this width has no such row
+unfoldable pub readRow : List ℕ → ℕ → PauliString
+readRow b r = cond (leb (widthOf b) qubits && ltb r (2 * widthOf b)) (rowOf (tableauOf b) r) identityString
+
 -- a record with each of its rows changed
 unfoldable pub eachRow : (List ℕ → List ℕ) → List ℕ → List ℕ
 eachRow f b = widthOf b ∷ joined (2 * widthOf b) (λ r. f (rowPart b r))
@@ -87,4 +110,4 @@ pub record FormedTableau (b : List ℕ) : Type 0 where
   pub some : 0 < length b
   pub narrow : widthOf b ≤ 128
   pub long : length b ≡ recordLength (widthOf b)
-  pub small : (k : ℕ) → 0 < k → k < length b → getD b k 0 ≤ 3
+  pub rows : (r : ℕ) → r < 2 * widthOf b → FormedRow (widthOf b) (rowPart b r)

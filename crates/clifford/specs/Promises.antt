@@ -14,8 +14,8 @@ use Rattle.clifford.specs.Layout.{widthOf, rowOffset}
 use Rattle.clifford.specs.Questions.{tableauQuestions, imageQuestions, setQuestions, identityAnswer, applyAnswer, composeAnswer, extendAnswer, inverseAnswer, pauliAnswer, supportAnswer}
 use Rattle.clifford.specs.Tableaux.{recordValid, setXRecord, setZRecord, identityRecord, applyRecord, composeRecord, extendRecord, inverseRecord, pauliRecord, supportBytes}
 use Rattle.clifford.specs.Display.{textOfTableau, displayAnswer}
-use Rattle.clifford.specs.GateQuestions.{gateQuestion, onQubitsAnswer, onQubitAnswer, composeGateQuestions}
-use Rattle.clifford.specs.GateAnswers.{GateAnswered, NameAnswered, gateRecord, oneQubitRecord, singleQubitCliffordRecord, recordName}
+use Rattle.clifford.specs.GateQuestions.{gateQuestion, onQubitsAnswer, onWidthAnswer, onQubitAnswer, composeGateQuestions}
+use Rattle.clifford.specs.GateAnswers.{GateAnswered, NameAnswered, gateRecord, widthGateRecord, oneQubitRecord, singleQubitCliffordRecord, recordName}
 
 -- ---- images: where they start in the record, and in place set to s
 
@@ -60,10 +60,13 @@ SupportWritten t d e r = CountWritten (supportAnswer t (length d)) (supportBytes
 abbrev pub Displayed : (t d e : List ℕ) (r : CountAnswer) → Type 0
 Displayed t d e r = CountWritten (displayAnswer t (length d)) (textOfTableau t) d e r
 
--- ---- gates g and h, on qubits q and p; k is an index of the 24 products
+-- ---- gates g and h, on qubits q and p, at their own width or at the width n; k is an index of the 24 products
 
 abbrev pub GateWritten : (g q p : ℕ) (d e : List ℕ) (r : Outcome) → Type 0
 GateWritten g q p d e r = Written (onQubitsAnswer g q p (length d)) (gateRecord g q p) d e r
+
+abbrev pub WidthGateWritten : (n g q p : ℕ) (d e : List ℕ) (r : Outcome) → Type 0
+WidthGateWritten n g q p d e r = Written (onWidthAnswer n g q p (length d)) (widthGateRecord n g q p) d e r
 
 abbrev pub OneQubitGateWritten : (g q : ℕ) (d e : List ℕ) (r : Outcome) → Type 0
 OneQubitGateWritten g q d e r = Written (onQubitAnswer g q (length d)) (oneQubitRecord g q) d e r

@@ -1,16 +1,17 @@
 -- The questions put to tableaux (scope document, "Questions on entry"), and those of each public function in their order.
-use Prim.Native.Nat.{ℕ, max}
+use Prim.Native.Nat.{ℕ, zero, suc, max, _+_, _*_}
 use mathlib.Core.Bool.{_&&_}
 use mathlib.Core.List.{List}
 use lib.Dec.{ltb, leb, eqb}
-use lib.ListN.{length, drop}
+use lib.ListN.{length, getD}
 use Rattle.pauli_group.specs.PauliString.{PauliString, qubits}
-use Rattle.pauli.specs.declared.refusal.Refusal.the-variants.{Width, Length, ImageWidth, Slot}
+use Rattle.pauli.specs.declared.refusal.Refusal.the-variants.{Width, Length, BadByte, ImageWidth, Slot}
 use Rattle.pauli.specs.declared.refusal.Outcome.{Outcome}
+use Rattle.pauli.specs.declared.refusal.Outcome.the-variants.{Done}
 use Rattle.pauli.specs.Places.{firstPlace}
 use Rattle.pauli.specs.Layout.{stringLength, stringOf}
 use Rattle.pauli.specs.Questions.{ask, _andThen_, bytesQuestion, stringQuestions, roomQuestion}
-use Rattle.clifford.specs.Layout.{widthOf, tableauOf, recordLength}
+use Rattle.clifford.specs.Layout.{letterPlace, lettersOf, rowOffset, rowPart, widthOf, tableauOf, recordLength}
 use Rattle.clifford.specs.Support.{supportQubits}
 use Rattle.clifford.specs.Images.{hasLetter, spanTo}
 
@@ -22,10 +23,19 @@ widthQuestion n = ask (leb n qubits) Width
 unfoldable pub lengthQuestion : List ℕ → Outcome
 lengthQuestion b = ask (eqb (length b) (recordLength (widthOf b))) Length
 
--- "a tableau of no bytes has no width and gives 2"; then 1, 2, and 3 for the first bad offset after the width
+-- "Is every phase and letter at most 3? 3, detail the first bad offset": of a row that starts there
+unfoldable pub rowQuestion : ℕ → List ℕ → Outcome
+rowQuestion start b = ask (leb (getD b 0 0) 3) (BadByte start) andThen bytesQuestion (start + letterPlace 0) (lettersOf b)
+
+-- of the first k rows of a record, in their order
+unfoldable pub rowsQuestion : ℕ → List ℕ → Outcome
+rowsQuestion zero b = Done
+rowsQuestion (suc k) b = rowsQuestion k b andThen rowQuestion (rowOffset (widthOf b) k) (rowPart b k)
+
+-- "a tableau of no bytes has no width and gives 2"; then 1, 2, and 3
 unfoldable pub tableauQuestions : List ℕ → Outcome
 tableauQuestions b =
-    ask (ltb 0 (length b)) Length andThen widthQuestion (widthOf b) andThen lengthQuestion b andThen bytesQuestion 1 (drop 1 b)
+    ask (ltb 0 (length b)) Length andThen widthQuestion (widthOf b) andThen lengthQuestion b andThen rowsQuestion (2 * widthOf b) b
 
 -- "Is the slot (also of an image handed out) [inside the width]? 15, the slot"
 unfoldable pub slotQuestion : ℕ → ℕ → Outcome

@@ -2,40 +2,40 @@
 // Copyright 2026 The PECOS Developers, Apache License, Version 2.0.
 ghost use mathlib.Core.Path.{_≡_};
 ghost use Rattle.clifford_gates.specs.GateNumbers.{composeGate};
-ghost use Rattle.pauli.specs.declared.refusal.Outcome.the-variants.{Done};
-ghost use Rattle.pauli.specs.Answers.{written};
 ghost use Rattle.clifford.specs.Layout.{FormedTableau};
-ghost use Rattle.clifford.specs.GateQuestions.{secondQuestions, onQubitsQuestions, onQubitsAnswer, onQubitQuestions, onQubitAnswer, composeGateQuestions};
-ghost use Rattle.clifford.specs.GateAnswers.{gateReply, nameAnswer, gateRecord, oneQubitRecord, singleQubitCliffordRecord, recordName};
-ghost use Rattle.clifford.specs.Inside.GateRows.{GateOn, GateSpan, GateFits, OneFits, BothSmall, NameIs};
-ghost use Rattle.clifford.specs.Promises.{GateWritten, OneQubitGateWritten, SingleQubitCliffordWritten, GateNamed, GatesComposed, GateInverted};
+ghost use Rattle.clifford.specs.GateQuestions.{ownQubitQuestion, qubitsQuestions};
+ghost use Rattle.clifford.specs.GateAnswers.{gateReply, recordName};
+ghost use Rattle.clifford.specs.Inside.GateRows.{GateOn, GateSpan, BothSmall, NameIs};
+ghost use Rattle.clifford.specs.Promises.{GateWritten, WidthGateWritten, OneQubitGateWritten, SingleQubitCliffordWritten, GateNamed, GatesComposed, GateInverted};
 use crate::gates::first_gate;
 use crate::gates::inverse_number;
 use crate::gates::letter_image;
 use crate::gates::product_number;
 use crate::gates::sent_image;
 use crate::gates::signed_images;
-use crate::gates::write_gate;
-use crate::layout::letter_in_row;
-use crate::layout::record_length;
-use crate::layout::row_phase;
+use crate::layout::letter_at;
+use crate::layout::phase_at;
 use crate::layout::width;
 use crate::questions::check_different;
 use crate::questions::check_gate;
 use crate::questions::check_tableau;
+use crate::questions::check_width;
+use crate::writing::Made;
+use crate::writing::write_made;
+use pauli::QUBITS;
 use pauli::algebra::PhasedLetter;
+use pauli::questions::and_then;
 use pauli::questions::check_qubit;
-use pauli::questions::check_room;
 use pauli::refusal::Outcome;
 use pauli::refusal::Refusal;
 use pauli::refusal::Reply;
 use pauli::refusal::refusal_reply;
 
-// A gate, or none.
+// A gate, no gate, or the refusal.
 pub enum GateAnswer {
     Named(u8),
     Unnamed,
-    NoGate(Refusal),
+    GateRefused(Refusal),
 }
 
 pub fn gate_reply(r: GateAnswer) -> Reply
@@ -50,48 +50,33 @@ pub fn gate_reply(r: GateAnswer) -> Reply
             number: 0,
             value: 255,
         },
-        GateAnswer::NoGate(why) => refusal_reply(why),
+        GateAnswer::GateRefused(why) => refusal_reply(why),
     }
 }
 
 // ---- questions
 
-// The second qubit, which is not looked at for a one-qubit gate.
-fn check_second(gate: usize, q: usize, r: usize) -> Outcome
-    ensures { λ o. ⌜ o ≡ secondQuestions gate q r ⌝ }
+// A qubit of a gate on a tableau of this width.
+fn check_own_qubit(width: usize, qubit: usize) -> Outcome
+    ensures { λ o. ⌜ o ≡ ownQubitQuestion width qubit ⌝ }
 {
-    if gate <= 23 {
+    if qubit < width {
         return Outcome::Done;
     }
-    let first = check_qubit(r);
-    if let Outcome::Done = first {
-        return check_different(q, r);
-    }
-    first
+    Outcome::Refused(Refusal::Qubit { qubit })
 }
 
-fn check_on_qubits(gate: usize, q: usize, r: usize) -> Outcome
-    ensures { λ o. ⌜ o ≡ onQubitsQuestions gate q r ⌝ }
+// The qubits of a gate; the second is not looked at for a one-qubit gate.
+pub fn check_qubits(width: usize, gate: usize, q: usize, r: usize) -> Outcome
+    ensures { λ o. ⌜ o ≡ qubitsQuestions width gate q r ⌝ }
 {
-    let first = check_gate(38, gate);
-    let Outcome::Done = first else {
+    let first = check_own_qubit(width, q);
+    if gate <= 23 {
         return first;
-    };
-    let second = check_qubit(q);
-    let Outcome::Done = second else {
-        return second;
-    };
-    check_second(gate, q, r)
-}
-
-fn check_on_qubit(gate: usize, q: usize) -> Outcome
-    ensures { λ o. ⌜ o ≡ onQubitQuestions gate q ⌝ }
-{
-    let first = check_gate(24, gate);
-    if let Outcome::Done = first {
-        return check_qubit(q);
     }
-    first
+    let second = check_own_qubit(width, r);
+    let different = check_different(q, r);
+    and_then(first, and_then(second, different))
 }
 
 // ---- tableaux of gates
@@ -106,50 +91,42 @@ fn gate_width(gate: usize, q: usize, r: usize) -> usize
     if q < r { r + 1 } else { q + 1 }
 }
 
-fn on_qubits_answer(gate: usize, q: usize, r: usize, room: usize) -> Outcome
-    ensures { λ o. ⌜ o ≡ onQubitsAnswer gate q r room ⌝ }
-{
-    let first = check_on_qubits(gate, q, r);
-    if let Outcome::Done = first {
-        return check_room(record_length(gate_width(gate, q, r)), room);
-    }
-    first
-}
-
-fn write_on_qubits(gate: usize, q: usize, r: usize, dst: &mut [u8])
-    requires { ⌜ GateFits gate q r (now dst) ⌝ }
-    ensures { λ _. ⌜ now (dst .exit) ≡ written Done (gateRecord gate q r) (now (dst .entry)) ⌝ }
-{
-    write_gate(gate, q, r, gate_width(gate, q, r), dst);
-}
-
 // A gate on its qubits; the second is not looked at for gates 0 to 23.
 pub fn on_qubits(gate: u8, q0: usize, q1: usize, dst: &mut [u8]) -> Outcome
     ensures { λ r. ⌜ GateWritten gate q0 q1 (now (dst .entry)) (now (dst .exit)) r ⌝ }
 {
     let g = gate as usize;
-    let answer = on_qubits_answer(g, q0, q1, dst.len());
+    let known = check_gate(38, g);
+    let answer = and_then(known, check_qubits(QUBITS, g, q0, q1));
     if let Outcome::Done = answer {
-        write_on_qubits(g, q0, q1, dst);
+        let made = Made::OfGate {
+            gate: g,
+            first: q0,
+            second: q1,
+        };
+        return write_made(made, b"", b"", gate_width(g, q0, q1), dst);
     }
     answer
 }
 
-fn on_qubit_answer(gate: usize, q: usize, room: usize) -> Outcome
-    ensures { λ o. ⌜ o ≡ onQubitAnswer gate q room ⌝ }
+// A gate on its qubits, at the width n; the second is not looked at for gates 0 to 23.
+pub fn on_width(n: usize, gate: u8, q0: usize, q1: usize, dst: &mut [u8]) -> Outcome
+    ensures { λ r. ⌜ WidthGateWritten n gate q0 q1 (now (dst .entry)) (now (dst .exit)) r ⌝ }
 {
-    let first = check_on_qubit(gate, q);
-    if let Outcome::Done = first {
-        return check_room(record_length(q + 1), room);
+    let g = gate as usize;
+    let known = check_gate(38, g);
+    let placed = and_then(known, check_qubits(n, g, q0, q1));
+    let narrow = check_width(n);
+    let answer = and_then(narrow, placed);
+    if let Outcome::Done = answer {
+        let made = Made::OfGate {
+            gate: g,
+            first: q0,
+            second: q1,
+        };
+        return write_made(made, b"", b"", n, dst);
     }
-    first
-}
-
-fn write_on_qubit(gate: usize, q: usize, dst: &mut [u8])
-    requires { ⌜ OneFits gate q (now dst) ⌝ }
-    ensures { λ _. ⌜ now (dst .exit) ≡ written Done (oneQubitRecord gate q) (now (dst .entry)) ⌝ }
-{
-    write_gate(gate, q, q, q + 1, dst);
+    answer
 }
 
 // A one-qubit gate on its qubit.
@@ -157,29 +134,32 @@ pub fn on_qubit(gate: u8, q: usize, dst: &mut [u8]) -> Outcome
     ensures { λ r. ⌜ OneQubitGateWritten gate q (now (dst .entry)) (now (dst .exit)) r ⌝ }
 {
     let g = gate as usize;
-    let answer = on_qubit_answer(g, q, dst.len());
+    let known = check_gate(24, g);
+    let answer = and_then(known, check_qubit(q));
     if let Outcome::Done = answer {
-        write_on_qubit(g, q, dst);
+        let made = Made::OfGate {
+            gate: g,
+            first: q,
+            second: q,
+        };
+        return write_made(made, b"", b"", q + 1, dst);
     }
     answer
-}
-
-// ---- the 24 products
-
-fn write_product(index: usize, q: usize, dst: &mut [u8])
-    requires { ⌜ OneFits index q (now dst) ⌝ }
-    ensures { λ _. ⌜ now (dst .exit) ≡ written Done (singleQubitCliffordRecord index q) (now (dst .entry)) ⌝ }
-{
-    write_on_qubit(product_number(index), q, dst);
 }
 
 // One of the 24 products of H and SZ, by its index.
 pub fn single_qubit_clifford(index: usize, qubit: usize, dst: &mut [u8]) -> Outcome
     ensures { λ r. ⌜ SingleQubitCliffordWritten index qubit (now (dst .entry)) (now (dst .exit)) r ⌝ }
 {
-    let answer = on_qubit_answer(index, qubit, dst.len());
+    let known = check_gate(24, index);
+    let answer = and_then(known, check_qubit(qubit));
     if let Outcome::Done = answer {
-        write_product(index, qubit, dst);
+        let made = Made::OfGate {
+            gate: product_number(index),
+            first: qubit,
+            second: qubit,
+        };
+        return write_made(made, b"", b"", qubit + 1, dst);
     }
     answer
 }
@@ -194,18 +174,9 @@ fn name_of(t: &[u8]) -> usize
     if width(t) != 1 {
         return 24;
     }
-    let x = PhasedLetter(row_phase(t, 0), letter_in_row(t, 0, 0));
-    let z = PhasedLetter(row_phase(t, 1), letter_in_row(t, 1, 0));
+    let x = PhasedLetter(phase_at(t, 0), letter_at(t, 0, 0));
+    let z = PhasedLetter(phase_at(t, 1), letter_at(t, 1, 0));
     first_gate(signed_images(x, z))
-}
-
-fn named(n: usize) -> GateAnswer
-    ensures { λ r. ⌜ r ≡ nameAnswer Done n ⌝ }
-{
-    if n < 24 {
-        return GateAnswer::Named(n as u8);
-    }
-    GateAnswer::Unnamed
 }
 
 // The first of the 24 gates, by number, whose images a tableau has.
@@ -214,22 +185,19 @@ pub fn from_clifford_rep(t: &[u8]) -> GateAnswer
 {
     let answer = check_tableau(t);
     match answer {
-        Outcome::Done => named(name_of(t)),
-        Outcome::Refused(why) => GateAnswer::NoGate(why),
+        Outcome::Done => {
+            let n = name_of(t);
+            if n < 24 {
+                GateAnswer::Named(n as u8)
+            } else {
+                GateAnswer::Unnamed
+            }
+        }
+        Outcome::Refused(why) => GateAnswer::GateRefused(why),
     }
 }
 
 // ---- products and inverses by number
-
-fn check_gates(g: usize, h: usize) -> Outcome
-    ensures { λ r. ⌜ r ≡ composeGateQuestions g h ⌝ }
-{
-    let first = check_gate(24, g);
-    if let Outcome::Done = first {
-        return check_gate(24, h);
-    }
-    first
-}
 
 // The number of the gate that g after h is.
 fn composed(g: usize, h: usize) -> usize
@@ -245,10 +213,11 @@ fn composed(g: usize, h: usize) -> usize
 pub fn compose(g: u8, h: u8) -> GateAnswer
     ensures { λ r. ⌜ GatesComposed g h r ⌝ }
 {
-    let answer = check_gates(g as usize, h as usize);
+    let first = check_gate(24, g as usize);
+    let answer = and_then(first, check_gate(24, h as usize));
     match answer {
         Outcome::Done => GateAnswer::Named(composed(g as usize, h as usize) as u8),
-        Outcome::Refused(why) => GateAnswer::NoGate(why),
+        Outcome::Refused(why) => GateAnswer::GateRefused(why),
     }
 }
 
@@ -259,6 +228,6 @@ pub fn inverse(g: u8) -> GateAnswer
     let answer = check_gate(38, g as usize);
     match answer {
         Outcome::Done => GateAnswer::Named(inverse_number(g as usize)),
-        Outcome::Refused(why) => GateAnswer::NoGate(why),
+        Outcome::Refused(why) => GateAnswer::GateRefused(why),
     }
 }

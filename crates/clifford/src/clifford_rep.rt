@@ -2,36 +2,30 @@
 // Copyright 2024 The PECOS Developers, Apache License, Version 2.0.
 ghost use mathlib.Core.Path.{_≡_};
 ghost use Prim.Native.Nat.{max};
-ghost use Rattle.pauli.specs.declared.refusal.Outcome.the-variants.{Done};
-ghost use Rattle.pauli.specs.Answers.{written};
 ghost use Rattle.clifford.specs.Display.{nameText, displayAnswer, startsWith};
-ghost use Rattle.clifford.specs.Questions.{imageQuestions, setQuestions, identityAnswer, applyQuestions, applyAnswer, composeAnswer, extendQuestions, extendAnswer, inverseAnswer, pauliAnswer, supportAnswer};
-ghost use Rattle.clifford.specs.Tableaux.{xImagePart, zImagePart, identityRecord, applyRecord, composeRecord, extendRecord, inverseRecord, pauliRecord};
-ghost use Rattle.clifford.specs.Inside.Writing.{Applies, Identifies, ExtendsTo, ComposesTo, SignsTo};
-ghost use Rattle.clifford.specs.Inside.InverseRows.{InvertsTo};
+ghost use Rattle.clifford.specs.Questions.{imageQuestions, setQuestions, supportAnswer};
+ghost use Rattle.clifford.specs.Tableaux.{xImagePart, zImagePart};
 ghost use Rattle.clifford.specs.Promises.{XImageAt, ZImageAt, XImageSet, ZImageSet, IdentityWritten, Applied, Composed, Extended, Inverted, ValidityTold, FromPauliString, SupportWritten, Displayed};
-use crate::composing::write_composed;
-use crate::composing::write_extended;
+use crate::applying::apply_string;
 use crate::displaying::display_length;
 use crate::displaying::starts_with;
 use crate::displaying::write_display;
-use crate::inverting::write_inverse;
-use crate::layout::record_length;
 use crate::layout::row;
 use crate::layout::row_offset;
 use crate::layout::width;
+use crate::pauli_tableau::span;
 use crate::questions::check_slot;
 use crate::questions::check_tableau;
 use crate::questions::check_tableaux;
 use crate::questions::check_width;
-use crate::sending::send;
 use crate::setting::check_inside;
 use crate::setting::set_row;
-use crate::signing::span;
-use crate::signing::write_signs;
 use crate::support::support_count;
 use crate::support::write_support;
 use crate::validity::valid_rows;
+use crate::writing::Made;
+use crate::writing::write_made;
+use pauli::STRING_LENGTH;
 use pauli::questions::and_then;
 use pauli::questions::check_room;
 use pauli::questions::check_string;
@@ -47,28 +41,19 @@ fn larger(a: usize, b: usize) -> usize
 
 // ---- images
 
-fn check_image(t: &[u8], slot: usize) -> Outcome
-    ensures { λ r. ⌜ r ≡ imageQuestions (now (t .entry)) slot ⌝ }
-{
-    let first = check_tableau(t);
-    if let Outcome::Done = first {
-        return check_slot(slot, width(t));
-    }
-    first
-}
-
 // Whether X of this qubit has an image to hand out: Done, or the refusal.
 pub fn x_image_answer(t: &[u8], slot: usize) -> Outcome
     ensures { λ r. ⌜ r ≡ imageQuestions (now (t .entry)) slot ⌝ }
 {
-    check_image(t, slot)
+    let whole = check_tableau(t);
+    and_then(whole, check_slot(slot, width(t)))
 }
 
 // The image of X on this qubit, the row's own part of the record; no bytes where the answer is a refusal.
 pub fn x_image(t: &[u8], slot: usize) -> &[u8]
     ensures { λ p. ⌜ now p ≡ xImagePart (now (t .entry)) slot ⌝ }
 {
-    let answer = check_image(t, slot);
+    let answer = x_image_answer(t, slot);
     if let Outcome::Done = answer {
         return row(t, slot);
     }
@@ -79,14 +64,15 @@ pub fn x_image(t: &[u8], slot: usize) -> &[u8]
 pub fn z_image_answer(t: &[u8], slot: usize) -> Outcome
     ensures { λ r. ⌜ r ≡ imageQuestions (now (t .entry)) slot ⌝ }
 {
-    check_image(t, slot)
+    let whole = check_tableau(t);
+    and_then(whole, check_slot(slot, width(t)))
 }
 
 // The image of Z on this qubit, the row's own part of the record; no bytes where the answer is a refusal.
 pub fn z_image(t: &[u8], slot: usize) -> &[u8]
     ensures { λ p. ⌜ now p ≡ zImagePart (now (t .entry)) slot ⌝ }
 {
-    let answer = check_image(t, slot);
+    let answer = z_image_answer(t, slot);
     if let Outcome::Done = answer {
         return row(t, width(t) + slot);
     }
@@ -97,7 +83,7 @@ pub fn z_image(t: &[u8], slot: usize) -> &[u8]
 pub fn x_image_offset(t: &[u8], slot: usize) -> CountAnswer
     ensures { λ r. ⌜ XImageAt (now (t .entry)) slot r ⌝ }
 {
-    let answer = check_image(t, slot);
+    let answer = x_image_answer(t, slot);
     match answer {
         Outcome::Done => CountAnswer::Count(row_offset(width(t), slot)),
         Outcome::Refused(why) => CountAnswer::NoCount(why),
@@ -108,7 +94,7 @@ pub fn x_image_offset(t: &[u8], slot: usize) -> CountAnswer
 pub fn z_image_offset(t: &[u8], slot: usize) -> CountAnswer
     ensures { λ r. ⌜ ZImageAt (now (t .entry)) slot r ⌝ }
 {
-    let answer = check_image(t, slot);
+    let answer = z_image_answer(t, slot);
     match answer {
         Outcome::Done => {
             let n = width(t);
@@ -121,7 +107,8 @@ pub fn z_image_offset(t: &[u8], slot: usize) -> CountAnswer
 fn set_answer(t: &[u8], slot: usize, s: &[u8]) -> Outcome
     ensures { λ r. ⌜ r ≡ setQuestions (now (t .entry)) slot (now (s .entry)) ⌝ }
 {
-    let first = check_apply(t, s);
+    let whole = check_tableau(t);
+    let first = and_then(whole, check_string(s));
     let Outcome::Done = first else {
         return first;
     };
@@ -155,172 +142,69 @@ pub fn set_z_image(t: &mut [u8], slot: usize, s: &[u8]) -> Outcome
 
 // ---- identity
 
-fn identity_answer(n: usize, room: usize) -> Outcome
-    ensures { λ r. ⌜ r ≡ identityAnswer n room ⌝ }
-{
-    let first = check_width(n);
-    if let Outcome::Done = first {
-        return check_room(record_length(n), room);
-    }
-    first
-}
-
-// The tableau of width 0 widened to n.
-fn write_identity(n: usize, dst: &mut [u8])
-    requires { ⌜ Identifies n (now dst) ⌝ }
-    ensures { λ _. ⌜ now (dst .exit) ≡ written Done (identityRecord n) (now (dst .entry)) ⌝ }
-{
-    let none = [0u8; 1];
-    write_extended(&none, n, dst);
-}
-
-// The identity of width n.
+// The identity of width n: the tableau of width 0 widened.
 pub fn identity(n: usize, dst: &mut [u8]) -> Outcome
     ensures { λ r. ⌜ IdentityWritten n (now (dst .entry)) (now (dst .exit)) r ⌝ }
 {
-    let answer = identity_answer(n, dst.len());
+    let answer = check_width(n);
     if let Outcome::Done = answer {
-        write_identity(n, dst);
+        let none = [0u8; 1];
+        return write_made(Made::Widened, &none, &none, n, dst);
     }
     answer
 }
 
 // ---- apply
 
-fn check_apply(t: &[u8], s: &[u8]) -> Outcome
-    ensures { λ r. ⌜ r ≡ applyQuestions (now (t .entry)) (now (s .entry)) ⌝ }
-{
-    let first = check_tableau(t);
-    if let Outcome::Done = first {
-        return check_string(s);
-    }
-    first
-}
-
-fn apply_answer(t: &[u8], s: &[u8], room: usize) -> Outcome
-    ensures { λ r. ⌜ r ≡ applyAnswer (now (t .entry)) (now (s .entry)) room ⌝ }
-{
-    let first = check_apply(t, s);
-    if let Outcome::Done = first {
-        return check_room(129, room);
-    }
-    first
-}
-
-fn write_applied(t: &[u8], s: &[u8], dst: &mut [u8])
-    requires { ⌜ Applies (now t) (now s) (now dst) ⌝ }
-    ensures { λ _. ⌜ now (dst .exit) ≡ written Done (applyRecord (now (t .entry)) (now (s .entry))) (now (dst .entry)) ⌝ }
-{
-    send(t, s, &mut dst[0..129]);
-}
-
 // The image of the string s.
 pub fn apply(t: &[u8], s: &[u8], dst: &mut [u8]) -> Outcome
     ensures { λ r. ⌜ Applied (now (t .entry)) (now (s .entry)) (now (dst .entry)) (now (dst .exit)) r ⌝ }
 {
-    let answer = apply_answer(t, s, dst.len());
+    let whole = check_tableau(t);
+    let both = and_then(whole, check_string(s));
+    let answer = and_then(both, check_room(STRING_LENGTH, dst.len()));
     if let Outcome::Done = answer {
-        write_applied(t, s, dst);
+        apply_string(t, s, &mut dst[0..STRING_LENGTH]);
     }
     answer
 }
 
 // ---- compose
 
-fn compose_answer(a: &[u8], b: &[u8], room: usize) -> Outcome
-    ensures { λ r. ⌜ r ≡ composeAnswer (now (a .entry)) (now (b .entry)) room ⌝ }
-{
-    let first = check_tableaux(a, b);
-    if let Outcome::Done = first {
-        return check_room(record_length(larger(width(a), width(b))), room);
-    }
-    first
-}
-
-fn compose_into(a: &[u8], b: &[u8], dst: &mut [u8])
-    requires { ⌜ ComposesTo (now a) (now b) (now dst) ⌝ }
-    ensures { λ _. ⌜ now (dst .exit) ≡ written Done (composeRecord (now (a .entry)) (now (b .entry))) (now (dst .entry)) ⌝ }
-{
-    write_composed(a, b, larger(width(a), width(b)), dst);
-}
-
 // a composed with b: b acts first.
 pub fn compose(a: &[u8], b: &[u8], dst: &mut [u8]) -> Outcome
     ensures { λ r. ⌜ Composed (now (a .entry)) (now (b .entry)) (now (dst .entry)) (now (dst .exit)) r ⌝ }
 {
-    let answer = compose_answer(a, b, dst.len());
+    let answer = check_tableaux(a, b);
     if let Outcome::Done = answer {
-        compose_into(a, b, dst);
+        return write_made(Made::Composite, a, b, larger(width(a), width(b)), dst);
     }
     answer
 }
 
 // ---- extended_to
 
-fn check_extend(t: &[u8], n: usize) -> Outcome
-    ensures { λ r. ⌜ r ≡ extendQuestions (now (t .entry)) n ⌝ }
-{
-    let first = check_tableau(t);
-    if let Outcome::Done = first {
-        return check_width(n);
-    }
-    first
-}
-
-fn extend_answer(t: &[u8], n: usize, room: usize) -> Outcome
-    ensures { λ r. ⌜ r ≡ extendAnswer (now (t .entry)) n room ⌝ }
-{
-    let first = check_extend(t, n);
-    if let Outcome::Done = first {
-        return check_room(record_length(larger(width(t), n)), room);
-    }
-    first
-}
-
-fn extend_into(t: &[u8], n: usize, dst: &mut [u8])
-    requires { ⌜ ExtendsTo (now t) n (now dst) ⌝ }
-    ensures { λ _. ⌜ now (dst .exit) ≡ written Done (extendRecord (now (t .entry)) n) (now (dst .entry)) ⌝ }
-{
-    write_extended(t, larger(width(t), n), dst);
-}
-
 // The tableau widened to n; a smaller n gives a copy.
 pub fn extended_to(t: &[u8], n: usize, dst: &mut [u8]) -> Outcome
     ensures { λ r. ⌜ Extended (now (t .entry)) n (now (dst .entry)) (now (dst .exit)) r ⌝ }
 {
-    let answer = extend_answer(t, n, dst.len());
+    let whole = check_tableau(t);
+    let answer = and_then(whole, check_width(n));
     if let Outcome::Done = answer {
-        extend_into(t, n, dst);
+        return write_made(Made::Widened, t, t, larger(width(t), n), dst);
     }
     answer
 }
 
 // ---- inverse
 
-fn inverse_answer(t: &[u8], room: usize) -> Outcome
-    ensures { λ r. ⌜ r ≡ inverseAnswer (now (t .entry)) room ⌝ }
-{
-    let first = check_tableau(t);
-    if let Outcome::Done = first {
-        return check_room(record_length(width(t)), room);
-    }
-    first
-}
-
-fn inverse_into(t: &[u8], dst: &mut [u8])
-    requires { ⌜ InvertsTo (now t) (now dst) ⌝ }
-    ensures { λ _. ⌜ now (dst .exit) ≡ written Done (inverseRecord (now (t .entry))) (now (dst .entry)) ⌝ }
-{
-    write_inverse(t, width(t), dst);
-}
-
 // The inverse. Of an invalid tableau, what the same rule gives.
 pub fn inverse(t: &[u8], dst: &mut [u8]) -> Outcome
     ensures { λ r. ⌜ Inverted (now (t .entry)) (now (dst .entry)) (now (dst .exit)) r ⌝ }
 {
-    let answer = inverse_answer(t, dst.len());
+    let answer = check_tableau(t);
     if let Outcome::Done = answer {
-        inverse_into(t, dst);
+        return write_made(Made::Inverse, t, t, width(t), dst);
     }
     answer
 }
@@ -340,30 +224,13 @@ pub fn is_valid(t: &[u8]) -> Flag
 
 // ---- the tableau of a Pauli string
 
-fn pauli_answer(s: &[u8], room: usize) -> Outcome
-    ensures { λ r. ⌜ r ≡ pauliAnswer (now (s .entry)) room ⌝ }
-{
-    let first = check_string(s);
-    if let Outcome::Done = first {
-        return check_room(record_length(span(s)), room);
-    }
-    first
-}
-
-fn write_pauli(s: &[u8], dst: &mut [u8])
-    requires { ⌜ SignsTo (now s) (now dst) ⌝ }
-    ensures { λ _. ⌜ now (dst .exit) ≡ written Done (pauliRecord (now (s .entry))) (now (dst .entry)) ⌝ }
-{
-    write_signs(s, span(s), dst);
-}
-
 // The string as a tableau, of width 1 where it has no letters.
 pub fn from_pauli_string(s: &[u8], dst: &mut [u8]) -> Outcome
     ensures { λ r. ⌜ FromPauliString (now (s .entry)) (now (dst .entry)) (now (dst .exit)) r ⌝ }
 {
-    let answer = pauli_answer(s, dst.len());
+    let answer = check_string(s);
     if let Outcome::Done = answer {
-        write_pauli(s, dst);
+        return write_made(Made::OfPauli, s, s, span(s), dst);
     }
     answer
 }

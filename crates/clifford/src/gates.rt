@@ -1,29 +1,20 @@
 // The images of the gates, and the rows of their tableaux. Ports clifford.rs and the constructors of clifford_rep.rs of PECOS,
 // changed: Copyright 2026 and 2024 The PECOS Developers, Apache License, Version 2.0.
 ghost use mathlib.Core.Path.{_≡_};
-ghost use mathlib.Core.Bool.{cond};
-ghost use Prim.Native.Nat.{_<_};
-ghost use lib.Dec.{eqb};
+ghost use Prim.Native.Nat.{suc, max, _<_};
 ghost use lib.ListN.{getD};
-ghost use Rattle.clifford_group.specs.Tableau.{rowImage};
+ghost use Rattle.clifford_group.specs.Tableau.{imageOf};
 ghost use Rattle.clifford_gates.specs.GateTableaux.{imageString};
 ghost use Rattle.clifford_gates.specs.GateNumbers.{oneQubitGate, twoQubitGate, gateTableau, productGates, inverseNumbers};
 ghost use Rattle.clifford_gates.specs.Updates.{letterImage, sentImage};
-ghost use Rattle.pauli.specs.declared.refusal.Outcome.the-variants.{Done};
-ghost use Rattle.pauli.specs.Answers.{written};
 ghost use Rattle.pauli.specs.Layout.{letterOf, encodeString};
-ghost use Rattle.clifford.specs.Layout.{rowOf, tableauRecord};
-ghost use Rattle.clifford.specs.Inside.Rows.{rowWritten, lettersIn};
+ghost use Rattle.clifford.specs.Inside.Rows.{lettersIn};
 ghost use Rattle.clifford.specs.GateQuestions.{gateWidth};
 ghost use Rattle.clifford.specs.GateRows.{imageBytes, yBytes, ImageOf};
-ghost use Rattle.clifford.specs.Inside.GateRows.{pairBytes, imageHeld, minusByte, signedBytes, sameEntry, firstEntry, NameIs, TakesTwo, generatorImage, PairOf, OneRow, pairOn, ImageAsked, RowImageOf, rowImageString, PutsImage, WritesGate, WritesGateRow, WritesGateBy};
-use crate::layout::row_letter;
-use crate::layout::row_offset;
-use crate::layout::row_qubit;
+ghost use Rattle.clifford.specs.Inside.GateRows.{pairBytes, imageHeld, minusByte, signedBytes, sameEntry, firstEntry, NameIs, TakesTwo, EntryPlace, entryPair, OneRow, ImageAsked, RowImageOf, rowImageString, PutsImage};
+use crate::applying::clear_row;
+use crate::applying::multiply_letter;
 use crate::layout::wide;
-use crate::layout::write_row;
-use crate::sending::clear_row;
-use crate::sending::multiply_letter;
 use pauli::algebra::PhasedLetter;
 use pauli::algebra::multiply_paulis;
 use pauli::rows::phase_times;
@@ -144,9 +135,6 @@ const INVERSES: [u8; 38] = [
     36,
 ];
 
-// A sign, and a letter on each of two qubits.
-pub(crate) struct PairBytes(u8, u8, u8);
-
 // A sign, a letter on a qubit, and one more letter on a qubit.
 pub(crate) struct RowImage {
     sign: u8,
@@ -195,30 +183,6 @@ pub(crate) fn letter_image(gate: usize, letter: u8) -> PhasedLetter
         2 => PhasedLetter(e[2], e[3]),
         _ => y_image(e),
     }
-}
-
-// What a two-qubit gate makes of X or of Z on its first qubit.
-fn first_image(gate: usize, letter: u8) -> PairBytes
-    requires { ⌜ TakesTwo gate ⌝ }
-    ensures { λ r. ⌜ PairOf (generatorImage (twoQubitGate gate .x0) (twoQubitGate gate .z0) letter) r ⌝ }
-{
-    let e = images_2q(gate);
-    if letter == 1 {
-        return PairBytes(e[0], e[1], e[2]);
-    }
-    PairBytes(e[6], e[7], e[8])
-}
-
-// The same, on its second qubit.
-fn second_image(gate: usize, letter: u8) -> PairBytes
-    requires { ⌜ TakesTwo gate ⌝ }
-    ensures { λ r. ⌜ PairOf (generatorImage (twoQubitGate gate .x1) (twoQubitGate gate .z1) letter) r ⌝ }
-{
-    let e = images_2q(gate);
-    if letter == 1 {
-        return PairBytes(e[3], e[4], e[5]);
-    }
-    PairBytes(e[9], e[10], e[11])
 }
 
 // ---- gates found by their images
@@ -310,91 +274,48 @@ fn on_one(gate: usize, k: usize, letter: u8) -> RowImage
     }
 }
 
-// An image on the two qubits of a gate.
-fn on_pair(image: PairBytes, q: usize, r: usize) -> RowImage
-    ensures { λ i. ⌜ i ≡ pairOn image q r ⌝ }
+// The image that starts at this place of a two-qubit gate's entry, on the gate's qubits.
+fn on_two(gate: usize, at: usize, q: usize, r: usize) -> RowImage
+    requires { ⌜ EntryPlace gate at ⌝ }
+    ensures { λ i. ⌜ i ≡ entryPair (pairBytes (twoQubitGate gate)) at q r ⌝ }
 {
+    let e = images_2q(gate);
     RowImage {
-        sign: image.0,
-        first: image.1,
+        sign: e[at],
+        first: e[at + 1],
         place: q,
-        second: image.2,
+        second: e[at + 2],
         other: r,
     }
 }
 
-// The gate on qubit k of one on qubit q: gate 0, the identity, on the others.
-fn gate_at(gate: usize, q: usize, k: usize) -> usize
-    ensures { λ r. ⌜ r ≡ cond (eqb k q) gate 0 ⌝ }
-{
-    if k == q { gate } else { 0 }
-}
-
-// A gate's image of X or of Z on qubit k.
-fn gate_image(gate: usize, q: usize, r: usize, k: usize, letter: u8) -> RowImage
-    requires { ⌜ ImageAsked gate q r k letter ⌝ }
-    ensures { λ i. ⌜ RowImageOf (gateWidth gate q r) (rowImage (gateTableau gate q r) k (letterOf letter)) i ⌝ }
+// A gate's image of X or of Z on qubit k, also where the gate's tableau is narrower.
+pub(crate) fn gate_image(gate: usize, q: usize, r: usize, k: usize, letter: u8) -> RowImage
+    requires { ⌜ ImageAsked gate q r letter ⌝ }
+    ensures { λ i. ⌜ RowImageOf (max (gateWidth gate q r) (suc k)) (imageOf (gateTableau gate q r) k (letterOf letter)) i ⌝ }
 {
     if gate < 24 {
-        return on_one(gate_at(gate, q, k), k, letter);
+        if k == q {
+            return on_one(gate, k, letter);
+        }
+        return on_one(0, k, letter);
     }
+    let row = 6 * wide(letter);
     if k == q {
-        return on_pair(first_image(gate, letter), q, r);
+        return on_two(gate, row - 6, q, r);
     }
     if k == r {
-        return on_pair(second_image(gate, letter), q, r);
+        return on_two(gate, row - 3, q, r);
     }
     on_one(0, k, letter)
 }
 
 // An image as a work row.
-fn put_image(image: RowImage, work: &mut [u8])
+pub(crate) fn put_image(image: RowImage, work: &mut [u8])
     requires { ⌜ PutsImage image (now work) ⌝ }
     ensures { λ _. ⌜ now (work .exit) ≡ encodeString (lettersIn (now (work .entry))) (rowImageString image) ⌝ }
 {
     clear_row(work, image.sign);
     multiply_letter(work, image.place, image.first);
     multiply_letter(work, image.other, image.second);
-}
-
-// Row i of a gate's tableau, by way of a work row.
-fn gate_row_by(
-    gate: usize,
-    q: usize,
-    r: usize,
-    width: usize,
-    i: usize,
-    work: &mut [u8],
-    dst: &mut [u8],
-)
-    requires { ⌜ WritesGateBy gate q r width i (now work) (now dst) ⌝ }
-    ensures { λ _. ⌜ now (dst .exit) ≡ rowWritten width (rowOf (gateTableau gate q r) i) (now (dst .entry)) ⌝ }
-{
-    let k = row_qubit(width, i);
-    let letter = row_letter(width, i);
-    put_image(gate_image(gate, q, r, k, letter), work);
-    write_row(work, dst);
-}
-
-// Row i of a gate's tableau, over the front of dst.
-fn gate_row(gate: usize, q: usize, r: usize, width: usize, i: usize, dst: &mut [u8])
-    requires { ⌜ WritesGateRow gate q r width i (now dst) ⌝ }
-    ensures { λ _. ⌜ now (dst .exit) ≡ rowWritten width (rowOf (gateTableau gate q r) i) (now (dst .entry)) ⌝ }
-{
-    let mut work = [0u8; 129];
-    gate_row_by(gate, q, r, width, i, &mut work[0..width + 1], dst);
-}
-
-// A gate's tableau, each row at its own offset.
-pub(crate) fn write_gate(gate: usize, q: usize, r: usize, width: usize, dst: &mut [u8])
-    requires { ⌜ WritesGate gate q r width (now dst) ⌝ }
-    ensures { λ _. ⌜ now (dst .exit) ≡ written Done (tableauRecord (gateTableau gate q r)) (now (dst .entry)) ⌝ }
-{
-    dst[0] = width as u8;
-    let mut i = 0;
-    while i < 2 * width {
-        let at = row_offset(width, i);
-        gate_row(gate, q, r, width, i, &mut dst[at..]);
-        i += 1;
-    }
 }

@@ -2,17 +2,12 @@
 // Copyright 2024 The PECOS Developers, Apache License, Version 2.0.
 ghost use mathlib.Core.Path.{_≡_};
 ghost use Rattle.clifford_group.specs.Tableau.{inverse};
-ghost use Rattle.pauli.specs.declared.refusal.Outcome.the-variants.{Done};
-ghost use Rattle.pauli.specs.Answers.{written};
-ghost use Rattle.pauli.specs.Layout.{phaseByte, letterByte, encodeString};
-ghost use Rattle.clifford.specs.Layout.{rowOf, tableauOf, tableauRecord};
-ghost use Rattle.clifford.specs.Inside.Rows.{rowWritten};
-ghost use Rattle.clifford.specs.Inside.InverseRows.{bitRead, bitByte, bodyOf, ReadsBit, ReadsLetter, WritesBody, SendsBody, InvertsRow, InvertsBy, Inverts};
+ghost use Rattle.pauli.specs.Layout.{letterByte, encodeString};
+ghost use Rattle.clifford.specs.Layout.{rowOf, tableauOf};
+ghost use Rattle.clifford.specs.Inside.InverseRows.{bitRead, bitByte, bodyOf, ReadsBit, ReadsLetter, WritesBody, InvertsRow};
+use crate::applying::apply_string;
 use crate::layout::letter_in_row;
-use crate::layout::row_offset;
 use crate::layout::row_qubit;
-use crate::layout::write_row;
-use crate::sending::send;
 use pauli::quarter_phase::phase_conjugate;
 
 // The bit that row r of the inverse reads in row s of t, in the column of its qubit: the z bit for an X row, the x bit for a Z row.
@@ -47,52 +42,12 @@ fn write_body(t: &[u8], width: usize, r: usize, body: &mut [u8])
     }
 }
 
-// The phase of row r: the conjugate of the one met when its body is sent forward.
-fn phase_back(t: &[u8], width: usize, r: usize, body: &[u8], work: &mut [u8]) -> u8
-    requires { ⌜ SendsBody (now t) width r (now body) (now work) ⌝ }
-    ensures { λ p. ⌜ p ≡ phaseByte (rowOf (inverse (tableauOf (now (t .entry)))) r .phase) ⌝ }
+// Row r of the inverse, as a work row: its body, with the conjugate of the phase met when the body is sent forward.
+pub(crate) fn inverse_row(t: &[u8], width: usize, r: usize, source: &mut [u8], work: &mut [u8])
+    requires { ⌜ InvertsRow (now t) width r (now source) (now work) ⌝ }
+    ensures { λ _. ⌜ now (work .exit) ≡ encodeString width (rowOf (inverse (tableauOf (now (t .entry)))) r) ⌝ }
 {
-    send(t, body, work);
-    phase_conjugate(work[0])
-}
-
-// Row r of the inverse, by way of its body and a work row.
-fn invert_by(t: &[u8], width: usize, r: usize, body: &mut [u8], work: &mut [u8], dst: &mut [u8])
-    requires { ⌜ InvertsBy (now t) width r (now body) (now work) (now dst) ⌝ }
-    ensures { λ _. ⌜ now (dst .exit) ≡ rowWritten width (rowOf (inverse (tableauOf (now (t .entry)))) r) (now (dst .entry)) ⌝ }
-{
-    write_body(t, width, r, body);
-    body[0] = phase_back(t, width, r, body, work);
-    write_row(body, dst);
-}
-
-// Row r of the inverse, over the front of dst.
-fn invert_row(t: &[u8], width: usize, r: usize, dst: &mut [u8])
-    requires { ⌜ InvertsRow (now t) width r (now dst) ⌝ }
-    ensures { λ _. ⌜ now (dst .exit) ≡ rowWritten width (rowOf (inverse (tableauOf (now (t .entry)))) r) (now (dst .entry)) ⌝ }
-{
-    let mut body = [0u8; 129];
-    let mut work = [0u8; 129];
-    invert_by(
-        t,
-        width,
-        r,
-        &mut body[0..width + 1],
-        &mut work[0..width + 1],
-        dst,
-    );
-}
-
-// The inverse, each row at its own offset.
-pub(crate) fn write_inverse(t: &[u8], width: usize, dst: &mut [u8])
-    requires { ⌜ Inverts (now t) width (now dst) ⌝ }
-    ensures { λ _. ⌜ now (dst .exit) ≡ written Done (tableauRecord (inverse (tableauOf (now (t .entry))))) (now (dst .entry)) ⌝ }
-{
-    dst[0] = width as u8;
-    let mut r = 0;
-    while r < 2 * width {
-        let at = row_offset(width, r);
-        invert_row(t, width, r, &mut dst[at..]);
-        r += 1;
-    }
+    write_body(t, width, r, work);
+    apply_string(t, work, source);
+    work[0] = phase_conjugate(source[0]);
 }

@@ -1,12 +1,19 @@
 // Tableau records: where their rows are, and how one row is read and written. Only here does code know the bytes of a row.
 ghost use mathlib.Core.Path.{_≡_};
 ghost use Prim.Native.Nat.{_≤_, min};
-ghost use Rattle.pauli.specs.Layout.{phaseOf, letterByte};
-ghost use Rattle.clifford.specs.Layout.{widthOf, recordLength, rowOffset, rowOf, rowPart, tableauOf, rowQubit, rowLetter};
-ghost use Rattle.clifford.specs.Inside.Rows.{Sized, RowIndex, OwnRow, OwnLetter, WorkOnRow, Finished, rowTimes, rowWritten, rowLetters, lettersIn, stringIn, OnRow};
-ghost use Rattle.clifford.specs.Inside.Playing.{tableOnRow};
+ghost use lib.ListN.{getD};
+ghost use Rattle.pauli.specs.Layout.{phaseByte, letterByte};
+ghost use Rattle.clifford.specs.Playing.{tableOnRow};
+ghost use Rattle.clifford.specs.Layout.{widthOf, recordLength, rowOffset, rowOf, rowPart, readRow, tableauOf, rowQubit, rowLetter};
+ghost use Rattle.clifford.specs.Questions.{rowQuestion};
+ghost use Rattle.clifford.specs.Inside.Rows.{Sized, RowIndex, RowInside, OwnRow, OwnLetter, WorkOnRow, Finished, rowTimes, rowWritten, rowLetters, lettersIn, stringIn, OnRow};
+use pauli::QUBITS;
+use pauli::refusal::Outcome;
+use pauli::refusal::Refusal;
 use pauli::rows::copy;
-use pauli::rows::multiply_row;
+use pauli::rows::first_bad;
+use pauli::rows::multiply_letters;
+use pauli::rows::phase_times;
 
 pub(crate) fn wide(x: u8) -> usize
     ensures { λ r. ⌜ r ≡ x ⌝ }
@@ -23,6 +30,9 @@ pub fn width(t: &[u8]) -> usize
     }
     wide(t[0])
 }
+
+// The length of a record of width 128.
+pub const LONGEST_RECORD: usize = 33025;
 
 // The length of a record.
 pub(crate) fn record_length(width: usize) -> usize
@@ -42,7 +52,7 @@ pub(crate) fn row_offset(width: usize, r: usize) -> usize
 
 // The row's own part of the record.
 pub(crate) fn row(t: &[u8], r: usize) -> &[u8]
-    requires { ⌜ OwnRow (now t) r ⌝ }
+    requires { ⌜ RowInside (now t) r ⌝ }
     ensures { λ p. ⌜ now p ≡ rowPart (now (t .entry)) r ⌝ }
 {
     let n = width(t);
@@ -50,14 +60,25 @@ pub(crate) fn row(t: &[u8], r: usize) -> &[u8]
     &t[at..at + (n + 1)]
 }
 
-// The phase of row r, and its letters.
-pub(crate) fn row_phase(t: &[u8], r: usize) -> u8
-    requires { ⌜ OwnRow (now t) r ⌝ }
-    ensures { λ p. ⌜ phaseOf p ≡ rowOf (tableauOf (now (t .entry))) r .phase ⌝ }
+// Question 3, put to row r.
+pub(crate) fn check_row(t: &[u8], r: usize) -> Outcome
+    requires { ⌜ RowInside (now t) r ⌝ }
+    ensures { λ o. ⌜ o ≡ rowQuestion (rowOffset (widthOf (now (t .entry))) r) (rowPart (now (t .entry)) r) ⌝ }
 {
-    row(t, r)[0]
+    let at = row_offset(width(t), r);
+    let whole = row(t, r);
+    if 3 < whole[0] {
+        return Outcome::Refused(Refusal::BadByte { offset: at });
+    }
+    let letters = &whole[1..];
+    let k = first_bad(letters);
+    if k < letters.len() {
+        return Outcome::Refused(Refusal::BadByte { offset: at + 1 + k });
+    }
+    Outcome::Done
 }
 
+// The letters of row r.
 pub(crate) fn row_letters(t: &[u8], r: usize) -> &[u8]
     requires { ⌜ OwnRow (now t) r ⌝ }
     ensures { λ l. ⌜ now l ≡ rowLetters (now (t .entry)) r ⌝ }
@@ -71,7 +92,10 @@ pub(crate) fn multiply_by(work: &mut [u8], t: &[u8], r: usize)
     requires { ⌜ WorkOnRow (now t) (now work) r ⌝ }
     ensures { λ _. ⌜ now (work .exit) ≡ rowTimes (now (work .entry)) (rowOf (tableauOf (now (t .entry))) r) ⌝ }
 {
-    multiply_row(work, row(t, r));
+    let factor = row(t, r);
+    let p = phase_times(work[0], factor[0]);
+    let phase = multiply_letters(&mut work[1..], &factor[1..], p);
+    work[0] = phase;
 }
 
 // A finished work row, written as the row at the front of dst.
@@ -79,7 +103,8 @@ pub(crate) fn write_row(work: &[u8], dst: &mut [u8])
     requires { ⌜ Finished (now work) (now dst) ⌝ }
     ensures { λ _. ⌜ now (dst .exit) ≡ rowWritten (lettersIn (now (work .entry))) (stringIn (now (work .entry))) (now (dst .entry)) ⌝ }
 {
-    copy(work, dst);
+    dst[0] = work[0];
+    copy(&work[1..], &mut dst[1..]);
 }
 
 // The qubit of row r, and its letter: X rows come first.
@@ -108,6 +133,47 @@ fn read(x: u8) -> u8
     ensures { λ r. ⌜ r ≡ min x 3 ⌝ }
 {
     if x < 3 { x } else { 3 }
+}
+
+// The byte at this place of t as it is read; one that isn't there as 0.
+fn read_at(t: &[u8], at: usize) -> u8
+    ensures { λ r. ⌜ r ≡ min (getD (now (t .entry)) at 0) 3 ⌝ }
+{
+    if t.len() <= at {
+        return 0;
+    }
+    read(t[at])
+}
+
+// The phase of row r, whatever the bytes of t: +1 where a record of this width has no such row.
+pub fn phase_at(t: &[u8], r: usize) -> u8
+    ensures { λ p. ⌜ p ≡ phaseByte (readRow (now (t .entry)) r .phase) ⌝ }
+{
+    let n = width(t);
+    if QUBITS < n {
+        return 0;
+    }
+    if 2 * n <= r {
+        return 0;
+    }
+    read_at(t, row_offset(n, r))
+}
+
+// The letter of row r on qubit q, whatever the bytes of t: I where a record of this width has no such row or qubit.
+pub fn letter_at(t: &[u8], r: usize, q: usize) -> u8
+    ensures { λ l. ⌜ l ≡ letterByte (readRow (now (t .entry)) r .letters q) ⌝ }
+{
+    let n = width(t);
+    if QUBITS < n {
+        return 0;
+    }
+    if 2 * n <= r {
+        return 0;
+    }
+    if n <= q {
+        return 0;
+    }
+    read_at(t, row_offset(n, r) + 1 + q)
 }
 
 // The row at the front of b, changed on qubits q and s as the table says.

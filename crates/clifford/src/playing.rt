@@ -1,17 +1,17 @@
 // A gate composed on the left of a tableau record, in place and in time linear in the width.
 ghost use mathlib.Core.Path.{_≡_};
-ghost use Prim.Native.Nat.{_<_};
 ghost use Rattle.clifford.specs.Layout.{eachRow};
-ghost use Rattle.clifford.specs.Playing.{secondQubit, secondFits, playable, GatePlayed};
-ghost use Rattle.clifford.specs.Inside.Playing.{tableOf, tableOnRow, OnRows};
+ghost use Rattle.clifford.specs.Playing.{secondQubit, secondFits, playable, GatePlayed, gateTables, PlayedBy, tableOnRow};
+ghost use Rattle.clifford.specs.Inside.Playing.{OnRows};
 use crate::layout::change_row;
 use crate::layout::record_length;
 use crate::layout::row_offset;
 use crate::layout::width;
+use pauli::QUBITS;
 
 // What each gate makes of the letters a and b on its qubits, at 4a + b: 16 for a sign, and 4 times the first letter, and the second.
 // A one-qubit gate looks at the first letter alone and gives its image twice.
-const TABLES_1Q: [[u8; 16]; 24] = [
+const TABLES: [[u8; 16]; 38] = [
     [0, 0, 0, 0, 5, 5, 5, 5, 10, 10, 10, 10, 15, 15, 15, 15], // 0: I
     [0, 0, 0, 0, 5, 5, 5, 5, 26, 26, 26, 26, 31, 31, 31, 31], // 1: X
     [0, 0, 0, 0, 21, 21, 21, 21, 26, 26, 26, 26, 15, 15, 15, 15], // 2: Y
@@ -36,9 +36,6 @@ const TABLES_1Q: [[u8; 16]; 24] = [
     [0, 0, 0, 0, 26, 26, 26, 26, 31, 31, 31, 31, 5, 5, 5, 5], // 21: F3dg
     [0, 0, 0, 0, 10, 10, 10, 10, 31, 31, 31, 31, 21, 21, 21, 21], // 22: F4
     [0, 0, 0, 0, 31, 31, 31, 31, 5, 5, 5, 5, 26, 26, 26, 26], // 23: F4dg
-];
-
-const TABLES_2Q: [[u8; 16]; 14] = [
     [0, 1, 10, 11, 5, 4, 31, 14, 8, 9, 2, 3, 13, 12, 7, 22], // 24: CX
     [0, 9, 10, 3, 7, 30, 13, 4, 8, 1, 2, 11, 15, 6, 21, 12], // 25: CY
     [0, 9, 2, 11, 6, 15, 4, 29, 8, 1, 10, 3, 14, 23, 12, 5], // 26: CZ
@@ -55,14 +52,11 @@ const TABLES_2Q: [[u8; 16]; 14] = [
     [0, 4, 9, 13, 1, 5, 8, 12, 6, 2, 15, 27, 7, 3, 30, 10], // 37: Gdg
 ];
 
-fn gate_table(gate: usize) -> [u8; 16]
-    requires { ⌜ gate < 38 ⌝ }
-    ensures { λ r. ⌜ r ≡ tableOf gate ⌝ }
+// All tables. A constant is laid out on the stack wherever it is named, so a run takes them once and lends them to each gate.
+pub fn gate_tables() -> [[u8; 16]; 38]
+    ensures { λ r. ⌜ r ≡ gateTables ⌝ }
 {
-    if gate < 24 {
-        return TABLES_1Q[gate];
-    }
-    TABLES_2Q[gate - 24]
+    TABLES
 }
 
 // The second qubit of a gate; the qubit of a one-qubit gate stands for both.
@@ -99,7 +93,7 @@ fn is_playable(gate: usize, q: usize, r: usize, t: &[u8]) -> bool
     if !second_fits(gate, q, r, n) {
         return false;
     }
-    if 128 < n {
+    if QUBITS < n {
         return false;
     }
     t.len() == record_length(n)
@@ -118,18 +112,26 @@ fn play_rows(table: &[u8; 16], q: usize, s: usize, width: usize, t: &mut [u8])
     }
 }
 
-// The gate's tableau composed on the left of the record t; the answer is whether it was. Where the gate, its qubits or the length
-// don't fit, t stays. The rows are not looked at before: a byte above 3 is read as 3.
-pub fn play_gate(gate: u8, q: usize, r: usize, t: &mut [u8]) -> bool
-    ensures { λ b. ⌜ GatePlayed gate q r (now (t .entry)) (now (t .exit)) b ⌝ }
+// `play_gate` by tables that are lent.
+pub fn play_with(tables: &[[u8; 16]; 38], gate: u8, q: usize, r: usize, t: &mut [u8]) -> bool
+    ensures { λ b. ⌜ PlayedBy (now (tables .entry)) gate q r (now (t .entry)) (now (t .exit)) b ⌝ }
 {
     let g = gate as usize;
     let fits = is_playable(g, q, r, t);
     if fits {
         let s = second_qubit(g, q, r);
         let n = width(t);
-        let table = gate_table(g);
+        let table = tables[g];
         play_rows(&table, q, s, n, t);
     }
     fits
+}
+
+// The gate's tableau composed on the left of the record t; the answer is whether it was. Where the gate, its qubits or the length
+// don't fit, t stays. The rows are not looked at before: a byte above 3 is read as 3.
+pub fn play_gate(gate: u8, q: usize, r: usize, t: &mut [u8]) -> bool
+    ensures { λ b. ⌜ GatePlayed gate q r (now (t .entry)) (now (t .exit)) b ⌝ }
+{
+    let tables = gate_tables();
+    play_with(&tables, gate, q, r, t)
 }

@@ -1,22 +1,22 @@
 // The questions on entry that are put to tableaux and to gates. Each answers Done, or the refusal.
 ghost use mathlib.Core.Path.{_≡_};
-ghost use Prim.Native.Nat.{min};
-ghost use lib.ListN.{drop};
-ghost use Rattle.pauli.specs.Questions.{bytesQuestion};
-ghost use Rattle.clifford.specs.Layout.{recordLength};
-ghost use Rattle.clifford.specs.Questions.{widthQuestion, slotQuestion, tableauQuestions, composeQuestions};
+ghost use Prim.Native.Nat.{_*_, min};
+ghost use Rattle.clifford.specs.Layout.{recordLength, widthOf};
+ghost use Rattle.clifford.specs.Inside.Rows.{Laid};
+ghost use Rattle.clifford.specs.Questions.{widthQuestion, slotQuestion, rowsQuestion, tableauQuestions, composeQuestions};
 ghost use Rattle.clifford.specs.GateQuestions.{gateQuestion, differentQuestion};
+use crate::layout::LONGEST_RECORD;
+use crate::layout::check_row;
 use crate::layout::record_length;
 use crate::layout::width;
+use pauli::QUBITS;
 use pauli::refusal::Outcome;
 use pauli::refusal::Refusal;
-use pauli::rows::first_bad;
-use pauli::rows::smaller;
 
 pub fn check_width(width: usize) -> Outcome
     ensures { λ r. ⌜ r ≡ widthQuestion width ⌝ }
 {
-    if 128 < width {
+    if QUBITS < width {
         return Outcome::Refused(Refusal::Width);
     }
     Outcome::Done
@@ -26,7 +26,10 @@ pub fn check_width(width: usize) -> Outcome
 pub fn record_size(width: usize) -> usize
     ensures { λ r. ⌜ r ≡ recordLength (min width 128) ⌝ }
 {
-    record_length(smaller(width, 128))
+    if QUBITS <= width {
+        return LONGEST_RECORD;
+    }
+    record_length(width)
 }
 
 // A qubit of a tableau whose image is meant.
@@ -39,17 +42,19 @@ pub fn check_slot(slot: usize, width: usize) -> Outcome
     Outcome::Refused(Refusal::Slot { slot, width })
 }
 
-// The bytes after the width.
+// Question 3, put row by row.
 fn check_rows(t: &[u8]) -> Outcome
-    ensures { λ r. ⌜ r ≡ bytesQuestion 1 (drop 1 (now (t .entry))) ⌝ }
+    requires { ⌜ Laid (now t) ⌝ }
+    ensures { λ r. ⌜ r ≡ rowsQuestion (2 * widthOf (now (t .entry))) (now (t .entry)) ⌝ }
 {
-    if t.len() == 0 {
-        return Outcome::Done;
-    }
-    let rows = &t[1..];
-    let k = first_bad(rows);
-    if k < rows.len() {
-        return Outcome::Refused(Refusal::BadByte { offset: 1 + k });
+    let rows = 2 * width(t);
+    let mut r = 0;
+    while r < rows {
+        let answer = check_row(t, r);
+        let Outcome::Done = answer else {
+            return answer;
+        };
+        r += 1;
     }
     Outcome::Done
 }
@@ -90,7 +95,7 @@ pub fn check_gate(limit: usize, gate: usize) -> Outcome
     if gate < limit {
         return Outcome::Done;
     }
-    Outcome::Refused(Refusal::Gate { record: 0 })
+    Outcome::Refused(Refusal::Gate)
 }
 
 // Two qubits of a gate.

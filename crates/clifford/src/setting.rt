@@ -9,6 +9,7 @@ ghost use Rattle.clifford.specs.Inside.Writing.{SetsRow};
 use crate::layout::row_offset;
 use crate::layout::width;
 use crate::layout::write_row;
+use pauli::QUBITS;
 use pauli::refusal::Outcome;
 use pauli::refusal::Refusal;
 
@@ -18,7 +19,7 @@ fn lowest_outside(s: &[u8], width: usize) -> usize
     ensures { λ r. ⌜ r ≡ lowestOutside width (stringOf (now (s .entry))) ⌝ }
 {
     let mut q = width;
-    while q < 128 {
+    while q < QUBITS {
         if s[q + 1] != 0 {
             return q;
         }
@@ -33,7 +34,7 @@ pub(crate) fn check_inside(s: &[u8], width: usize) -> Outcome
     ensures { λ r. ⌜ r ≡ insideQuestion width (stringOf (now (s .entry))) ⌝ }
 {
     let qubit = lowest_outside(s, width);
-    if qubit < 128 {
+    if qubit < QUBITS {
         return Outcome::Refused(Refusal::ImageWidth { qubit, width });
     }
     Outcome::Done

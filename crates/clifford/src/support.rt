@@ -2,16 +2,15 @@
 // Copyright 2024 The PECOS Developers, Apache License, Version 2.0.
 ghost use mathlib.Core.Path.{_≡_};
 ghost use Rattle.pauli_group.specs.PauliString.{single};
-ghost use Rattle.clifford_group.specs.Tableau.{allTo};
 ghost use Rattle.pauli.specs.declared.refusal.Outcome.the-variants.{Done};
 ghost use Rattle.pauli.specs.Answers.{written};
 ghost use Rattle.pauli.specs.Layout.{letterByte, letterOf};
 ghost use Rattle.clifford.specs.Layout.{FormedTableau, rowOf, tableauOf, widthOf};
 ghost use Rattle.clifford.specs.Inside.Rows.{OwnQubit, OwnQubits};
-ghost use Rattle.clifford.specs.Support.{alikeAt, isSingle, changedQubit, touchesQubit, supportsQubit, inSupport, supportQubits};
+ghost use Rattle.clifford.specs.Support.{isSingle, changedQubit, touchesQubit, supportsQubit, inSupport, supportQubits};
 ghost use Rattle.clifford.specs.Inside.Writing.{IsGenerator, SingleRow, SupportBit, SupportCount, QubitFits, QubitWritten, SupportFits};
+use crate::layout::phase_at;
 use crate::layout::row_letters;
-use crate::layout::row_phase;
 use crate::layout::width;
 
 // The byte of one letter on qubit q, at qubit c.
@@ -22,10 +21,10 @@ fn single_byte(letter: u8, q: usize, c: usize) -> u8
     if c == q { letter } else { 0 }
 }
 
-// Whether row r has this letter on qubit q and I elsewhere.
-fn single_letters(t: &[u8], r: usize, letter: u8, q: usize) -> bool
+// Whether row r is plus this letter on qubit q.
+fn is_single(t: &[u8], r: usize, letter: u8, q: usize) -> bool
     requires { ⌜ SingleRow (now t) r letter ⌝ }
-    ensures { λ b. ⌜ b ≡ allTo (widthOf (now (t .entry))) (alikeAt (rowOf (tableauOf (now (t .entry))) r) (single (letterOf letter) q)) ⌝ }
+    ensures { λ b. ⌜ b ≡ isSingle (widthOf (now (t .entry))) (letterOf letter) q (rowOf (tableauOf (now (t .entry))) r) ⌝ }
 {
     let n = width(t);
     let letters = row_letters(t, r);
@@ -36,18 +35,7 @@ fn single_letters(t: &[u8], r: usize, letter: u8, q: usize) -> bool
         }
         c += 1;
     }
-    true
-}
-
-// Whether row r is plus this letter on qubit q.
-fn is_single(t: &[u8], r: usize, letter: u8, q: usize) -> bool
-    requires { ⌜ SingleRow (now t) r letter ⌝ }
-    ensures { λ b. ⌜ b ≡ isSingle (widthOf (now (t .entry))) (letterOf letter) q (rowOf (tableauOf (now (t .entry))) r) ⌝ }
-{
-    if row_phase(t, r) != 0 {
-        return false;
-    }
-    single_letters(t, r, letter, q)
+    phase_at(t, r) == 0
 }
 
 fn changed(t: &[u8], q: usize) -> bool

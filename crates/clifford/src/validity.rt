@@ -1,22 +1,14 @@
 // Validity. Ports `is_valid` of clifford_rep.rs of PECOS, changed:
 // Copyright 2024 The PECOS Developers, Apache License, Version 2.0.
 ghost use mathlib.Core.Path.{_≡_};
-ghost use Rattle.pauli_group.specs.Phase.{isReal};
 ghost use Rattle.pauli_group.specs.PauliString.{commute};
 ghost use Rattle.clifford_group.specs.Tableau.{allTo, validQubit, validPair, isValid};
 ghost use Rattle.clifford.specs.Layout.{FormedTableau, rowOf, tableauOf};
-ghost use Rattle.clifford.specs.Inside.Rows.{OwnRow, OwnRows, OwnQubit, OwnQubits};
+ghost use Rattle.clifford.specs.Inside.Rows.{OwnRows, OwnQubit, OwnQubits};
+use crate::layout::phase_at;
 use crate::layout::row_letters;
-use crate::layout::row_phase;
 use crate::layout::width;
 use pauli::rows::anticommuting_places;
-
-fn real_row(t: &[u8], r: usize) -> bool
-    requires { ⌜ OwnRow (now t) r ⌝ }
-    ensures { λ b. ⌜ b ≡ isReal (rowOf (tableauOf (now (t .entry))) r .phase) ⌝ }
-{
-    row_phase(t, r) < 2
-}
 
 // Whether two rows commute: the places at which they anticommute are even in number.
 fn rows_commute(t: &[u8], r: usize, p: usize) -> bool
@@ -33,10 +25,10 @@ fn valid_qubit(t: &[u8], q: usize) -> bool
     ensures { λ b. ⌜ b ≡ validQubit (tableauOf (now (t .entry))) q ⌝ }
 {
     let z = width(t) + q;
-    if !real_row(t, q) {
+    if 2 <= phase_at(t, q) {
         return false;
     }
-    if !real_row(t, z) {
+    if 2 <= phase_at(t, z) {
         return false;
     }
     !rows_commute(t, q, z)

@@ -263,12 +263,6 @@ inverse-numbers g h = elim (decLt g 24) [
     two : 24 ≤ g → inverseGate g ≡ inverse-number g
     two l = side false (le-ltb g 24 l) ∙ pair-number g l h
 
-pub inverse-small : (g : ℕ) → g < 38 → inverseGate g < 38
-inverse-small g h = elim (decLt g 24) [
-  | yes l ↦ omega (arith, inverse-numbers g h, one-number g l)
-  | no l ↦ omega (arith, inverse-numbers g h, two-number g (omega arith) h .1)
-]
-
 pub inverse-gates : (g q r : ℕ) → g < 38 → q < qubits → r < qubits → (24 ≤ g → q ≢ r)
     → Same (inverse (gateTableau g q r)) (gateTableau (inverseGate g) q r)
 inverse-gates g q r h hq hr d = subst (λ n. Same (inverse (gateTableau g q r)) (gateTableau n q r)) (sym (inverse-numbers g h)) (elim (decLt g 24) [

@@ -246,9 +246,6 @@ module _ (g h : ℕ) (hg : g < 24) (hh : h < 24) where
   pub compose-name : composeGate g h ≡ firstWith (sameImages (composeImages (oneQubitGate g) (oneQubitGate h))) oneQubitGates
   compose-name = named ∙ name-on-qubit (composeImages (oneQubitGate g) (oneQubitGate h))
 
-  pub compose-small : composeGate g h < 24
-  compose-small = subst (λ n. n < 24) (sym named) (name-small (composeImages (oneQubitGate g) (oneQubitGate h)) (compose-valid g h hg hh))
-
   pub compose-entry : oneQubitGate (composeGate g h) ≡ composeImages (oneQubitGate g) (oneQubitGate h)
   compose-entry = ap oneQubitGate named ∙ name-entry (composeImages (oneQubitGate g) (oneQubitGate h)) (compose-valid g h hg hh)
 

@@ -5,7 +5,7 @@ use Prim.Native.Nat.{ℕ, _<_}
 use lib.IntN.{pos, negsuc}
 use Rattle.pauli_group.specs.Phase.{Phase, PlusOne, PlusI, MinusI}
 use Rattle.pauli_group.specs.Letter.{Letter, I, X, Z, Y}
-use Rattle.pauli_group.specs.Papers.{Gaussian, gaussian, addG, mulG, conjugateG, Matrix, matrixProduct, scaleMatrix, phaseNumber, pauliMatrix}
+use Rattle.pauli_group.specs.Papers.{Gaussian, gaussian, addG, mulG, conjugateG, Square, squareProduct, Matrix, matrixProduct, scaleMatrix, phaseNumber, pauliMatrix}
 use Rattle.clifford_gates.specs.Gates.{Image, plus, minus, OneQubit, PairImage, TwoQubit}
 
 abbrev zero1 : Gaussian
@@ -144,19 +144,11 @@ pub record Conjugates (u : Matrix) (g : OneQubit) : Type 0 where
 
 -- ---- two qubits: 4 by 4 matrices as 2 by 2 blocks, the first qubit outside
 
-pub record Blocks : Type 0 where
-  pub a : Matrix
-  pub b : Matrix
-  pub c : Matrix
-  pub d : Matrix
+abbrev pub Blocks : Type 0
+Blocks = Square Matrix
 
 unfoldable pub blockProduct : Blocks → Blocks → Blocks
-blockProduct m n = record {
-  a = addMatrix (matrixProduct (m .a) (n .a)) (matrixProduct (m .b) (n .c));
-  b = addMatrix (matrixProduct (m .a) (n .b)) (matrixProduct (m .b) (n .d));
-  c = addMatrix (matrixProduct (m .c) (n .a)) (matrixProduct (m .d) (n .c));
-  d = addMatrix (matrixProduct (m .c) (n .b)) (matrixProduct (m .d) (n .d));
-}
+blockProduct m n = squareProduct addMatrix matrixProduct m n
 
 unfoldable pub addBlocks : Blocks → Blocks → Blocks
 addBlocks m n = record { a = addMatrix (m .a) (n .a); b = addMatrix (m .b) (n .b); c = addMatrix (m .c) (n .c); d = addMatrix (m .d) (n .d) }

@@ -1,23 +1,21 @@
 -- A valid tableau sends a product to the product (the papers' conjugation): so it keeps signs and real phases, and tells strings
 -- apart.
 use mathlib.Core.Path.{_≡_, refl, sym, ap, ap₂, _∙_, subst}
-use mathlib.Core.Bool.{true}
 use Prim.Native.Nat.{ℕ, zero, suc, _≤_, _<_}
 use native.Mathlib.Nat.{le-refl}
 use native.Mathlib.Omega.{arith}
 use native.Mathlib.Decide.{decLt}
-use Rattle.pauli_group.specs.Phase.{PlusOne, _·_, isReal, sign}
+use Rattle.pauli_group.specs.Phase.{PlusOne, _·_, sign}
 use Rattle.pauli_group.specs.Letter.{Letter, X, Z, letterPhase, letterMul, anticommute}
 use Rattle.pauli_group.specs.PauliString.{PauliString, qubits, productTo, phaseOfLetters, mul, identityString, scale, single}
 use Rattle.pauli_group.specs.PauliString.{commute, commutationSign, Within}
 use Rattle.pauli_group.proofs.Laws.{·-comm, ·-one, sign-injective}
 use Rattle.pauli_group.proofs.Strings.{string-ext, scale-one, scale-cancel, identity-mul, mul-swap, sign-only, sign-single, sign-local}
-use Rattle.pauli_group.proofs.Strings.{real-squares, squares-real}
 use Rattle.clifford_group.specs.Tableau.{Tableau, imageOf, applyTo, apply, letterOfBits, Clifford}
 use Rattle.clifford_group.proofs.Singles.{letter-bits}
 use Rattle.clifford_group.proofs.Commuting.{Commuting, commuting-identity, commuting-scale, commuting-mul, exchange, scale-both}
 use Rattle.clifford_group.proofs.Commuting.{commute-by-sign}
-use Rattle.clifford_group.proofs.Apply.{applyTo-start, apply-letters, apply-scale, apply-identity, apply-single}
+use Rattle.clifford_group.proofs.Apply.{applyTo-start, apply-letters, apply-scale, apply-single}
 use Rattle.clifford_group.proofs.Multiply.{ImagesMultiply, multiply-everywhere}
 
 -- the letters' products alone, with the product of the two phases
@@ -72,9 +70,6 @@ module _ (t : Tableau) (c : Clifford t) where
 
   pub commute-apply : (s u : PauliString) → commute (apply t s) (apply t u) ≡ commute s u
   commute-apply s u = commute-by-sign (apply t s) (apply t u) s u (sign-apply s u)
-
-  pub real-apply : (s : PauliString) → isReal (s .phase) ≡ true → isReal (apply t s .phase) ≡ true
-  real-apply s e = squares-real (apply t s) (sym (apply-mul s s) ∙ ap (apply t) (real-squares s e) ∙ apply-identity t)
 
   -- ---- it tells strings apart: a letter is known by its signs with X and Z
   pub sign-image : (s : PauliString) (l : Letter) (q : ℕ) → q < qubits

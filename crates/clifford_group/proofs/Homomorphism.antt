@@ -7,7 +7,7 @@ use native.Mathlib.Omega.{arith}
 use Rattle.pauli_group.specs.Letter.{Letter, letterPhase, letterMul}
 use Rattle.pauli_group.specs.PauliString.{PauliString, qubits, mul, scale, single}
 use Rattle.pauli_group.proofs.Strings.{within-single}
-use Rattle.clifford_group.specs.Tableau.{Tableau, imageOf, apply, widen, isValid, Proper, Clifford}
+use Rattle.clifford_group.specs.Tableau.{Tableau, imageOf, apply, widen, isValid, Proper}
 use Rattle.clifford_group.specs.Conjugation.{Multiplicative, SendAlike, SameWidened}
 use Rattle.clifford_group.proofs.Singles.{mul-singles}
 use Rattle.clifford_group.proofs.Commuting.{commuting-singles}
@@ -48,9 +48,6 @@ isValid-widen n h t p = test-equal (widen n t) t
 
     wide : (isValid (widen n t) ≡ true) ↔ Multiplicative (widen n t)
     wide = valid-iff-multiplicative (widen n t) (proper-widen n h t p)
-
-pub clifford-widen : (n : ℕ) → n ≤ qubits → (t : Tableau) → Clifford t → Clifford (widen n t)
-clifford-widen n h t c = record { proper = proper-widen n h t (c .proper); valid = isValid-widen n h t (c .proper) ∙ c .valid }
 
 -- ---- two tableaux that send strings alike
 pub alike-iff-same : (a b : Tableau) → a .width ≤ qubits → b .width ≤ qubits → SendAlike a b ↔ SameWidened a b

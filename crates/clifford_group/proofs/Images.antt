@@ -96,11 +96,6 @@ image-widen n t g q = elim (decLt q (max (t .width) n)) [
 pub alike-widen : (n : ℕ) (t : Tableau) → Alike (widen n t) t
 alike-widen n t q l h = image-generators (widen n t) t q h (λ g. image-widen n t g q) l
 
--- to a smaller width: a copy
-pub widen-copy : (n : ℕ) (t : Tableau) → n ≤ t .width → Same (widen n t) t
-unfolding widen
-widen-copy n t h = same-images (widen n t) t (omega arith) (λ g q l. image-widen n t g q)
-
 -- ---- an identity's images are the letters themselves
 pub image-identity : (w q : ℕ) (l : Letter) → q < qubits → imageOf (identityTableau w) q l ≡ single l q
 unfolding identityTableau

@@ -9,11 +9,10 @@ use Rattle.pauli_group.specs.Phase.{conjugate, isReal}
 use Rattle.pauli_group.specs.Letter.{Letter, I}
 use Rattle.pauli_group.specs.PauliString.{PauliString, qubits, commute, Within}
 use Rattle.pauli_group.proofs.Strings.{string-ext}
-use Rattle.clifford_group.specs.Tableau.{Tableau, imageOf, apply, widen, compose, isValid, hasX, hasZ, letterOfBits, transposed}
-use Rattle.clifford_group.specs.Tableau.{inverseRow, inverse, Proper, Clifford, Same}
+use Rattle.clifford_group.specs.Tableau.{Tableau, imageOf, apply, compose, isValid, hasX, hasZ, letterOfBits, transposed}
+use Rattle.clifford_group.specs.Tableau.{inverseRow, inverse, Proper, Same}
 use Rattle.clifford_group.specs.Conjugation.{Generator, ofX, ofZ, generator, row, Valid}
 use Rattle.clifford_group.proofs.Rows.{same-row, rows-same, proper-row, rows-proper}
-use Rattle.clifford_group.proofs.Rows.{row-widen}
 use Rattle.clifford_group.proofs.Images.{image-same, alike-same}
 use Rattle.clifford_group.proofs.Apply.{apply-alike}
 use Rattle.clifford_group.proofs.Valid.{test-valid, valid-test, test-equal}
@@ -54,11 +53,6 @@ module _ (t u : Tableau) (e : Same t u) where
     commuting = λ g k q r h l d. ap₂ commute (rows g q h) (rows k r l) ∙ v .commuting g k q r (below t u e q h) (below t u e r l) d;
   }
 
-  pub widen-same : (n : ℕ) → Same (widen n t) (widen n u)
-  unfolding widen
-  widen-same n = rows-same (widen n t) (widen n u) (ap (λ w. max w n) (e .width))
-      (λ g q h. row-widen n t g q ∙ image-same t u e q (generator g) ∙ sym (row-widen n u g q))
-
   -- the inverse reads the own rows alone
   transposed-same : (bit : Letter → Bool) (q : ℕ) → transposed t bit q ≡ transposed u bit q
   unfolding transposed
@@ -86,9 +80,6 @@ module _ (t u : Tableau) (e : Same t u) where
 pub isValid-same : (t u : Tableau) → Same t u → isValid t ≡ isValid u
 isValid-same t u e = test-equal t u
     (λ v. valid-test u (valid-same t u e (test-valid t v))) (λ v. valid-test t (valid-same u t (same-sym t u e) (test-valid u v)))
-
-pub clifford-same : (t u : Tableau) → Same t u → Clifford t → Clifford u
-clifford-same t u e c = record { proper = proper-same t u e (c .proper); valid = sym (isValid-same t u e) ∙ c .valid }
 
 pub compose-same : (a a′ b b′ : Tableau) → Same a a′ → Same b b′ → Same (compose a b) (compose a′ b′)
 unfolding compose

@@ -10,12 +10,9 @@ use Rattle.pauli_group.specs.PauliString.{commute}
 use Rattle.clifford_group.specs.Tableau.{Tableau, allTo, validQubit, validPair, isValid}
 use Rattle.clifford_group.specs.Conjugation.{Generator, ofX, ofZ, row, Valid}
 use Rattle.clifford_group.proofs.Commuting.{commute-sym}
+pub use Rattle.pauli_group.proofs.Finite.{and-both}
 
 -- ---- tests over several
-and-both : (a b : Bool) → (a && b) ≡ true → (a ≡ true) × (b ≡ true)
-and-both true b e = (refl, e)
-and-both false b e = (e, cc)
-
 both-and : (a b : Bool) → a ≡ true → b ≡ true → (a && b) ≡ true
 both-and a b e f = ap₂ _&&_ e f
 

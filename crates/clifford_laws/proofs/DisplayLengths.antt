@@ -22,9 +22,10 @@ use Rattle.clifford.specs.Layout.{rowOf, tableauOf, tableauRecord, widthOf, row
 use Rattle.clifford.specs.Layout as layout
 use Rattle.clifford.specs.Questions.{tableauQuestions}
 use Rattle.clifford.specs.Tableaux.{recordValid}
-use Rattle.clifford.proofs.Displays.{decimal-short, order-even, order-odd, order-below}
-use Rattle.clifford.proofs.TableauAsking.{tableau-formed, tableaux-admitted}
-use Rattle.clifford.proofs.TableauRecords.{row-x, row-z, rows-same, record-back, width-of}
+use Rattle.clifford.proofs.Display.{decimal-short, order-even, order-odd, order-below}
+use Rattle.clifford.proofs.Asking.{tableau-formed, tableaux-admitted}
+use Rattle.clifford.proofs.Rows.{row-x, row-z, rows-same, width-of}
+use Rattle.clifford.proofs.Records.{record-back}
 
 -- ---- a line: nine bytes, the digits of its qubit, and the image
 qubit-of : (w i : ℕ) → i < 2 * w → rowQubit w (displayRow w i) ≡ i / 2
@@ -114,7 +115,8 @@ unfolding linesLength decimal digitsTo
 lines-real = refl
 
 -- ---- "Written sparse text is at most 531 bytes": 530 where the phase is real
-text-parts : (p : Phase) (f : ℕ → Letter) → length (sparseText (record { phase = p; letters = f })) ≡ length (prefixText p) + length (bodyText (entryWords qubits f))
+text-parts : (p : Phase) (f : ℕ → Letter)
+    → length (sparseText (record { phase = p; letters = f })) ≡ length (prefixText p) + length (bodyText (entryWords qubits f))
 unfolding sparseText sparseTextTo
 text-parts p f = length-append (prefixText p) (bodyText (entryWords qubits f))
 

@@ -15,7 +15,7 @@ use Rattle.clifford_gates.proofs.Products24.{products, product-small, products-
 use Rattle.clifford.specs.Layout.{tableauOf, tableauRecord}
 use Rattle.clifford.specs.Tableaux.{recordValid, Good, composeRecord, inverseRecord}
 use Rattle.clifford.specs.GateAnswers.{gateRecord, oneQubitRecord, singleQubitCliffordRecord}
-use Rattle.clifford.proofs.TableauRecords.{record-back, record-formed, same-record, record-same}
+use Rattle.clifford.proofs.Records.{record-back, record-formed, same-record, record-same}
 
 -- ---- one gate
 pub gate-good : (g q r : ℕ) → g < 38 → q < qubits → r < qubits → (24 ≤ g → q ≢ r) → Good (gateRecord g q r)

@@ -3,108 +3,38 @@ use mathlib.Core.Path.{_≡_, refl, sym, ap, ap₂, _∙_, subst}
 use mathlib.Core.Bool.{Bool, true, false, cond}
 use mathlib.Core.Logic.{_≢_}
 use mathlib.Core.List.{List, _∷_}
-use Prim.Native.Nat.{ℕ, zero, suc, max, _*_, _≤_, _<_}
+use Prim.Native.Nat.{ℕ, suc, max, _*_, _≤_, _<_}
 use native.Mathlib.Omega.{arith}
 use native.Mathlib.Decide.{ℕ-discrete, decLt}
-use lib.ListN.{length, getD, set, length-set}
-use lib.Seq.{ext-getD, getD-set-same, getD-set-other}
+use lib.ListN.{length}
 use borrow.Author.Tests.{lt-ltb, le-ltb}
-use Rattle.pauli_group.specs.Phase.{_·_}
 use Rattle.pauli_group.specs.Letter.{Letter}
 use Rattle.pauli_group.specs.PauliString.{PauliString, qubits, Within}
 use Rattle.pauli_group.proofs.Strings.{string-ext}
-use Rattle.clifford_group.specs.Tableau.{Tableau, rowImage, imageOf, apply, compose, Clifford}
+use Rattle.clifford_group.specs.Tableau.{Tableau, rowImage, imageOf, apply, compose, Clifford, Same}
 use Rattle.clifford_group.specs.Conjugation.{ofX, ofZ}
 use Rattle.clifford_group.proofs.Images.{image-own}
-use Rattle.clifford_group.proofs.Compose.{row-compose, width-compose}
+use Rattle.clifford_group.proofs.Compose.{row-compose, width-compose, proper-compose}
 use Rattle.clifford_group.proofs.Same.{same-refl, compose-same}
-use Rattle.clifford_gates.specs.Gates.{Image, PairImage}
+use Rattle.clifford_gates.specs.Gates.{Image}
 use Rattle.clifford_gates.specs.GateNumbers.{oneQubitGate, twoQubitGate, gateTableau}
-use Rattle.clifford_gates.specs.Updates.{letterImage, pairImage, withLetter, imageAt, pairAt}
+use Rattle.clifford_gates.specs.Updates.{letterImage, pairImage, imageAt, pairAt}
 use Rattle.clifford_gates.proofs.GateTableaux.{clifford-on-qubit}
 use Rattle.clifford_gates.proofs.OneQubitUpdates.{with-at, with-off, apply-on-qubit}
 use Rattle.clifford_gates.proofs.TwoQubitUpdates.{apply-on-qubits}
 use Rattle.clifford_gates.proofs.GateNames.{gate-valid, pair-gate-valid, gate-one, gate-two, gate-clifford}
-use Rattle.pauli.specs.Layout.{phaseByte, phaseOf, letterByte, letterOf}
-use Rattle.pauli.proofs.Records.{letter-there, encode-phase, encode-letter, decode-letter}
-use Rattle.clifford.specs.Layout.{rowLength, encodeRow, decodeRow, rowOf, joined, tableauRecord, widthOf, rowPart, tableauOf, letterIn, withPair, eachRow, recordLength, FormedTableau, rowQubit, rowLetter}
+use Rattle.clifford.specs.Layout.{rowLength, encodeRow, decodeRow, rowOf, joined, tableauRecord, widthOf, rowPart, tableauOf, withPair, eachRow, recordLength, FormedTableau, rowQubit, rowLetter}
 use Rattle.clifford.specs.Tableaux.{composeRecord}
 use Rattle.clifford.specs.GateQuestions.{gateWidth}
 use Rattle.clifford.specs.GateAnswers.{gateRecord}
 use Rattle.clifford.specs.Playing.{twice, movedBy, secondQubit, gateOnRow, playable, played, GatePlayed}
 use Rattle.clifford.proofs.Joining.{joined-ext, length-below}
-use Rattle.clifford.proofs.TableauRows.{FormedRow, row-of-string, string-of-row, length-row, row-phase-at, row-within}
-use Rattle.clifford.proofs.TableauRecords.{row-part, part-formed, width-of, record-back, record-formed, same-record}
-use Rattle.clifford.proofs.RecordWriting.{row-made, qubit-below}
+use Rattle.clifford.proofs.Rows.{length-pair, pair-bytes, row-letter-at, row-within, row-part, length-part, width-of}
+use Rattle.clifford.proofs.Records.{record-back, proper-of, record-formed, same-record}
+use Rattle.clifford.proofs.RowWriting.{row-made, qubit-below}
 use Rattle.clifford.proofs.RecordLaws.{compose-formed}
 use Rattle.clifford.proofs.GateWriting.{gate-width}
-use Rattle.clifford.proofs.PlayedRows.{playable-is, playable-yes, second-one, second-two, length-pair, length-part}
-
--- ---- one row: its bytes are changed as its string is
-module _ {w q s : ℕ} (i : PairImage) {b : List ℕ} (f : FormedRow w b) (hq : q < w) (hs : s < w) (same : q ≡ s → i .first ≡ i .second) where
-  abbrev moved : PauliString
-  moved = pairAt q s i (decodeRow w b)
-
-  abbrev b₁ : List ℕ
-  b₁ = set b 0 (phaseByte (phaseOf (getD b 0 0) · i .phase))
-
-  abbrev b₂ : List ℕ
-  b₂ = set b₁ (suc q) (letterByte (i .first))
-
-  long : length b ≡ suc w
-  long = unfold rowLength in f .long
-
-  long₁ : length b₁ ≡ suc w
-  long₁ = length-set b 0 _ ∙ long
-
-  long₂ : length b₂ ≡ suc w
-  long₂ = length-set b₁ (suc q) _ ∙ long₁
-
-  abbrev At : ℕ → Type 0
-  At k = getD (encodeRow w moved) k 0 ≡ getD (withPair q s i b) k 0
-
-  at-phase : At 0
-  unfolding withPair pairAt
-  at-phase =
-      ap (λ l. getD l 0 0) (row-of-string w moved) ∙ encode-phase w moved ∙ ap (λ p. phaseByte (p · i .phase)) (row-phase-at w b)
-      ∙ sym (getD-set-other b₂ (suc s) 0 _ 0 (omega arith) ∙ getD-set-other b₁ (suc q) 0 _ 0 (omega arith) ∙ getD-set-same b 0 _ 0 (omega (arith, long)))
-
-  letter-of : (k : ℕ) → k < w → {l : Letter} → withLetter q (i .first) (withLetter s (i .second) (decodeRow w b .letters)) k ≡ l
-      → getD (encodeRow w moved) (suc k) 0 ≡ letterByte l
-  unfolding pairAt
-  letter-of k h e = ap (λ l. getD l (suc k) 0) (row-of-string w moved) ∙ encode-letter w moved k h ∙ ap letterByte e
-
-  at-letter : (k : ℕ) → k < w → At (suc k)
-  unfolding withPair
-  at-letter k h = elim (ℕ-discrete k s) [
-    | yes e ↦ (let put : getD (set b₂ (suc s) (letterByte (i .second))) (suc k) 0 ≡ letterByte (i .second) =
-        ap (λ j. getD (set b₂ (suc s) (letterByte (i .second))) (suc j) 0) e ∙ getD-set-same b₂ (suc s) _ 0 (omega (arith, long₂)) in
-        elim (ℕ-discrete k q) [
-          | yes d ↦ letter-of k h (with-at q (i .first) _ k d ∙ same (sym d ∙ e)) ∙ sym put
-          | no d ↦ letter-of k h (with-off q (i .first) _ k d ∙ with-at s (i .second) _ k e) ∙ sym put
-        ])
-    | no e ↦ (let off : getD (set b₂ (suc s) (letterByte (i .second))) (suc k) 0 ≡ getD b₂ (suc k) 0 =
-        getD-set-other b₂ (suc s) (suc k) _ 0 (λ x. e (next k s x)) in
-        elim (ℕ-discrete k q) [
-          | yes d ↦ letter-of k h (with-at q (i .first) _ k d)
-              ∙ sym (off ∙ ap (λ j. getD b₂ (suc j) 0) d ∙ getD-set-same b₁ (suc q) _ 0 (omega (arith, long₁)))
-          | no d ↦ letter-of k h (with-off q (i .first) _ k d ∙ with-off s (i .second) _ k e ∙ letter-own k h) ∙ letter-there (getD b (suc k) 0) (f .small (suc k) (omega (arith, long)))
-              ∙ sym (off ∙ getD-set-other b₁ (suc q) (suc k) _ 0 (λ x. d (next k q x)) ∙ getD-set-other b 0 (suc k) _ 0 (omega arith))
-        ])
-  ]
-    where
-      next : (x y : ℕ) → suc x ≡ suc y → x ≡ y
-      next x y e = omega arith
-
-      letter-own : (k : ℕ) → k < w → decodeRow w b .letters k ≡ letterOf (getD b (suc k) 0)
-      letter-own k h = ap (λ u. u .letters k) (string-of-row w b) ∙ decode-letter w b k h
-
-  pub pair-bytes : encodeRow w moved ≡ withPair q s i b
-  pair-bytes = ext-getD 0 (encodeRow w moved) (withPair q s i b) (length-row w moved ∙ sym (f .long) ∙ sym (length-pair q s i b)) at
-    where
-      at : (k : ℕ) → k < length (encodeRow w moved) → At k
-      at zero h = at-phase
-      at (suc k) h = let l : k < w = (unfold rowLength in omega (arith, length-row w moved)) in at-letter k l
+use Rattle.clifford.proofs.Play.{playable-is, playable-yes, second-one, second-two}
 
 -- ---- what a gate does to a string
 one-as-pair : (q : ℕ) (i : Image) (u : PauliString) → imageAt q i u ≡ pairAt q q (twice i) u
@@ -129,13 +59,13 @@ unfolding movedBy
 moved-two g a b h = ap (λ c. cond c (twice (letterImage (oneQubitGate g) a)) (pairImage (twoQubitGate g) a b)) (le-ltb g 24 h)
 
 module _ (g q r : ℕ) (hg : g < 38) (hq : q < qubits) (hr : 24 ≤ g → r < qubits) (d : 24 ≤ g → q ≢ r) where
-  clifford-gate : Clifford (gateTableau g q r)
+  pub clifford-gate : Clifford (gateTableau g q r)
   clifford-gate = elim (decLt g 24) [
     | yes l ↦ subst Clifford (sym (gate-one g q r l)) (clifford-on-qubit (oneQubitGate g) (gate-valid g l) q hq)
     | no l ↦ let m : 24 ≤ g = omega arith in gate-clifford g q r hg hq (hr m) d
   ]
 
-  apply-gate : (u : PauliString) → Within qubits u
+  pub apply-gate : (u : PauliString) → Within qubits u
       → apply (gateTableau g q r) u ≡ pairAt q (secondQubit g q r) (movedBy g (u .letters q) (u .letters (secondQubit g q r))) u
   apply-gate u within = elim (decLt g 24) [
     | yes l ↦ ap (λ t. apply t u) (gate-one g q r l) ∙ apply-on-qubit (oneQubitGate g) (gate-valid g l) q hq u within
@@ -207,17 +137,13 @@ module _ (g q r : ℕ) (t : List ℕ) (f : FormedTableau t) (hg : g < 38) (hq : 
         | no l ↦ let m : 24 ≤ g = omega arith in omega (arith, hr m, ap (λ b. cond b (suc q) (suc (max q r))) (le-ltb g 24 m))
       ]
 
-  letter-at : (b : List ℕ) (k : ℕ) → k < w → letterIn b k ≡ decodeRow w b .letters k
-  unfolding letterIn
-  letter-at b k h = sym (ap (λ u. u .letters k) (string-of-row w b) ∙ decode-letter w b k h)
-
   row-played : (i : ℕ) → i < 2 * w → gateOnRow g q s (rowPart t i) ≡ encodeRow w (rowOf (compose G T) i)
   unfolding gateOnRow
   row-played i l =
       let b : List ℕ = rowPart t i in
       let u : PauliString = decodeRow w b in
-      ap₂ (λ (x y : Letter). withPair q s (movedBy g x y) b) (letter-at b q hq) (letter-at b s own-second)
-      ∙ sym (pair-bytes (movedBy g (u .letters q) (u .letters s)) (part-formed f i l) hq own-second
+      ap₂ (λ (x y : Letter). withPair q s (movedBy g x y) b) (sym (row-letter-at w b q hq)) (sym (row-letter-at w b s own-second))
+      ∙ sym (pair-bytes (movedBy g (u .letters q) (u .letters s)) (f .rows i l) hq own-second
       (moved-same g q r hg first-qubit second-qubit d (u .letters q) (u .letters s)))
       ∙ ap (encodeRow w)
       (sym (apply-gate g q r hg first-qubit second-qubit d u (λ k h. row-within w b k (omega (arith, narrow))))
@@ -229,10 +155,18 @@ module _ (g q r : ℕ) (t : List ℕ) (f : FormedTableau t) (hg : g < 38) (hq : 
       let wide : w ≡ compose G T .width = omega (arith, width-compose G T, width-of t, inside) in
       ap (λ (l : List ℕ). w ∷ l) (joined-ext (2 * w) _ _ row-played) ∙ ap (λ (v : ℕ). v ∷ joined (2 * v) (λ i. encodeRow v (rowOf (compose G T) i))) wide
 
+  played-record : played g q r t ≡ tableauRecord (compose G T)
+  unfolding played
+  played-record = ap (λ b. cond b (eachRow (gateOnRow g q s) t) t) (playable-yes g q r t hg hq hr d (f .narrow) (f .long)) ∙ rows-played
+
+  -- as tableaux, and byte for byte
+  pub played-tableau : Same (tableauOf (played g q r t)) (compose G T)
+  played-tableau = subst (λ b. Same (tableauOf b) (compose G T)) (sym played-record) (record-back (compose G T) (proper-compose G T (clifford .proper) (proper-of f)))
+
   pub played-is : played g q r t ≡ composeRecord (gateRecord g q r) t
-  unfolding played composeRecord gateRecord
+  unfolding composeRecord gateRecord
   played-is =
-      ap (λ b. cond b (eachRow (gateOnRow g q s) t) t) (playable-yes g q r t hg hq hr d (f .narrow) (f .long)) ∙ rows-played
+      played-record
       ∙ sym (same-record (compose (tableauOf (tableauRecord G)) T) (compose G T) (compose-same _ _ T T (record-back G (clifford .proper)) (same-refl T)))
 
   pub played-formed : FormedTableau (played g q r t)
@@ -240,7 +174,8 @@ module _ (g q r : ℕ) (t : List ℕ) (f : FormedTableau t) (hg : g < 38) (hq : 
   played-formed = subst FormedTableau (sym played-is) (compose-formed (record-formed G (clifford .proper .narrow)) f)
 
 -- ---- whatever the bytes: the length and the width stay
-length-each : (h : List ℕ → List ℕ) → ((b : List ℕ) → length (h b) ≡ length b) → (t : List ℕ) → length t ≡ recordLength (widthOf t) → length (eachRow h t) ≡ length t
+length-each : (h : List ℕ → List ℕ) → ((b : List ℕ) → length (h b) ≡ length b) → (t : List ℕ) → length t ≡ recordLength (widthOf t)
+    → length (eachRow h t) ≡ length t
 unfolding eachRow
 length-each h same t long =
     ap suc (length-below (rowLength (widthOf t)) (λ i. h (rowPart t i)) (2 * widthOf t) (λ i l. same (rowPart t i) ∙ length-part t (widthOf t) i refl long l))

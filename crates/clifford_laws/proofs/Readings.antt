@@ -17,14 +17,14 @@ use Rattle.clifford_gates.specs.GateNumbers.{oneQubitGate, twoQubitGate, gateTa
 use Rattle.pauli.specs.Places.{listed, firstPlace}
 use Rattle.pauli.specs.Layout.{phaseByte, letterByte, phaseOf, letterOf, encodeString, decodeString, stringRecord, stringOf}
 use Rattle.pauli.specs.Rows.{productPhaseByte, productLetterByte, phaseBytesProduct}
-use Rattle.clifford.specs.Layout.{recordLength, rowLength, encodeRow, decodeRow, rowOffset, rowOf, joined, tableauRecord, rowPart, tableauOf}
+use Rattle.clifford.specs.Layout.{recordLength, rowLength, encodeRow, decodeRow, rowOffset, rowOf, joined, tableauRecord, rowPart, tableauOf, letterPlace, letterIn, lettersOf}
 use Rattle.clifford.specs.Tableaux.{recordValid, applyRecord, composeRecord, inverseRecord}
 use Rattle.clifford.specs.GateAnswers.{gateRecord, recordName}
 use Rattle.pauli.specs.Answers.{replyTo, refusalReply}
 use Rattle.pauli.specs.Questions.{ask, _andThen_, byteQuestion, pairQuestions, firstBad, bytesQuestion, stringQuestions, roomQuestion}
-use Rattle.clifford.specs.Questions.{widthQuestion, lengthQuestion, tableauQuestions, applyQuestions, applyAnswer, composeQuestions, composeAnswer, inverseAnswer}
+use Rattle.clifford.specs.Questions.{widthQuestion, lengthQuestion, rowQuestion, rowsQuestion, tableauQuestions, applyQuestions, applyAnswer, composeQuestions, composeAnswer, inverseAnswer}
 use Rattle.clifford.specs.GateQuestions.{gateQuestion, composeGateQuestions}
-use Rattle.clifford_laws.specs.Readings.{Reading, readings, answered, stringBytes}
+use Rattle.clifford_laws.specs.Readings.{Reading, readings, imagesRecord, answered, stringBytes}
 
 abbrev pub same-bytes : List ℕ → List ℕ → Bool
 same-bytes [] [] = true
@@ -45,5 +45,5 @@ holds : (r : Reading) → T (test r) → answered (r .asked) ≡ r .answer
 holds r t = same-is (answered (r .asked)) (r .answer) t
 
 pub readings-hold : All (λ r. answered (r .asked) ≡ r .answer) readings
-unfolding readings answered replyTo refusalReply ask _andThen_ byteQuestion pairQuestions firstPlace firstBad bytesQuestion stringQuestions roomQuestion widthQuestion lengthQuestion tableauQuestions applyQuestions applyAnswer composeQuestions composeAnswer inverseAnswer gateQuestion composeGateQuestions recordLength negate turn _·_ conjugate isReal sign letterProduct letterPhase letterMul anticommute qubits productTo countTo phaseOfLetters mul identityString scale single anticommutingPlaces commute commutationSign rowImage imageOf applyTo apply widen compose allTo validQubit validPair isValid hasX hasZ transposed inverseRow inverse letterOfBits stringBytes oneQubitGates twoQubitGates imageString gateOnEach onQubit pairString pairRow onQubits oneQubitGate twoQubitGate gateTableau sameBit sameLetter isMinus matchesImage matches firstWith nameOf composeGate listed phaseByte letterByte phaseOf letterOf encodeString decodeString stringRecord stringOf productPhaseByte productLetterByte phaseBytesProduct rowLength encodeRow decodeRow rowOffset rowOf joined tableauRecord rowPart tableauOf recordValid applyRecord composeRecord inverseRecord gateRecord recordName
+unfolding readings imagesRecord answered replyTo refusalReply ask _andThen_ byteQuestion pairQuestions firstPlace firstBad bytesQuestion stringQuestions roomQuestion widthQuestion lengthQuestion tableauQuestions applyQuestions applyAnswer composeQuestions composeAnswer inverseAnswer gateQuestion composeGateQuestions recordLength negate turn _·_ conjugate isReal sign letterProduct letterPhase letterMul anticommute qubits productTo countTo phaseOfLetters mul identityString scale single anticommutingPlaces commute commutationSign rowImage imageOf applyTo apply widen compose allTo validQubit validPair isValid hasX hasZ transposed inverseRow inverse letterOfBits stringBytes oneQubitGates twoQubitGates imageString gateOnEach onQubit pairString pairRow onQubits oneQubitGate twoQubitGate gateTableau sameBit sameLetter isMinus matchesImage matches firstWith nameOf composeGate listed phaseByte letterByte phaseOf letterOf encodeString decodeString stringRecord stringOf productPhaseByte productLetterByte phaseBytesProduct rowLength encodeRow decodeRow rowOffset rowOf joined tableauRecord rowPart tableauOf recordValid applyRecord composeRecord inverseRecord gateRecord recordName letterPlace letterIn lettersOf rowQuestion rowsQuestion
 readings-hold = all-of test holds readings tt

@@ -75,5 +75,6 @@ way-back n n≤ calls premise k k≤ w w≤ =
     (rw whole at (way-back-parted n n≤ front (rest start calls k k≤) (subst (λ (l : List Call). Steps n (stepsOf start l)) (sym whole) premise) w w≤))
 
 -- the record after step k is the product of the steps up to k, from the identity of width n
-pub record-then : (n : ℕ) (calls : List Call) (k : ℕ) → k ≤ length (steps n calls) → recordThen n calls k ≡ productFrom (identityRecord n) (take k (steps n calls))
+pub record-then : (n : ℕ) (calls : List Call) (k : ℕ) → k ≤ length (steps n calls)
+    → recordThen n calls k ≡ productFrom (identityRecord n) (take k (steps n calls))
 record-then n calls k h = after-steps (identityRecord n) _ ∙ ap (productFrom (identityRecord n)) (sym (steps-first (identityRecord n) calls k h))

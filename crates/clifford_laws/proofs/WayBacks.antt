@@ -18,7 +18,7 @@ use Rattle.clifford.specs.Questions.{tableauQuestions, applyQuestions, applyAns
 use Rattle.clifford.specs.Tableaux.{Good, identityRecord, applyRecord, composeRecord, inverseRecord}
 use Rattle.clifford_laws.specs.WayBack.{Call, isDone, callAnswer, accepts, destinationAfter, nextRecord, recordAfter, stepsOf, Step, Steps, step, productFrom, productOf, sentBy, EachApplied, noneLeft, applied, WayBack}
 use Rattle.clifford.proofs.RecordLaws.{compose-formed, compose-width, compose-length, compose-good, records-assoc, identity-width, identity-good, identity-left, inverse-width, inverse-good, inverse-left, inverse-right, send-compose, send-identity}
-use Rattle.clifford.proofs.TableauAsking.{tableau-formed, formed-good}
+use Rattle.clifford.proofs.Asking.{tableau-formed, formed-good}
 
 -- ---- one call
 is-done : (q : Outcome) → isDone q ≡ true → q ≡ Done
@@ -163,14 +163,16 @@ product-wide n p [] h = h
 product-wide n p (a ∷ rest) h = product-wide n (composeRecord a p) rest (omega (arith, compose-width a p))
 
 -- a product of a composition is the composition of the product
-product-apart : (n : ℕ) (p r : List ℕ) (steps : List (List ℕ)) → Good p → FormedTableau r → GoodSteps n steps → productFrom (composeRecord p r) steps ≡ composeRecord (productFrom p steps) r
+product-apart : (n : ℕ) (p r : List ℕ) (steps : List (List ℕ)) → Good p → FormedTableau r → GoodSteps n steps
+    → productFrom (composeRecord p r) steps ≡ composeRecord (productFrom p steps) r
 unfolding productFrom
 product-apart n p r [] gp fr gs = refl
 product-apart n p r (a ∷ rest) gp fr (more g w gs) =
     ap (λ (x : List ℕ). productFrom x rest) (sym (records-assoc g (gp .formed) fr)) ∙ product-apart n (composeRecord a p) r rest (compose-good g gp) fr gs
 
 -- a string is sent through a product as by its steps
-pub product-sends : (n : ℕ) (p : List ℕ) (steps : List (List ℕ)) → FormedTableau p → GoodSteps n steps → (s : List ℕ) → applyRecord (productFrom p steps) s ≡ sentBy steps (applyRecord p s)
+pub product-sends : (n : ℕ) (p : List ℕ) (steps : List (List ℕ)) → FormedTableau p → GoodSteps n steps → (s : List ℕ)
+    → applyRecord (productFrom p steps) s ≡ sentBy steps (applyRecord p s)
 unfolding productFrom sentBy
 product-sends n p [] fp gs s = refl
 product-sends n p (a ∷ rest) fp (more g w gs) s =
@@ -184,7 +186,8 @@ done-both : (p q : Outcome) → p ≡ Done → q ≡ Done → p andThen q ≡ Do
 done-both p q h k = sym (passed (sym h) refl (sym k))
 
 -- each string on the way is a record, so the next `apply` is accepted
-each-applied : (n : ℕ) (steps : List (List ℕ)) → GoodSteps n steps → (s : List ℕ) → stringQuestions s ≡ Done → (room : ℕ) → stringLength ≤ room → EachApplied room steps s
+each-applied : (n : ℕ) (steps : List (List ℕ)) → GoodSteps n steps → (s : List ℕ) → stringQuestions s ≡ Done → (room : ℕ)
+    → stringLength ≤ room → EachApplied room steps s
 unfolding applyAnswer applyQuestions applyRecord
 each-applied n [] gs s e room l = noneLeft
 each-applied n (a ∷ rest) (more g w gs) s e room l =

@@ -2,7 +2,7 @@
 use mathlib.Core.Path.{_≡_, refl, sym, ap, _∙_, subst}
 use mathlib.Core.Bool.{true, false}
 use mathlib.Core.List.{List, [], _∷_, _++_}
-use Prim.Native.Nat.{ℕ, _≤_}
+use Prim.Native.Nat.{ℕ, _+_, _≤_}
 use native.Mathlib.Omega.{arith}
 use lib.ListN.{length, take, drop, getD, length-append}
 use lib.Seq.{take-at, drop-at}
@@ -16,11 +16,15 @@ use Rattle.clifford_group.specs.Tableau.{identityTableau, rowImage, imageOf, ap
 use Rattle.pauli.specs.Places.{listed, firstPlace}
 use Rattle.pauli.specs.Layout.{phaseByte, phaseOf, letterByte, letterOf}
 use Rattle.pauli.specs.Questions.{ask, _andThen_, firstBad, bytesQuestion, roomQuestion}
-use Rattle.clifford.specs.Layout.{rowLength, rowOffset, recordLength, rowOf, joined, encodeRow, decodeRow, tableauRecord, rowPart, tableauOf, widthOf}
-use Rattle.clifford.specs.Questions.{widthQuestion, lengthQuestion, tableauQuestions, composeQuestions, composeAnswer}
+use Rattle.clifford.specs.Layout.{letterPlace, letterIn, lettersOf, rowLength, rowOffset, recordLength, rowOf, joined, encodeRow, decodeRow, tableauRecord, rowPart, tableauOf, widthOf}
+use Rattle.clifford.specs.Questions.{widthQuestion, lengthQuestion, rowQuestion, rowsQuestion, tableauQuestions, composeQuestions, composeAnswer}
 use Rattle.clifford.specs.Tableaux.{recordValid, identityRecord, composeRecord}
+use Rattle.clifford.specs.GateAnswers.{gateRecord}
+use Rattle.clifford_gates.specs.Gates.{oneQubitGates, twoQubitGates}
+use Rattle.clifford_gates.specs.GateTableaux.{imageString, gateOnEach, onQubit, pairString, pairRow, onQubits}
+use Rattle.clifford_gates.specs.GateNumbers.{oneQubitGate, twoQubitGate, gateTableau}
 use Rattle.clifford_laws.specs.WayBack.{Call, isDone, callAnswer, accepts, stepsOf, Step, Steps, none, step, productFrom, productOf, steps, recordThen, recordNow}
-use Rattle.clifford_laws.specs.Witnesses.{Witness, hRecord, szRecord, cxRecord, fdgRecord, f4dgRecord, afterTwo, afterThree, call, badCall, shortCall, oneStep, threeSteps}
+use Rattle.clifford_laws.specs.Witnesses.{firstLetter, Witness, hRecord, szRecord, cxRecord, fdgRecord, f4dgRecord, afterTwo, afterThree, call, badCall, shortCall, oneStep, threeSteps}
 use Rattle.clifford_laws.proofs.WayBacks.{after-steps, steps-more, steps-kept, steps-nil, next-is, next-kept}
 use Rattle.clifford_laws.proofs.WayBackSteps.{way-back, record-then}
 use Rattle.clifford_laws.proofs.Readings.{same-is}
@@ -30,7 +34,8 @@ data Trace : List ℕ → List Call → List (List ℕ) → List ℕ → Type 0 
   end : {r : List ℕ} → Trace r [] [] r
   taken : {r next now : List ℕ} {c : Call} {cs : List Call} {ss : List (List ℕ)} → callAnswer r c ≡ Done → composeRecord (c .a) r ≡ next → Trace next cs ss now
       → Trace r (c ∷ cs) (c .a ∷ ss) now
-  kept : {r now : List ℕ} {c : Call} {cs : List Call} {ss : List (List ℕ)} {x : Refusal} → callAnswer r c ≡ Refused x → Trace r cs ss now → Trace r (c ∷ cs) ss now
+  kept : {r now : List ℕ} {c : Call} {cs : List Call} {ss : List (List ℕ)} {x : Refusal} → callAnswer r c ≡ Refused x
+      → Trace r cs ss now → Trace r (c ∷ cs) ss now
 
 trace-steps : {r now : List ℕ} {cs : List Call} {ss : List (List ℕ)} → Trace r cs ss now → stepsOf r cs ≡ ss
 trace-steps end = steps-nil _
@@ -47,7 +52,8 @@ trace-product end = refl
 trace-product (taken {ss = ss} h e t) = ap (λ (x : List ℕ). productFrom x ss) e ∙ trace-product t
 trace-product (kept h t) = trace-product t
 
-witnessed : (n w : ℕ) (calls : List Call) (earlier later : List (List ℕ)) {product then now : List ℕ} → n ≤ 128 → w ≤ n → Trace (identityRecord n) calls (earlier ++ later) now
+witnessed : (n w : ℕ) (calls : List Call) (earlier later : List (List ℕ)) {product then now : List ℕ} → n ≤ 128 → w ≤ n
+    → Trace (identityRecord n) calls (earlier ++ later) now
     → Steps n (earlier ++ later) → productFrom (identityRecord n) earlier ≡ then → productOf w later ≡ product → Witness n w calls earlier later product then now
 witnessed n w calls earlier later {product} {then} {now} n≤ w≤ trace good e p =
     let k : ℕ = length earlier in
@@ -70,43 +76,42 @@ record Compositions : Type 0 where
   fdg-is : composeRecord szRecord hRecord ≡ fdgRecord
   f4dg-is : composeRecord hRecord szRecord ≡ f4dgRecord
   cx-first : composeRecord cxRecord (identityRecord 2) ≡ cxRecord
-  h-next : composeRecord hRecord cxRecord ≡ afterTwo
-  sz-next : composeRecord szRecord afterTwo ≡ afterThree
 
 compositions : Compositions
-unfolding composeRecord identityRecord tableauRecord tableauOf rowLength rowPart rowOffset encodeRow decodeRow rowOf joined listed compose widen apply applyTo imageOf rowImage identityTableau identityString single scale mul phaseOfLetters productTo letterPhase letterMul letterProduct _·_ negate turn phaseByte phaseOf letterByte letterOf qubits
+unfolding gateRecord gateTableau oneQubitGate oneQubitGates twoQubitGate twoQubitGates onQubit onQubits gateOnEach imageString pairString pairRow composeRecord identityRecord tableauRecord tableauOf letterPlace letterIn rowLength rowPart rowOffset encodeRow decodeRow rowOf joined listed compose widen apply applyTo imageOf rowImage identityTableau identityString single scale mul phaseOfLetters productTo letterPhase letterMul letterProduct _·_ negate turn phaseByte phaseOf letterByte letterOf qubits
 compositions = record {
   h-first = same-is (composeRecord hRecord (identityRecord 1)) hRecord tt;
   fdg-is = same-is (composeRecord szRecord hRecord) fdgRecord tt;
   f4dg-is = same-is (composeRecord hRecord szRecord) f4dgRecord tt;
   cx-first = same-is (composeRecord cxRecord (identityRecord 2)) cxRecord tt;
-  h-next = same-is (composeRecord hRecord cxRecord) afterTwo tt;
-  sz-next = same-is (composeRecord szRecord afterTwo) afterThree tt;
 }
 
 -- which calls are accepted, and with what the others are refused
 pub record Replies : Type 0 where
-  pub one : callAnswer (identityRecord 1) (call hRecord 6) ≡ Done
-  pub one-bad : callAnswer hRecord badCall ≡ Refused (BadByte 2)
+  pub one : callAnswer (identityRecord 1) (call hRecord (recordLength 1 + 1)) ≡ Done
+  pub one-bad : callAnswer hRecord badCall ≡ Refused (BadByte (firstLetter 1))
   pub one-short : callAnswer hRecord shortCall ≡ Refused Room
-  pub first : callAnswer (identityRecord 2) (call cxRecord 13) ≡ Done
+  pub first : callAnswer (identityRecord 2) (call cxRecord (recordLength 2)) ≡ Done
   pub short : callAnswer cxRecord shortCall ≡ Refused Room
-  pub second : callAnswer cxRecord (call hRecord 13) ≡ Done
-  pub bad : callAnswer afterTwo badCall ≡ Refused (BadByte 2)
-  pub third : callAnswer afterTwo (call szRecord 14) ≡ Done
+  pub second : callAnswer cxRecord (call hRecord (recordLength 2)) ≡ Done
+  pub bad : callAnswer afterTwo badCall ≡ Refused (BadByte (firstLetter 1))
+  pub third : callAnswer afterTwo (call szRecord (recordLength 2 + 1)) ≡ Done
 
 pub replies : Replies
-unfolding callAnswer composeAnswer composeQuestions tableauQuestions widthQuestion lengthQuestion bytesQuestion firstBad ask _andThen_ roomQuestion recordLength rowLength firstPlace identityRecord tableauRecord encodeRow rowOf joined listed identityTableau single phaseByte letterByte qubits
+unfolding gateRecord gateTableau oneQubitGate oneQubitGates twoQubitGate twoQubitGates onQubit onQubits gateOnEach imageString pairString pairRow composeRecord tableauOf letterIn decodeRow compose widen apply applyTo imageOf rowImage identityString scale mul phaseOfLetters productTo letterPhase letterMul letterProduct _·_ negate turn phaseOf letterOf callAnswer composeAnswer composeQuestions tableauQuestions widthQuestion lengthQuestion rowsQuestion rowQuestion rowPart rowOffset letterPlace lettersOf bytesQuestion firstBad ask _andThen_ roomQuestion recordLength rowLength firstPlace identityRecord tableauRecord encodeRow rowOf joined listed identityTableau single phaseByte letterByte qubits
 replies = record { one = refl; one-bad = refl; one-short = refl; first = refl; short = refl; second = refl; bad = refl; third = refl }
 
 record Valids : Type 0 where
   h-valid : recordValid hRecord ≡ true
   sz-valid : recordValid szRecord ≡ true
   cx-valid : recordValid cxRecord ≡ true
+  h-width : widthOf hRecord ≡ 1
+  sz-width : widthOf szRecord ≡ 1
+  cx-width : widthOf cxRecord ≡ 2
 
 valids : Valids
-unfolding recordValid isValid allTo validQubit validPair tableauOf rowPart rowOffset rowLength decodeRow phaseOf letterOf isReal commute anticommutingPlaces countTo anticommute qubits
-valids = record { h-valid = refl; sz-valid = refl; cx-valid = refl }
+unfolding gateRecord gateTableau oneQubitGate oneQubitGates twoQubitGate twoQubitGates onQubit onQubits gateOnEach imageString pairString pairRow tableauRecord encodeRow rowOf joined listed phaseByte letterByte identityString single scale mul phaseOfLetters productTo letterPhase letterMul letterProduct _·_ negate turn recordValid isValid allTo validQubit validPair tableauOf rowPart rowOffset letterPlace letterIn rowLength decodeRow phaseOf letterOf isReal commute anticommutingPlaces countTo anticommute qubits
+valids = record { h-valid = refl; sz-valid = refl; cx-valid = refl; h-width = refl; sz-width = refl; cx-width = refl }
 
 abbrev good-step : {n : ℕ} {a : List ℕ} → recordValid a ≡ true → widthOf a ≤ n → Step n a
 good-step v l = record { valid = v; narrow = l }
@@ -117,7 +122,7 @@ unfolding productOf productFrom
 witness =
     witnessed 1 1 oneStep [] (hRecord ∷ []) (omega arith) (omega arith)
     (taken (replies .one) (compositions .h-first) (kept (replies .one-bad) (kept (replies .one-short) end)))
-    (step (good-step (valids .h-valid) (omega arith)) none) refl (compositions .h-first)
+    (step (good-step (valids .h-valid) (omega (arith, valids .h-width))) none) refl (compositions .h-first)
 
 -- back to step 1 of 3, by a product of width 1 where the record has width 2
 pub witness-between : Witness 2 1 threeSteps (cxRecord ∷ []) (hRecord ∷ szRecord ∷ []) fdgRecord cxRecord afterThree
@@ -125,18 +130,28 @@ unfolding productOf productFrom
 witness-between =
     witnessed 2 1 threeSteps (cxRecord ∷ []) (hRecord ∷ szRecord ∷ []) (omega arith) (omega arith)
     (taken (replies .first) (compositions .cx-first)
-    (kept (replies .short) (taken (replies .second) (compositions .h-next) (kept (replies .bad) (taken (replies .third) (compositions .sz-next) end)))))
-    (step (good-step (valids .cx-valid) (omega arith)) (step (good-step (valids .h-valid) (omega arith)) (step (good-step (valids .sz-valid) (omega arith)) none)))
+    (kept (replies .short) (taken (replies .second) refl (kept (replies .bad) (taken (replies .third) refl end)))))
+    (step (good-step (valids .cx-valid) (omega (arith, valids .cx-width))) (step (good-step (valids .h-valid) (omega (arith, valids .h-width))) (step (good-step (valids .sz-valid) (omega (arith, valids .sz-width))) none)))
     (compositions .cx-first)
     (ap (composeRecord szRecord) (compositions .h-first) ∙ compositions .fdg-is)
 
 -- its later steps do not commute, and they changed the record
+record Bytes : Type 0 where
+  fdg-first : getD fdgRecord 1 0 ≡ 0
+  f4dg-first : getD f4dgRecord 1 0 ≡ 1
+  then-letter : getD cxRecord (firstLetter 2) 0 ≡ 1
+  now-letter : getD afterThree (firstLetter 2) 0 ≡ 2
+
+bytes : Bytes
+unfolding gateRecord gateTableau oneQubitGate oneQubitGates twoQubitGate twoQubitGates onQubit onQubits gateOnEach imageString pairString pairRow composeRecord tableauRecord tableauOf letterPlace letterIn rowLength rowPart rowOffset encodeRow decodeRow rowOf joined listed compose widen apply applyTo imageOf rowImage identityString single scale mul phaseOfLetters productTo letterPhase letterMul letterProduct _·_ negate turn phaseByte phaseOf letterByte letterOf qubits
+bytes = record { fdg-first = refl; f4dg-first = refl; then-letter = refl; now-letter = refl }
+
 pub order-matters : composeRecord szRecord hRecord ≡ composeRecord hRecord szRecord → ⊥
 order-matters e =
     let z : getD fdgRecord 1 0 ≡ getD f4dgRecord 1 0 = ap (λ (b : List ℕ). getD b 1 0) (sym (compositions .fdg-is) ∙ e ∙ compositions .f4dg-is) in
-    omega arith
+    omega (arith, bytes .fdg-first, bytes .f4dg-first)
 
 pub record-changed : recordThen 2 threeSteps 1 ≡ recordNow 2 threeSteps → ⊥
 record-changed e =
-    let z : getD cxRecord 2 0 ≡ getD afterThree 2 0 = ap (λ (b : List ℕ). getD b 2 0) (sym (witness-between .afterEarlier) ∙ e ∙ witness-between .afterAll) in
-    omega arith
+    let z : getD cxRecord (firstLetter 2) 0 ≡ getD afterThree (firstLetter 2) 0 = ap (λ (b : List ℕ). getD b (firstLetter 2) 0) (sym (witness-between .afterEarlier) ∙ e ∙ witness-between .afterAll) in
+    omega (arith, bytes .then-letter, bytes .now-letter)

@@ -9,7 +9,12 @@ use Rattle.pauli.specs.declared.refusal.Outcome.{Outcome}
 use Rattle.pauli.specs.Answers.{oneOrZero, replyTo}
 use Rattle.pauli.specs.Questions.{pairQuestions}
 use Rattle.pauli.specs.Rows.{phaseBytesProduct, productPhaseByte, productLetterByte}
+use Rattle.pauli_group.specs.Phase.{PlusI}
+use Rattle.pauli_group.specs.Letter.{Letter, X, Z, Y}
+use Rattle.clifford_gates.specs.Gates.{Image, plus, minus, oneQubit}
+use Rattle.clifford_gates.specs.GateTableaux.{onQubit}
 use Rattle.clifford_gates.specs.GateNumbers.{composeGate}
+use Rattle.clifford.specs.Layout.{longestRecord, tableauRecord}
 use Rattle.clifford.specs.Tableaux.{recordValid, applyRecord, composeRecord, inverseRecord}
 use Rattle.clifford.specs.Questions.{tableauQuestions, applyAnswer, composeAnswer, inverseAnswer}
 use Rattle.clifford.specs.GateQuestions.{composeGateQuestions}
@@ -34,8 +39,8 @@ unfoldable pub answered : Asked → List ℕ
 answered (phasesMultiplied a b) = told (pairQuestions a b) (phaseBytesProduct a b) []
 answered (lettersMultiplied a b) = told (pairQuestions a b) (4 * productPhaseByte a b + productLetterByte a b) []
 answered (applied t s) = told (applyAnswer t s 129) 0 (applyRecord t s)
-answered (inverted t) = told (inverseAnswer t 33025) 0 (inverseRecord t)
-answered (composed a b) = told (composeAnswer a b 33025) 0 (composeRecord a b)
+answered (inverted t) = told (inverseAnswer t longestRecord) 0 (inverseRecord t)
+answered (composed a b) = told (composeAnswer a b longestRecord) 0 (composeRecord a b)
 answered (gateComposed g h) = told (composeGateQuestions g h) (composeGate g h) []
 answered (valid t) = told (tableauQuestions t) (oneOrZero (recordValid t)) []
 answered (named t) = told (tableauQuestions t) (cond (ltb (recordName t) 24) (recordName t) 255) []
@@ -43,6 +48,13 @@ answered (named t) = told (tableauQuestions t) (cond (ltb (recordName t) 24) (re
 -- a string record by its phase and its first letters
 unfoldable pub stringBytes : ℕ → List ℕ → List ℕ
 stringBytes p ls = p ∷ (ls ++ replicate (128 - length ls) 0)
+
+-- the tableau record of width 1 with these images of X and of Z
+abbrev pub plusI : Letter → Image
+plusI l = record { phase = PlusI; letter = l }
+
+unfoldable pub imagesRecord : Image → Image → List ℕ
+imagesRecord x z = tableauRecord (onQubit (oneQubit x z) 0)
 
 pub record Reading : Type 0 where
   pub asked : Asked
@@ -57,15 +69,15 @@ readings =
     reading (lettersMultiplied 1 2) (0 ∷ 15 ∷ []) ∷  -- X·Z = −iY, phase 3 and letter 3
     reading (applied (gateRecord 4 0 0) (stringBytes 0 (3 ∷ []))) (0 ∷ 0 ∷ stringBytes 1 (3 ∷ [])) ∷  -- `h` on Y0: −Y0
     reading (applied (gateRecord 24 0 1) (stringBytes 0 (1 ∷ 2 ∷ []))) (0 ∷ 0 ∷ stringBytes 1 (3 ∷ 3 ∷ [])) ∷  -- `cx(0,1)` on X0 Z1: −Y0 Y1
-    reading (inverted (gateRecord 14 0 0)) (0 ∷ 0 ∷ 1 ∷ 1 ∷ 3 ∷ 0 ∷ 2 ∷ []) ∷  -- inverse of `sz`: X to −Y, Z to Z
-    reading (composed (gateRecord 14 0 0) (gateRecord 4 0 0)) (0 ∷ 0 ∷ 1 ∷ 0 ∷ 2 ∷ 0 ∷ 3 ∷ []) ∷  -- `compose(sz,h)`: X to Z, Z to Y
+    reading (inverted (gateRecord 14 0 0)) (0 ∷ 0 ∷ imagesRecord (minus Y) (plus Z)) ∷  -- inverse of `sz`: X to −Y, Z to Z
+    reading (composed (gateRecord 14 0 0) (gateRecord 4 0 0)) (0 ∷ 0 ∷ imagesRecord (plus Z) (plus Y)) ∷  -- `compose(sz,h)`: X to Z, Z to Y
     reading (named (composeRecord (gateRecord 14 0 0) (gateRecord 4 0 0))) (0 ∷ 17 ∷ []) ∷  -- which is Fdg
     reading (gateComposed 14 4) (0 ∷ 17 ∷ []) ∷  -- and so by number
-    reading (composed (gateRecord 4 0 0) (gateRecord 14 0 0)) (0 ∷ 0 ∷ 1 ∷ 1 ∷ 3 ∷ 0 ∷ 1 ∷ []) ∷  -- `compose(h,sz)`: X to −Y, Z to X
+    reading (composed (gateRecord 4 0 0) (gateRecord 14 0 0)) (0 ∷ 0 ∷ imagesRecord (minus Y) (plus X)) ∷  -- `compose(h,sz)`: X to −Y, Z to X
     reading (named (composeRecord (gateRecord 4 0 0) (gateRecord 14 0 0))) (0 ∷ 23 ∷ []) ∷  -- which is F4dg
     reading (gateComposed 4 14) (0 ∷ 23 ∷ []) ∷  -- and so by number
     reading (valid (0 ∷ [])) (0 ∷ 1 ∷ []) ∷  -- width 0 is valid
-    reading (valid (1 ∷ 0 ∷ 1 ∷ 0 ∷ 1 ∷ [])) (0 ∷ 0 ∷ []) ∷  -- X to X, Z to X is not
-    reading (valid (1 ∷ 2 ∷ 1 ∷ 0 ∷ 2 ∷ [])) (0 ∷ 0 ∷ []) ∷  -- X to +iX, Z to Z is not valid
-    reading (named (1 ∷ 2 ∷ 1 ∷ 0 ∷ 2 ∷ [])) (0 ∷ 0 ∷ []) ∷  -- yet named I
+    reading (valid (imagesRecord (plus X) (plus X))) (0 ∷ 0 ∷ []) ∷  -- X to X, Z to X is not
+    reading (valid (imagesRecord (plusI X) (plus Z))) (0 ∷ 0 ∷ []) ∷  -- X to +iX, Z to Z is not valid
+    reading (named (imagesRecord (plusI X) (plus Z))) (0 ∷ 0 ∷ []) ∷  -- yet named I
     []

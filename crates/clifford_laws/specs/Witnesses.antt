@@ -1,8 +1,11 @@
 -- Closed lists of calls and their way back, in bytes.
-use Prim.Native.Nat.{ℕ}
+use Prim.Native.Nat.{ℕ, _+_, _-_}
 use mathlib.Core.Path.{_≡_}
 use mathlib.Core.List.{List, [], _∷_, _++_}
-use lib.ListN.{length, replicate}
+use lib.ListN.{length, replicate, set}
+use Rattle.clifford.specs.Layout.{letterPlace, rowOffset, recordLength}
+use Rattle.clifford.specs.Tableaux.{composeRecord}
+use Rattle.clifford.specs.GateAnswers.{gateRecord}
 use Rattle.clifford_laws.specs.WayBack.{Call, productOf, WayBack, steps, recordThen, recordNow}
 
 -- the steps of the list, the records after the earlier ones and after all, the product of the later ones; and the way back
@@ -15,42 +18,45 @@ pub record Witness (n w : ℕ) (calls : List Call) (earlier later : List (List �
 
 -- H and SZ on qubit 0, CX from 0 to 1
 abbrev pub hRecord : List ℕ
-hRecord = 1 ∷ 0 ∷ 2 ∷ 0 ∷ 1 ∷ []
+hRecord = gateRecord 4 0 0
 
 abbrev pub szRecord : List ℕ
-szRecord = 1 ∷ 0 ∷ 3 ∷ 0 ∷ 2 ∷ []
+szRecord = gateRecord 14 0 0
 
 abbrev pub cxRecord : List ℕ
-cxRecord = 2 ∷ 0 ∷ 1 ∷ 1 ∷ 0 ∷ 0 ∷ 1 ∷ 0 ∷ 2 ∷ 0 ∷ 0 ∷ 2 ∷ 2 ∷ []
+cxRecord = gateRecord 24 0 1
 
 -- SZ after H, and H after SZ
 abbrev pub fdgRecord : List ℕ
-fdgRecord = 1 ∷ 0 ∷ 2 ∷ 0 ∷ 3 ∷ []
+fdgRecord = gateRecord 17 0 0
 
 abbrev pub f4dgRecord : List ℕ
-f4dgRecord = 1 ∷ 1 ∷ 3 ∷ 0 ∷ 1 ∷ []
+f4dgRecord = gateRecord 23 0 0
 
 -- H after CX, and SZ after both
 abbrev pub afterTwo : List ℕ
-afterTwo = 2 ∷ 0 ∷ 2 ∷ 1 ∷ 0 ∷ 0 ∷ 1 ∷ 0 ∷ 1 ∷ 0 ∷ 0 ∷ 1 ∷ 2 ∷ []
+afterTwo = composeRecord hRecord cxRecord
 
 abbrev pub afterThree : List ℕ
-afterThree = 2 ∷ 0 ∷ 2 ∷ 1 ∷ 0 ∷ 0 ∷ 1 ∷ 0 ∷ 3 ∷ 0 ∷ 0 ∷ 3 ∷ 2 ∷ []
+afterThree = composeRecord szRecord afterTwo
 
--- a call with so many bytes of room; one that is refused with 3 at 2, and one with 7
+-- a call with so many bytes of room; one that is refused with 3 at its first letter, and one with 7
 abbrev pub call : List ℕ → ℕ → Call
 call a room = record { a = a; destination = replicate room 0 }
 
+abbrev pub firstLetter : ℕ → ℕ
+firstLetter w = rowOffset w 0 + letterPlace 0
+
 abbrev pub badCall : Call
-badCall = call (1 ∷ 0 ∷ 4 ∷ 0 ∷ 1 ∷ []) 13
+badCall = call (set hRecord (firstLetter 1) 4) (recordLength 2)
 
 abbrev pub shortCall : Call
-shortCall = call hRecord 4
+shortCall = call hRecord (recordLength 1 - 1)
 
 -- a step and two refused calls
 abbrev pub oneStep : List Call
-oneStep = call hRecord 6 ∷ badCall ∷ shortCall ∷ []
+oneStep = call hRecord (recordLength 1 + 1) ∷ badCall ∷ shortCall ∷ []
 
 -- three steps, the last two narrower than the record, with refused calls between
 abbrev pub threeSteps : List Call
-threeSteps = call cxRecord 13 ∷ shortCall ∷ call hRecord 13 ∷ badCall ∷ call szRecord 14 ∷ []
+threeSteps = call cxRecord (recordLength 2) ∷ shortCall ∷ call hRecord (recordLength 2) ∷ badCall ∷ call szRecord (recordLength 2 + 1) ∷ []

@@ -9,18 +9,18 @@ use lib.Dec.{eqb}
 use lib.ListN.{length}
 use borrow.Author.Tests.{eqb-true, eqb-false, leb-true, ltb-true, lt-leb, le-ltb, eq-eqb, ne-eqb, not-true}
 use Rattle.pauli_group.specs.PauliString.{qubits}
-use Rattle.pauli.specs.declared.refusal.Refusal.{Refusal}
-use Rattle.pauli.specs.declared.refusal.Refusal.the-variants.{Width, Gate, Qubit, SameQubit, ListRecord, Loop}
-use Rattle.pauli.specs.declared.refusal.Outcome.the-variants.{Done, Refused}
+use Rattle.pauli.specs.declared.refusal.Refusal.the-variants.{Width, StepGate, StepQubit, StepSameQubit, ListRecord, Loop}
+use Rattle.pauli.specs.declared.refusal.Outcome.the-variants.{Done}
 use Rattle.pauli.specs.Questions.{ask, _andThen_}
-use Rattle.pauli.proofs.Asking.{ask-done, done-first, done-second}
+use Rattle.pauli.proofs.Asking.{ask-done, done-first, done-second, never-done}
+use Rattle.clifford_group.proofs.Valid.{and-both}
 use Rattle.clifford.specs.Questions.{widthQuestion}
 use Rattle.gate_list.specs.Lists.{recordCount, byteOf, listWidth, nextOf, playOf, chainFrom, chainOf, playsOf, gatesOf}
 use Rattle.gate_list.specs.ListQuestions.{sizeQuestion, headQuestion, linkQuestion, zerosQuestion, stepGateQuestion, stepQubitQuestion, stepSecondQuestions, recordQuestions, isMet, chainQuestions, listQuestions}
 use Rattle.gate_list.specs.OrderedLists.{PlayFits, PlaysFit, none, more, Chain, ends, links}
 use Rattle.gate_list.specs.Runs.{stepCount}
-use Rattle.gate_list.proofs.Chains.{chain-met, chain-more, record-link}
-use Rattle.gate_list.proofs.ListAdmitted.{and-second, link-done, Sized, size-done, sized-few}
+use Rattle.gate_list.proofs.Chains.{chain-met, chain-more, link-done, record-link}
+use Rattle.gate_list.proofs.ListAdmitted.{Sized, size-done, sized-few}
 
 -- ---- one record
 module _ (l : List ℕ) (i : ℕ) (e : recordQuestions l i ≡ Done) where
@@ -42,10 +42,10 @@ module _ (l : List ℕ) (i : ℕ) (e : recordQuestions l i ≡ Done) where
       done-first _ _
       (done-second (stepQubitQuestion l i (byteOf l i 1)) _ (done-second (stepGateQuestion l i) _ (done-second (zerosQuestion l i) _ e)))
 
-  two-of : 24 ≤ byteOf l i 0 → stepQubitQuestion l i (byteOf l i 2) andThen ask (not (eqb (byteOf l i 1) (byteOf l i 2))) (SameQubit i) ≡ Done
+  two-of : 24 ≤ byteOf l i 0 → stepQubitQuestion l i (byteOf l i 2) andThen ask (not (eqb (byteOf l i 1) (byteOf l i 2))) (StepSameQubit i) ≡ Done
   unfolding stepSecondQuestions
   two-of h =
-      sym (ap (λ b. cond b Done (stepQubitQuestion l i (byteOf l i 2) andThen ask (not (eqb (byteOf l i 1) (byteOf l i 2))) (SameQubit i))) (le-ltb (byteOf l i 0) 24 h)) ∙ second-of
+      sym (ap (λ b. cond b Done (stepQubitQuestion l i (byteOf l i 2) andThen ask (not (eqb (byteOf l i 1) (byteOf l i 2))) (StepSameQubit i))) (le-ltb (byteOf l i 0) 24 h)) ∙ second-of
 
   or-second : {a b : Bool} → (a || b) ≡ true → a ≡ false → b ≡ true
   or-second {a} {b} h k = sym (ap (λ x. x || b) k) ∙ h
@@ -53,11 +53,11 @@ module _ (l : List ℕ) (i : ℕ) (e : recordQuestions l i ≡ Done) where
   pub record-play : PlayFits (listWidth l) (playOf l i)
   unfolding playOf zerosQuestion stepGateQuestion stepQubitQuestion
   record-play = record {
-    gate = ltb-true _ 38 (ask-done _ (Gate i) gate-of);
-    first = ltb-true _ _ (ask-done _ (Qubit i) first-of);
-    second = λ h. ltb-true _ _ (ask-done _ (Qubit i) (done-first _ _ (two-of h)));
-    different = λ h. eqb-false _ _ (not-true _ (ask-done _ (SameQubit i) (done-second (stepQubitQuestion l i (byteOf l i 2)) _ (two-of h))));
-    unused = λ h. eqb-true _ 0 (or-second (and-second (eqb (byteOf l i 3) 0) _ (ask-done _ (ListRecord i) zeros-of)) (lt-leb 24 (byteOf l i 0) h));
+    gate = ltb-true _ 38 (ask-done _ (StepGate i) gate-of);
+    first = ltb-true _ _ (ask-done _ (StepQubit i) first-of);
+    second = λ h. ltb-true _ _ (ask-done _ (StepQubit i) (done-first _ _ (two-of h)));
+    different = λ h. eqb-false _ _ (not-true _ (ask-done _ (StepSameQubit i) (done-second (stepQubitQuestion l i (byteOf l i 2)) _ (two-of h))));
+    unused = λ h. eqb-true _ 0 (or-second (and-both (eqb (byteOf l i 3) 0) _ (ask-done _ (ListRecord i) zeros-of) .1) (lt-leb 24 (byteOf l i 0) h));
   }
 
 -- ---- the chain
@@ -79,12 +79,10 @@ played-end : (l : List ℕ) (i : ℕ) → i ≡ 0 → Played l i []
 unfolding playsOf
 played-end l i h = record { chain = subst (λ (j : ℕ). Chain l j []) (sym h) ends; plays = none }
 
-played-more : {l : List ℕ} {i : ℕ} {rest : List ℕ} → (i ≡ 0 → ⊥) → i < recordCount l → recordQuestions l i ≡ Done → Played l (nextOf l i) rest → Played l i (i ∷ rest)
+played-more : {l : List ℕ} {i : ℕ} {rest : List ℕ} → (i ≡ 0 → ⊥) → i < recordCount l → recordQuestions l i ≡ Done
+    → Played l (nextOf l i) rest → Played l i (i ∷ rest)
 unfolding playsOf
 played-more {l} {i} h o e p = record { chain = links h o (p .chain); plays = more (record-play l i e) (p .plays) }
-
-not-refused : {x : Refusal} → Refused x ≡ Done → ⊥
-not-refused e = let z : _≡_ {A = ℕ} 0 1 = cc in omega arith
 
 chain-zero : (l met : List ℕ) (i : ℕ) → chainQuestions l met zero i ≡ Done → i ≡ 0
 unfolding chainQuestions
@@ -101,7 +99,7 @@ chain-done l met (suc n) i o e = elim (ℕ-discrete i 0) [
   where
     step : (nextOf l i < recordCount l → chainQuestions l (i ∷ met) n (nextOf l i) ≡ Done → Played l (nextOf l i) (chainFrom l n (nextOf l i)))
         → (i ≡ 0 → ⊥) → (b : Bool) → isMet met i ≡ b → Played l i (chainFrom l (suc n) i)
-    step then z true m = absurd (not-refused (sym (chain-met l met (suc n) i z m) ∙ e))
+    step then z true m = absurd (never-done (sym (chain-met l met (suc n) i z m) ∙ e))
     step then z false m =
         let all = sym (chain-more l met n i z m) ∙ e in
         let own = done-first _ _ all in

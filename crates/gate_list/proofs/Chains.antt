@@ -21,7 +21,7 @@ use Rattle.pauli.specs.Questions.{_andThen_}
 use Rattle.pauli.proofs.Asking.{asked-yes, asked-no, ask-done, refused, passed, done-second}
 use Rattle.gate_list.specs.Lists.{recordCount, byteOf, nextOf}
 use Rattle.gate_list.specs.ListQuestions.{linkQuestion, zerosQuestion, stepGateQuestion, stepQubitQuestion, stepSecondQuestions, recordQuestions, isMet, chainQuestions}
-use Rattle.gate_list.specs.Inside.Reading.{OwnRecord, BeforeChain}
+use Rattle.gate_list.specs.Inside.Reading.{OwnRecord, BeforeChain, linksQuestion}
 
 -- ---- one place fewer
 pub count-fewer : (n : ℕ) (f g : ℕ → Bool) (p : ℕ) → p < n → f p ≡ true → g p ≡ false → ((q : ℕ) → (q ≡ p → ⊥) → f q ≡ g q) → countTo n f ≡ suc (countTo n g)
@@ -78,13 +78,16 @@ chain-more l met n i h e =
     ap₂ (λ a b. cond a Done (cond b (Refused (Loop i)) (recordQuestions l i andThen chainQuestions l (i ∷ met) n (nextOf l i)))) (ne-eqb i 0 h) e
 
 -- a record that passes links to a record
+pub link-done : (l : List ℕ) (i : ℕ) → linkQuestion l i ≡ Done → nextOf l i < recordCount l
+unfolding linkQuestion
+link-done l i e = ltb-true _ _ (ask-done _ (Link i) e)
+
 pub record-link : (l : List ℕ) (i : ℕ) → recordQuestions l i ≡ Done → nextOf l i < recordCount l
-unfolding recordQuestions linkQuestion
+unfolding recordQuestions
 record-link l i e =
-    ltb-true _ _
-    (ask-done _ (Link i)
+    link-done l i
     (done-second (stepSecondQuestions l i) _
-    (done-second (stepQubitQuestion l i (byteOf l i 1)) _ (done-second (stepGateQuestion l i) _ (done-second (zerosQuestion l i) _ e)))))
+    (done-second (stepQubitQuestion l i (byteOf l i 1)) _ (done-second (stepGateQuestion l i) _ (done-second (zerosQuestion l i) _ e))))
 
 -- ---- the walk: the questions along the whole chain come to q, and the link of record k is followed next
 pub record Walking (l : List ℕ) (q : Outcome) (m : List ℕ) (k : ℕ) : Type 0 where
@@ -96,17 +99,25 @@ pub record Walking (l : List ℕ) (q : Outcome) (m : List ℕ) (k : ℕ) : Type 
   pub marks : (j : ℕ) → isMet met j ≡ not (eqb (getD m j 0) 0)
   pub same : q ≡ chainQuestions l met (unmet (recordCount l - 1) m) (nextOf l k)
 
-pub walking-start : {l m : List ℕ} → BeforeChain l m → Walking l (chainQuestions l [] (recordCount l - 1) (nextOf l 0)) m 0
-unfolding isMet
-walking-start {l} {m} u = record {
-  long = u .blank .long;
-  few = u .few;
-  own = omega (arith, u .link);
-  link = u .link;
-  met = [];
-  marks = λ j. sym (ap not (eq-eqb (getD m j 0) 0 (u .blank .clear j)));
-  same = ap (λ (n : ℕ). chainQuestions l [] n (nextOf l 0)) (sym (unmet-all (recordCount l - 1) m (u .blank .clear)));
-}
+pub walking-head : {l m : List ℕ} → BeforeChain l m → OwnRecord l 0
+walking-head u = record { own = u .some }
+
+module _ (l : List ℕ) {r : Outcome} (e : r ≡ linkQuestion l 0) where
+  pub walking-not : {x : Refusal} → r ≡ Refused x → r ≡ linksQuestion l
+  unfolding linksQuestion
+  walking-not h = refused _ e h
+
+  pub walking-start : {m : List ℕ} → r ≡ Done → BeforeChain l m → Walking l (linksQuestion l) m 0
+  unfolding linksQuestion isMet
+  walking-start {m} h u = record {
+    long = u .blank .long;
+    few = u .few;
+    own = u .some;
+    link = link-done l 0 (sym e ∙ h);
+    met = [];
+    marks = λ j. sym (ap not (eq-eqb (getD m j 0) 0 (u .blank .clear j)));
+    same = sym (passed e h refl) ∙ ap (λ (n : ℕ). chainQuestions l [] n (nextOf l 0)) (sym (unmet-all (recordCount l - 1) m (u .blank .clear)));
+  }
 
 pub walking-at : {l m : List ℕ} {q : Outcome} {k : ℕ} → Walking l q m k → OwnRecord l k
 walking-at w = record { own = w .own }
@@ -173,6 +184,8 @@ module _ {l m : List ℕ} {q : Outcome} {k i : ℕ} (w : Walking l q m k) (ei : 
     }
 
 pub ruleset walks = (
+  walking-head,
+  walking-not,
   walking-start,
   walking-at,
   walking-own,

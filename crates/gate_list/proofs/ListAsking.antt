@@ -8,27 +8,23 @@ use lib.Dec.{eqb, leb}
 use lib.ListN.{length, getD, List·getD-eq-default}
 use borrow.Author.Needs.{needs}
 use borrow.Author.Tests.{le-leb, lt-leb, lt-ltb, le-ltb, eq-eqb, ne-eqb}
-use Rattle.pauli.specs.declared.refusal.Refusal.the-variants.{Gate, Qubit, SameQubit, ListLength, ListRecord, Link}
+use Rattle.pauli.specs.declared.refusal.Refusal.the-variants.{StepGate, StepQubit, StepSameQubit, ListLength, ListRecord, Link}
 use Rattle.pauli.specs.declared.refusal.Refusal.{Refusal}
 use Rattle.pauli.specs.declared.refusal.Outcome.{Outcome}
 use Rattle.pauli.specs.declared.refusal.Outcome.the-variants.{Done, Refused}
-use Rattle.pauli.specs.Questions.{_andThen_}
 use Rattle.pauli.proofs.Asking.{asked-yes, asked-no, refused, passed}
 use Rattle.gate_list.specs.Lists.{recordSize, recordCount, byteOf, listWidth, nextOf}
 use Rattle.gate_list.specs.ListQuestions.{sizeQuestion, headQuestion, linkQuestion, zerosQuestion, stepGateQuestion, stepQubitQuestion, stepSecondQuestions, recordQuestions}
-use Rattle.gate_list.specs.Inside.Reading.{OwnRecord, OwnByte, ByteSized, zerosRight, stepDifferentQuestion, twoQuestions}
+use Rattle.gate_list.specs.Inside.Reading.{OwnRecord, OwnByte, ByteSized, zerosRight, stepDifferentQuestion, twoQuestions, stepQubitsQuestions}
 
 -- ---- the bytes of a list
 pub count-is : (l : List ℕ) → length l / 6 ≡ recordCount l
 unfolding recordCount
 count-is l = refl
 
-byte-place : {l : List ℕ} {i k : ℕ} → OwnByte l i k → 6 * i + k < length l
-unfolding recordCount
-byte-place o = omega (arith, o .own, o .place)
-
 pub byte-read : {l : List ℕ} {i k : ℕ} → OwnByte l i k → 6 * i + k < length l
-byte-read o = byte-place o
+unfolding recordCount
+byte-read o = omega (arith, o .own, o .place)
 
 pub byte-is : (l : List ℕ) (i k : ℕ) → getD l (6 * i + k) 0 ≡ byteOf l i k
 unfolding byteOf
@@ -116,7 +112,8 @@ module _ (l : List ℕ) where
     unfolding linkQuestion
     link-bad en ec h = asked-no (Link i) (le-ltb (nextOf l i) (recordCount l) (omega arith))
 
-    pub zeros-good : {g s f : ℕ} {b : Bool} → g ≡ byteOf l i 0 → s ≡ byteOf l i 2 → f ≡ byteOf l i 3 → b ≡ zerosRight g s f → b ≡ true → Done ≡ zerosQuestion l i
+    pub zeros-good : {g s f : ℕ} {b : Bool} → g ≡ byteOf l i 0 → s ≡ byteOf l i 2 → f ≡ byteOf l i 3 → b ≡ zerosRight g s f
+        → b ≡ true → Done ≡ zerosQuestion l i
     unfolding zerosQuestion zerosRight
     zeros-good eg es ef eb h = asked-yes (ListRecord i) (sym (right eg es ef) ∙ sym eb ∙ h)
 
@@ -127,25 +124,26 @@ module _ (l : List ℕ) where
 
     pub gate-good : {g : ℕ} → g ≡ byteOf l i 0 → g < 38 → Done ≡ stepGateQuestion l i
     unfolding stepGateQuestion
-    gate-good e h = asked-yes (Gate i) (lt-ltb (byteOf l i 0) 38 (omega arith))
+    gate-good e h = asked-yes (StepGate i) (lt-ltb (byteOf l i 0) 38 (omega arith))
 
-    pub gate-bad : {g : ℕ} → g ≡ byteOf l i 0 → 38 ≤ g → Refused (Gate i) ≡ stepGateQuestion l i
+    pub gate-bad : {g : ℕ} → g ≡ byteOf l i 0 → 38 ≤ g → Refused (StepGate i) ≡ stepGateQuestion l i
     unfolding stepGateQuestion
-    gate-bad e h = asked-no (Gate i) (le-ltb (byteOf l i 0) 38 (omega arith))
+    gate-bad e h = asked-no (StepGate i) (le-ltb (byteOf l i 0) 38 (omega arith))
 
     pub qubit-good : {q x w : ℕ} → ByteSized q x → ByteSized (listWidth l) w → x < w → Done ≡ stepQubitQuestion l i q
     unfolding stepQubitQuestion
-    qubit-good {q} ex ew h = asked-yes (Qubit i) (lt-ltb q (listWidth l) (omega (arith, ex .is, ew .is)))
+    qubit-good {q} ex ew h = asked-yes (StepQubit i) (lt-ltb q (listWidth l) (omega (arith, ex .is, ew .is)))
 
-    pub qubit-bad : {q x w : ℕ} → ByteSized q x → ByteSized (listWidth l) w → w ≤ x → Refused (Qubit i) ≡ stepQubitQuestion l i q
+    pub qubit-bad : {q x w : ℕ} → ByteSized q x → ByteSized (listWidth l) w → w ≤ x → Refused (StepQubit i) ≡ stepQubitQuestion l i q
     unfolding stepQubitQuestion
-    qubit-bad {q} ex ew h = asked-no (Qubit i) (le-ltb q (listWidth l) (omega (arith, ex .is, ew .is)))
+    qubit-bad {q} ex ew h = asked-no (StepQubit i) (le-ltb q (listWidth l) (omega (arith, ex .is, ew .is)))
 
     pub two-out : {s : ℕ} {q : Outcome} {x : Refusal} → s ≡ byteOf l i 2 → q ≡ stepQubitQuestion l i s → q ≡ Refused x → q ≡ twoQuestions l i
     unfolding twoQuestions
     two-out es eq h = refused (stepDifferentQuestion i (byteOf l i 1) (byteOf l i 2)) (eq ∙ ap (stepQubitQuestion l i) es) h
 
-    pub two-in : {s t : ℕ} {q r : Outcome} → s ≡ byteOf l i 2 → q ≡ stepQubitQuestion l i s → q ≡ Done → t ≡ byteOf l i 1 → r ≡ stepDifferentQuestion i t s → r ≡ twoQuestions l i
+    pub two-in : {s t : ℕ} {q r : Outcome} → s ≡ byteOf l i 2 → q ≡ stepQubitQuestion l i s → q ≡ Done → t ≡ byteOf l i 1
+        → r ≡ stepDifferentQuestion i t s → r ≡ twoQuestions l i
     unfolding twoQuestions
     two-in es eq d et er = passed (eq ∙ ap (stepQubitQuestion l i) es) d (er ∙ ap₂ (stepDifferentQuestion i) et es)
 
@@ -160,16 +158,13 @@ module _ (l : List ℕ) where
     unfolding stepSecondQuestions twoQuestions stepDifferentQuestion
     second-two eg h e = e ∙ sym (ap second-case (le-ltb (byteOf l i 0) 24 (omega arith)))
 
-    pub first-read : {t : ℕ} {q : Outcome} → t ≡ byteOf l i 1 → q ≡ stepQubitQuestion l i t → q ≡ stepQubitQuestion l i (byteOf l i 1)
-    first-read et e = e ∙ ap (stepQubitQuestion l i) et
-
-pub different-not : (i q r : ℕ) → q ≡ r → Refused (SameQubit i) ≡ stepDifferentQuestion i q r
+pub different-not : (i q r : ℕ) → q ≡ r → Refused (StepSameQubit i) ≡ stepDifferentQuestion i q r
 unfolding stepDifferentQuestion
-different-not i q r h = asked-no (SameQubit i) (ap not (eq-eqb q r h))
+different-not i q r h = asked-no (StepSameQubit i) (ap not (eq-eqb q r h))
 
 pub different-good : (i q r : ℕ) → (q ≡ r → ⊥) → Done ≡ stepDifferentQuestion i q r
 unfolding stepDifferentQuestion
-different-good i q r h = asked-yes (SameQubit i) (ap not (ne-eqb q r h))
+different-good i q r h = asked-yes (StepSameQubit i) (ap not (ne-eqb q r h))
 
 pub right-fixed : (g s f : ℕ) → (f ≡ 0 → ⊥) → false ≡ zerosRight g s f
 unfolding zerosRight
@@ -184,13 +179,40 @@ unfolding zerosRight
 right-one g s f h k = sym (ap₂ (λ a b. a && (b || eqb s 0)) (eq-eqb f 0 h) (lt-leb 24 g k))
 
 -- ---- all of a record's questions in their order
-pub record-asked : (l : List ℕ) (i : ℕ) {z g f s k a b c d : Outcome} → z ≡ zerosQuestion l i → g ≡ stepGateQuestion l i → f ≡ stepQubitQuestion l i (byteOf l i 1)
-    → s ≡ stepSecondQuestions l i → k ≡ linkQuestion l i → a ≡ s andThen k → b ≡ f andThen a → c ≡ g andThen b → d ≡ z andThen c → d ≡ recordQuestions l i
-unfolding recordQuestions
-record-asked l i ez eg ef es ek ea eb ec ed =
-    ed ∙ ap₂ _andThen_ ez (ec ∙ ap₂ _andThen_ eg (eb ∙ ap₂ _andThen_ ef (ea ∙ ap₂ _andThen_ es ek)))
+module _ (l : List ℕ) (i : ℕ) {t : ℕ} (et : t ≡ byteOf l i 1) {f : Outcome} (ef : f ≡ stepQubitQuestion l i t) where
+  first-read : f ≡ stepQubitQuestion l i (byteOf l i 1)
+  first-read = ef ∙ ap (stepQubitQuestion l i) et
 
-pub ruleset record-asks = (record-asked, needs)
+  pub qubits-first : {x : Refusal} → f ≡ Refused x → f ≡ stepQubitsQuestions l i
+  unfolding stepQubitsQuestions
+  qubits-first h = refused _ first-read h
+
+  module _ (df : f ≡ Done) {s : Outcome} (es : s ≡ stepSecondQuestions l i) where
+    pub qubits-second : {x : Refusal} → s ≡ Refused x → s ≡ stepQubitsQuestions l i
+    unfolding stepQubitsQuestions
+    qubits-second h = passed first-read df (refused _ es h)
+
+    pub qubits-link : s ≡ Done → {k : Outcome} → k ≡ linkQuestion l i → k ≡ stepQubitsQuestions l i
+    unfolding stepQubitsQuestions
+    qubits-link ds ek = passed first-read df (passed es ds ek)
+
+module _ (l : List ℕ) (i : ℕ) {z : Outcome} (ez : z ≡ zerosQuestion l i) where
+  pub record-zeros : {x : Refusal} → z ≡ Refused x → z ≡ recordQuestions l i
+  unfolding recordQuestions
+  record-zeros h = refused _ ez h
+
+  module _ (dz : z ≡ Done) {g : Outcome} (eg : g ≡ stepGateQuestion l i) where
+    pub record-gate : {x : Refusal} → g ≡ Refused x → g ≡ recordQuestions l i
+    unfolding recordQuestions
+    record-gate h = passed ez dz (refused _ eg h)
+
+    pub record-qubits : g ≡ Done → {k : Outcome} → k ≡ stepQubitsQuestions l i → k ≡ recordQuestions l i
+    unfolding recordQuestions stepQubitsQuestions
+    record-qubits dg ek = passed ez dz (passed eg dg ek)
+
+pub ruleset qubit-asks = (qubits-first, qubits-second, qubits-link, own-byte, needs)
+
+pub ruleset record-asks = (record-zeros, record-gate, record-qubits, needs)
 
 pub ruleset size-asks = (size-odd, size-short, size-long, size-good, needs)
 
@@ -200,6 +222,6 @@ pub ruleset link-asks = (link-good, link-bad, needs)
 
 pub ruleset zeros-asks = (zeros-good, zeros-bad, right-fixed, right-two, right-one, own-byte, needs)
 
-pub ruleset play-asks = (gate-good, gate-bad, qubit-good, qubit-bad, first-read, own-byte, needs)
+pub ruleset play-asks = (gate-good, gate-bad, qubit-good, qubit-bad, own-byte, needs)
 
 pub ruleset second-asks = (different-not, different-good, two-out, two-in, second-none, second-two, own-byte, needs)

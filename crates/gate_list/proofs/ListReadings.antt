@@ -11,7 +11,7 @@ use Rattle.clifford_gates.proofs.GateTables.{all-of}
 use Rattle.pauli.specs.declared.refusal.Reply.{Reply}
 use Rattle.pauli.specs.Answers.{refusalNumber, refusalDetail, reply, refusalReply, outcomeReply}
 use Rattle.pauli.specs.Questions.{ask, _andThen_, roomQuestion}
-use Rattle.clifford.specs.Layout.{rowLength, recordLength}
+use Rattle.clifford.specs.Layout.{rowLength, recordLength, letterPlace}
 use Rattle.clifford.specs.Questions.{widthQuestion}
 use Rattle.gate_list.specs.Lists.{recordCount, byteOf, listWidth, nextOf, playOf, chainFrom, chainOf, playsOf, gatesOf}
 use Rattle.gate_list.specs.ListQuestions.{sizeQuestion, headQuestion, linkQuestion, zerosQuestion, stepGateQuestion, stepQubitQuestion, stepSecondQuestions, recordQuestions, isMet, chainQuestions, listQuestions}
@@ -74,7 +74,7 @@ reads r t =
     ap₂ reply (eqb→eq (told r .number) (r .number) (parts .0)) (eqb→eq (told r .value) (r .detail) (parts .1))
 
 pub readings-hold : All Reads readings
-unfolding outcomeReply refusalReply refusalNumber refusalDetail ask _andThen_ roomQuestion rowLength recordLength widthQuestion qubits recordCount byteOf listWidth nextOf sizeQuestion headQuestion linkQuestion zerosQuestion stepGateQuestion stepQubitQuestion stepSecondQuestions recordQuestions isMet chainQuestions listQuestions runAnswer
+unfolding outcomeReply refusalReply refusalNumber refusalDetail ask _andThen_ roomQuestion rowLength recordLength widthQuestion qubits recordCount byteOf listWidth nextOf sizeQuestion headQuestion linkQuestion zerosQuestion stepGateQuestion stepQubitQuestion stepSecondQuestions recordQuestions isMet chainQuestions listQuestions runAnswer letterPlace
 readings-hold = all-of test reads readings tt
 
 -- the gates of the example

@@ -6,7 +6,7 @@ use Prim.Native.Nat.{ℕ, zero, suc, _-_, _<_, _≤_}
 use native.Mathlib.Omega.{arith}
 use lib.Dec.{eqb, ltb}
 use Rattle.pauli.specs.declared.refusal.Refusal.{Refusal}
-use Rattle.pauli.specs.declared.refusal.Refusal.the-variants.{Width, Gate, Qubit, SameQubit, ListLength, ListRecord, Link, Loop}
+use Rattle.pauli.specs.declared.refusal.Refusal.the-variants.{Width, StepGate, StepQubit, StepSameQubit, ListLength, ListRecord, Link, Loop}
 use Rattle.pauli.specs.declared.refusal.Outcome.{Outcome}
 use Rattle.pauli.specs.declared.refusal.Outcome.the-variants.{Done, Refused}
 use Rattle.pauli.specs.Answers.{refusalDetail}
@@ -14,9 +14,8 @@ use Rattle.pauli.specs.Questions.{ask, _andThen_}
 use Rattle.clifford.specs.Questions.{widthQuestion}
 use Rattle.gate_list.specs.Lists.{recordCount, byteOf, listWidth, nextOf}
 use Rattle.gate_list.specs.ListQuestions.{sizeQuestion, headQuestion, linkQuestion, zerosQuestion, stepGateQuestion, stepQubitQuestion, stepSecondQuestions, recordQuestions, isMet, chainQuestions, listQuestions}
-use Rattle.gate_list.specs.Reports.{Listed}
-use Rattle.gate_list.proofs.Chains.{record-link}
-use Rattle.gate_list.proofs.ListAdmitted.{size-done, sized-few, link-done}
+use Rattle.gate_list.proofs.Chains.{link-done, record-link}
+use Rattle.gate_list.proofs.ListAdmitted.{size-done, sized-few}
 
 -- ---- outcomes whose refusal, if there is one, is of a kind P
 pub data Refusing (P : Refusal → Type 0) : Outcome → Type 0 where
@@ -43,9 +42,9 @@ refusing-one (one h) = h
 -- ---- one record
 pub record OfRecord (P : Refusal → Type 0) (i : ℕ) : Type 0 where
   pub zeros : P (ListRecord i)
-  pub gate : P (Gate i)
-  pub qubit : P (Qubit i)
-  pub same : P (SameQubit i)
+  pub gate : P (StepGate i)
+  pub qubit : P (StepQubit i)
+  pub same : P (StepSameQubit i)
   pub link : P (Link i)
 
 module _ {P : Refusal → Type 0} (l : List ℕ) (i : ℕ) (p : OfRecord P i) where
@@ -59,18 +58,18 @@ module _ {P : Refusal → Type 0} (l : List ℕ) (i : ℕ) (p : OfRecord P i) wh
 
   gate-refusing : Refusing P (stepGateQuestion l i)
   unfolding stepGateQuestion
-  gate-refusing = refusing-ask _ (Gate i) (p .gate)
+  gate-refusing = refusing-ask _ (StepGate i) (p .gate)
 
   qubit-refusing : (q : ℕ) → Refusing P (stepQubitQuestion l i q)
   unfolding stepQubitQuestion
-  qubit-refusing q = refusing-ask _ (Qubit i) (p .qubit)
+  qubit-refusing q = refusing-ask _ (StepQubit i) (p .qubit)
 
   second-refusing : Refusing P (stepSecondQuestions l i)
   unfolding stepSecondQuestions
   second-refusing =
       refusing-cond (ltb (byteOf l i 0) 24) none
       (refusing-then (stepQubitQuestion l i (byteOf l i 2)) _ (qubit-refusing (byteOf l i 2))
-      (λ e. refusing-ask (not (eqb (byteOf l i 1) (byteOf l i 2))) (SameQubit i) (p .same)))
+      (λ e. refusing-ask (not (eqb (byteOf l i 1) (byteOf l i 2))) (StepSameQubit i) (p .same)))
 
   pub record-refusing : Refusing P (recordQuestions l i)
   unfolding recordQuestions
@@ -101,6 +100,9 @@ module _ (P : Refusal → Type 0) (l : List ℕ) (size : P ListLength) (width : 
 
   pub refusal-of : {r : Refusal} → listQuestions l ≡ Refused r → P r
   refusal-of e = refusing-one (subst (Refusing P) e list-refusing)
+
+pub record Listed (r : Refusal) : Type 0 where
+  pub detail : refusalDetail r ≤ 4095
 
 pub refusal-listed : (l : List ℕ) {r : Refusal} → listQuestions l ≡ Refused r → Listed r
 unfolding refusalDetail

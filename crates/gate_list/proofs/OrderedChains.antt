@@ -8,16 +8,16 @@ use native.Mathlib.Omega.{arith}
 use lib.ListN.{length, getD, length-append}
 use lib.Seq.{getD-append-add}
 use borrow.Author.Tests.{lt-ltb, eq-eqb, ne-eqb}
-use Rattle.pauli.specs.declared.refusal.Refusal.the-variants.{Gate, Qubit}
+use Rattle.pauli.specs.declared.refusal.Refusal.the-variants.{StepGate, StepQubit}
 use Rattle.pauli.specs.declared.refusal.Outcome.the-variants.{Done}
 use Rattle.pauli.proofs.Asking.{asked-yes, passed}
 use Rattle.clifford_laws.specs.WayBack.{productOf}
-use Rattle.clifford.proofs.TableauAsking.{width-narrow}
+use Rattle.clifford.proofs.Asking.{width-narrow}
 use Rattle.gate_list.specs.Lists.{Play, recordCount, byteOf, listWidth, nextOf, playOf, chainFrom, chainOf, playsOf, gatesOf}
 use Rattle.gate_list.specs.ListQuestions.{zerosQuestion, stepGateQuestion, stepQubitQuestion, stepSecondQuestions, recordQuestions, isMet, chainQuestions, listQuestions}
 use Rattle.gate_list.specs.OrderedLists.{PlayFits, PlaysFit, none, more, recordBytes, linkTo, recordsFrom, headPlay, orderedList}
 use Rattle.gate_list.specs.Inside.Reading.{twoQuestions}
-use Rattle.gate_list.specs.Runs.{tableauxOf, runRecord, stepCount}
+use Rattle.gate_list.specs.Runs.{tableauxOf, runRecord}
 use Rattle.gate_list.proofs.AdmittedChains.{chain-none, chain-one}
 use Rattle.gate_list.proofs.Chains.{chain-end, chain-more}
 use Rattle.gate_list.proofs.ListAsking.{size-good, head-good, link-good, zeros-good, right-two, right-one, two-in, different-good, second-none, second-two}
@@ -86,11 +86,11 @@ module _ {l : List ℕ} {i : ℕ} {p : Play} {next : ℕ} (r : RecordIs l i p ne
 
   gate-done : Done ≡ stepGateQuestion l i
   unfolding stepGateQuestion
-  gate-done = asked-yes (Gate i) (lt-ltb (byteOf l i 0) 38 (omega (arith, r .gate, f .gate)))
+  gate-done = asked-yes (StepGate i) (lt-ltb (byteOf l i 0) 38 (omega (arith, r .gate, f .gate)))
 
   qubit-done : (q : ℕ) → q < listWidth l → Done ≡ stepQubitQuestion l i q
   unfolding stepQubitQuestion
-  qubit-done q h = asked-yes (Qubit i) (lt-ltb q (listWidth l) h)
+  qubit-done q h = asked-yes (StepQubit i) (lt-ltb q (listWidth l) h)
 
   two-done : 24 ≤ p .gate → Done ≡ twoQuestions l i
   two-done h =
@@ -195,10 +195,6 @@ module _ (w : ℕ) (ps : List Play) where
   pub ordered-gates : gatesOf list ≡ ps
   unfolding gatesOf
   ordered-gates = ap (playsOf list) chain-is ∙ chain-plays rest-is (omega arith)
-
-  pub ordered-steps : stepCount list ≡ length ps
-  unfolding stepCount
-  ordered-steps = ap length ordered-gates
 
   -- and its run is their product
   pub ordered-run : runRecord list ≡ productOf w (tableauxOf ps)

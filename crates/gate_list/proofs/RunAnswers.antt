@@ -4,21 +4,29 @@ use mathlib.Core.List.{List, _++_}
 use Prim.Native.Nat.{ℕ, min, _-_, _≤_}
 use native.Mathlib.Omega.{arith}
 use lib.ListN.{length, take, drop, length-append, length-take, length-drop}
+use lib.Seq.{take-at, drop-at}
 use borrow.Author.Needs.{needs}
 use borrow.Rule.Slice.PartMut.{putMid}
 use Rattle.pauli.specs.declared.refusal.Refusal.{Refusal}
 use Rattle.pauli.specs.declared.refusal.Outcome.{Outcome}
 use Rattle.pauli.specs.declared.refusal.Outcome.the-variants.{Done, Refused}
 use Rattle.pauli.specs.declared.refusal.CountAnswer.the-variants.{Count, NoCount}
-use Rattle.pauli.specs.Answers.{written, countAnswer, countReply, replyTo}
+use Rattle.pauli_group.specs.PauliString.{qubits}
+use Rattle.pauli.specs.Answers.{written, Written, countAnswer, countReply}
 use Rattle.pauli.specs.Questions.{_andThen_, roomQuestion}
-use Rattle.pauli.proofs.Asking.{refused, done-first, done-second, room-is}
+use Rattle.pauli.proofs.Asking.{refused, passed, has-room, done-first, done-second, room-is}
+use Rattle.pauli.proofs.Answers.{count-told}
 use Rattle.clifford.specs.Layout.{recordLength}
+use Rattle.clifford.specs.Playing.{gateTables}
+use Rattle.clifford.specs.Questions.{identityAnswer}
+use Rattle.clifford.specs.Tableaux.{identityRecord}
+use Rattle.clifford.proofs.RecordLaws.{identity-width, identity-good}
+use Rattle.clifford.proofs.Asking.{width-narrow}
 use Rattle.gate_list.specs.Lists.{listWidth}
 use Rattle.gate_list.specs.ListQuestions.{listQuestions}
 use Rattle.gate_list.specs.Inside.Reading.{ByteSized}
 use Rattle.gate_list.specs.Runs.{runRecord, stepCount, runAnswer, RunAnswered}
-use Rattle.gate_list.specs.Inside.Runs.{RecordRoom, Ran, RunRoom, RunWritten}
+use Rattle.gate_list.specs.Inside.Runs.{Begins, Ran, RunRoom, RunWritten}
 use Rattle.gate_list.proofs.AdmittedChains.{admitted-narrow}
 use Rattle.gate_list.proofs.RunTableaux.{run-length}
 
@@ -30,7 +38,8 @@ own-size l {n} done en ek =
     ek ∙ ap recordLength same
 
 -- so the room is asked for after the list alone
-pub run-asked : (l : List ℕ) (room : ℕ) {n k : ℕ} {q r a : Outcome} → q ≡ listQuestions l → ByteSized (listWidth l) n → k ≡ recordLength (min n 128) → r ≡ roomQuestion k room → a ≡ q andThen r
+pub run-asked : (l : List ℕ) (room : ℕ) {n k : ℕ} {q r a : Outcome} → q ≡ listQuestions l → ByteSized (listWidth l) n
+    → k ≡ recordLength (min n 128) → r ≡ roomQuestion k room → a ≡ q andThen r
     → a ≡ runAnswer l room
 unfolding runAnswer
 run-asked l room {n} {k} {q} {r} eq en ek er ea = ea ∙ ap (λ x. x andThen r) eq ∙ by (listQuestions l) refl
@@ -41,29 +50,57 @@ run-asked l room {n} {k} {q} {r} eq en ek er ea = ea ∙ ap (λ x. x andThen r) 
 
 pub ruleset run-asks = (run-asked, needs)
 
--- ---- the record in the front of a destination
-pub run-room : {l d : List ℕ} {n k : ℕ} → RunRoom l d → ByteSized (listWidth l) n → k ≡ recordLength (min n 128) → k ≤ length d
-run-room {l} o b e = omega (arith, o .room, own-size l (o .asked) b e)
-
-module _ {l d : List ℕ} {n k : ℕ} (o : RunRoom l d) (b : ByteSized (listWidth l) n) (e : k ≡ recordLength (min n 128)) where
+-- ---- the record in the front of a destination: first the identity
+module _ {l d : List ℕ} {n k : ℕ} {e : List ℕ} {r : Outcome}
+    (o : RunRoom l d) (b : ByteSized (listWidth l) n) (w : Written (identityAnswer n (length d)) (identityRecord n) d e r) (ek : k ≡ recordLength (min n 128)) where
   own : k ≡ recordLength (listWidth l)
-  own = own-size l (o .asked) b e
+  own = own-size l (o .asked) b ek
 
-  pub run-part : RecordRoom l (take (k - 0) d)
-  run-part = record { asked = o .asked; long = length-take (k - 0) d ∙ omega (arith, own, o .room) }
+  abbrev start : List ℕ
+  start = identityRecord (listWidth l)
 
-  pub run-put : {ys : List ℕ} {r : ℕ} → Ran l ys r → RunWritten l d (putMid 0 (k - 0) d ys) r
-  unfolding written
-  run-put {ys} x =
-      let long : k - 0 ≡ length (runRecord l) = omega (arith, own, run-length l (o .asked)) in
-      record { bytes = ap₂ (λ (a : List ℕ) (j : ℕ). a ++ drop j d) (x .bytes) long; steps = x .steps }
+  start-long : length start ≡ k
+  start-long =
+      identity-good (listWidth l) (unfold qubits in admitted-narrow l (o .asked)) .formed .long ∙ ap recordLength (identity-width (listWidth l)) ∙ sym own
 
-  pub run-put-same : {ys : List ℕ} {r : ℕ} → Ran l ys r → length (putMid 0 (k - 0) d ys) ≡ length d
-  run-put-same {ys} x =
-      length-append ys (drop (k - 0) d) ∙ omega (arith, ap length (x .bytes), run-length l (o .asked), own, o .room, length-drop (k - 0) d)
+  begun : e ≡ start ++ drop k d
+  unfolding identityAnswer written
+  begun =
+      let narrow : n ≤ 128 = omega (arith, admitted-narrow l (o .asked), b .is) in
+      let done : Done ≡ identityAnswer n (length d) =
+      passed (width-narrow narrow) refl (has-room (recordLength n) (length d) (omega (arith, ap recordLength (b .is), o .room))) in
+      w .bytes ∙ ap (λ q. written q (identityRecord n) d) (sym done) ∙ ap (λ (j : ℕ). identityRecord j ++ drop (length (identityRecord j)) d) (b .is)
+      ∙ ap (λ (j : ℕ). start ++ drop j d) start-long
 
-  pub run-ran-same : {ys : List ℕ} {r : ℕ} → Ran l ys r → length ys ≡ length (take (k - 0) d)
-  run-ran-same x = omega (arith, ap length (x .bytes), run-length l (o .asked), own, o .room, length-take (k - 0) d)
+  begun-long : length e ≡ length d
+  begun-long = ap length begun ∙ length-append start (drop k d) ∙ omega (arith, start-long, own, o .room, length-drop k d)
+
+  pub run-room : k ≤ length e
+  run-room = omega (arith, own, o .room, begun-long)
+
+  pub run-part : {ts : List (List ℕ)} → ts ≡ gateTables → Begins l ts (take (k - 0) e)
+  run-part h = record {
+    asked = o .asked;
+    tables = h;
+    bytes = ap (take (k - 0)) begun ∙ take-at start (drop k d) (k - 0) (omega (arith, start-long));
+  }
+
+  rest : drop (k - 0) e ≡ drop k d
+  rest = ap (drop (k - 0)) begun ∙ drop-at start (drop k d) (k - 0) (omega (arith, start-long))
+
+  module _ {ys : List ℕ} {m : ℕ} (x : Ran l ys m) where
+    pub run-put : RunWritten l d (putMid 0 (k - 0) e ys) m
+    unfolding written
+    run-put =
+        let long : k ≡ length (runRecord l) = omega (arith, own, run-length l (o .asked)) in
+        record { bytes = ap₂ _++_ (x .bytes) (rest ∙ ap (λ (j : ℕ). drop j d) long); steps = x .steps }
+
+    pub run-put-same : length (putMid 0 (k - 0) e ys) ≡ length d
+    run-put-same =
+        length-append ys (drop (k - 0) e) ∙ omega (arith, ap length (x .bytes), run-length l (o .asked), own, o .room, ap length rest, length-drop k d)
+
+    pub run-ran-same : length ys ≡ length (take (k - 0) e)
+    run-ran-same = omega (arith, ap length (x .bytes), run-length l (o .asked), own, run-room, length-take (k - 0) e)
 
 pub ruleset run-writes = (run-room, run-part, run-put, run-put-same, run-ran-same, needs)
 
@@ -73,11 +110,6 @@ unfolding runAnswer
 run-admits {l} {d} e h =
     let all = sym e ∙ h in
     record { asked = done-first _ _ all; room = room-is _ (length d) (done-second (listQuestions l) _ all) }
-
-count-told : (q : Outcome) (n : ℕ) → countReply (countAnswer q n) ≡ replyTo q n
-unfolding countReply countAnswer replyTo
-count-told Done n = refl
-count-told (Refused r) n = refl
 
 pub run-done : {l d e : List ℕ} {q r : Outcome} {n : ℕ} → r ≡ q → r ≡ Done → RunWritten l d e n → RunAnswered q (stepCount l) (runRecord l) d e (Count n)
 unfolding countAnswer

@@ -1,34 +1,34 @@
 -- What is written of a run: the display text of its record, or the text of the refusal.
 use mathlib.Core.Path.{_≡_, refl, sym, ap, _∙_, subst}
-use mathlib.Core.List.{List, [], _∷_, _++_}
+use mathlib.Core.List.{List}
 use Prim.Native.Nat.{ℕ, min, _-_, _≤_}
 use native.Mathlib.Omega.{arith}
-use lib.ListN.{length, take, drop, length-append}
+use lib.ListN.{length, take, drop}
 use lib.Seq.{take-at}
 use borrow.Author.Needs.{needs}
 use Rattle.pauli.specs.declared.refusal.Refusal.{Refusal}
 use Rattle.pauli.specs.declared.refusal.Outcome.{Outcome}
 use Rattle.pauli.specs.declared.refusal.Outcome.the-variants.{Done, Refused}
 use Rattle.pauli.specs.declared.refusal.CountAnswer.{CountAnswer}
-use Rattle.pauli.specs.Answers.{refusalNumber, refusalDetail, written, CountWritten}
+use Rattle.pauli.specs.Answers.{refusalDetail, written, CountWritten}
 use Rattle.pauli.specs.Questions.{roomQuestion}
-use Rattle.pauli.specs.SparseText.{decimal}
+use Rattle.pauli.proofs.Decimals.{decimal-most}
 use Rattle.pauli.proofs.Asking.{passed, has-room}
-use Rattle.clifford.specs.Display.{textOfTableau, displayAnswer, newline}
+use Rattle.clifford.specs.Display.{textOfTableau, displayAnswer}
 use Rattle.clifford.specs.Layout.{recordLength}
-use Rattle.clifford.proofs.TableauAsking.{formed-good}
-use Rattle.clifford.proofs.TableauRecords.{record-small}
+use Rattle.clifford.proofs.Asking.{formed-good}
+use Rattle.clifford.proofs.Records.{record-small}
 use Rattle.clifford_laws.proofs.DisplayLengths.{valid-display-most}
 use Rattle.gate_list.specs.Lists.{listWidth}
 use Rattle.gate_list.specs.ListQuestions.{listQuestions}
 use Rattle.gate_list.specs.Inside.Reading.{ByteSized}
-use Rattle.gate_list.specs.Reports.{atText, refusalText, textAfter, reportText, reportAnswer, Listed}
+use Rattle.gate_list.specs.Reports.{refusalText, textAfter, reportText, reportAnswer}
 use Rattle.gate_list.specs.Inside.Reports.{WorkRoom, ShowRoom, TextReported}
 use Rattle.gate_list.specs.Runs.{runRecord}
 use Rattle.gate_list.specs.Inside.Runs.{RunRoom, RunWritten}
 use Rattle.gate_list.proofs.AdmittedChains.{admitted-narrow}
-use Rattle.gate_list.proofs.ListRefusals.{refusal-listed}
-use Rattle.gate_list.proofs.RefusalTexts.{detail-short, number-short}
+use Rattle.gate_list.proofs.ListRefusals.{Listed, refusal-listed}
+use Rattle.gate_list.proofs.RefusalTexts.{number-short, refusal-length}
 use Rattle.gate_list.proofs.RunTableaux.{run-good, run-valid, run-length}
 use Rattle.gate_list.proofs.RunAnswers.{own-size, run-same}
 
@@ -64,30 +64,26 @@ module _ (l : List ℕ) {q : Outcome} (e : q ≡ listQuestions l) where
   pub report-shows : {t : List ℕ} → q ≡ Done → WorkRoom t → ShowRoom l t
   report-shows h o = record { asked = sym e ∙ h; long = o .long }
 
-  pub report-listed : {x : Refusal} → q ≡ Refused x → Listed x
-  report-listed h = refusal-listed l (sym e ∙ h)
-
-  reported : {text d f : List ℕ} {r : CountAnswer} → text ≡ reportText l → TextReported text d f r → CountWritten (reportAnswer l (length d)) (reportText l) d f r
+  reported : {text d f : List ℕ} {r : CountAnswer} → text ≡ reportText l → TextReported text d f r
+      → CountWritten (reportAnswer l (length d)) (reportText l) d f r
   unfolding reportAnswer
   reported {d = d} {f} {r} z x = subst (λ (y : List ℕ). CountWritten (roomQuestion (length y) (length d)) y d f r) z x
 
-  pub report-run : {d f : List ℕ} {r : CountAnswer} → q ≡ Done → TextReported (textOfTableau (runRecord l)) d f r → CountWritten (reportAnswer l (length d)) (reportText l) d f r
+  pub report-run : {d f : List ℕ} {r : CountAnswer} → q ≡ Done → TextReported (textOfTableau (runRecord l)) d f r
+      → CountWritten (reportAnswer l (length d)) (reportText l) d f r
   unfolding reportText textAfter
   report-run h x = reported (ap (λ y. textAfter y (textOfTableau (runRecord l))) (sym h ∙ e)) x
 
-  pub report-refusal : {x : Refusal} {d f : List ℕ} {r : CountAnswer} → q ≡ Refused x → TextReported (refusalText x) d f r → CountWritten (reportAnswer l (length d)) (reportText l) d f r
+  pub report-refusal : {x : Refusal} {d f : List ℕ} {r : CountAnswer} → q ≡ Refused x → TextReported (refusalText x) d f r
+      → CountWritten (reportAnswer l (length d)) (reportText l) d f r
   unfolding reportText textAfter
   report-refusal h x = reported (ap (λ y. textAfter y (textOfTableau (runRecord l))) (sym h ∙ e)) x
 
-pub ruleset reports = (report-shows, report-listed, report-run, report-refusal, needs)
+pub ruleset reports = (report-shows, report-run, report-refusal, needs)
 
 -- ---- its length: that of a valid tableau's text at most, and a refusal's is short
 refusal-short : (r : Refusal) → Listed r → length (refusalText r) ≤ 138557
-unfolding refusalText
-refusal-short r o =
-    let n = decimal (refusalNumber r) in
-    let d = decimal (refusalDetail r) in
-    omega (arith, length-append n (atText ++ (d ++ (newline ∷ []))), length-append d (newline ∷ []), number-short r, detail-short (refusalDetail r) (o .detail))
+refusal-short r o = omega (arith, refusal-length r, number-short r, decimal-most 3 (refusalDetail r) (omega (arith, o .detail)))
 
 pub report-most : (l : List ℕ) → length (reportText l) ≤ 138557
 unfolding reportText textAfter

@@ -1,32 +1,27 @@
 -- The run: after each gate the record is the product so far, and the gates that are left stand on the rest of the chain.
 use mathlib.Core.Path.{_≡_, refl, sym, ap, ap₂, _∙_, subst}
 use mathlib.Core.Bool.{Bool}
-use mathlib.Core.List.{List, [], _∷_, _++_, append-nil}
+use mathlib.Core.List.{List, [], _∷_}
 use Prim.Native.Nat.{ℕ, suc, _+_, _-_, _<_, _≤_}
 use native.Mathlib.Omega.{arith}
-use lib.ListN.{length, drop, drop-of-length-le}
+use lib.ListN.{length}
 use mir.Val.{Fits}
 use mir.Syntax.{w64}
 use borrow.Author.Needs.{needs}
 use Rattle.pauli_group.specs.PauliString.{qubits}
-use Rattle.pauli.specs.declared.refusal.Outcome.{Outcome}
-use Rattle.pauli.specs.declared.refusal.Outcome.the-variants.{Done}
-use Rattle.pauli.specs.Answers.{written, Written}
-use Rattle.pauli.proofs.Asking.{passed, has-room}
 use Rattle.clifford.specs.Layout.{recordLength, widthOf, FormedTableau}
 use Rattle.clifford.specs.GateAnswers.{gateRecord}
-use Rattle.clifford.specs.Playing.{played, GatePlayed}
-use Rattle.clifford.specs.Questions.{identityAnswer}
-use Rattle.clifford.specs.Tableaux.{identityRecord, composeRecord}
+use Rattle.clifford.specs.Playing.{played, PlayedBy}
+use Rattle.clifford.proofs.Play.{gate-played}
+use Rattle.clifford.specs.Tableaux.{composeRecord}
 use Rattle.clifford_laws.specs.WayBack.{productFrom, productOf}
-use Rattle.clifford.proofs.TableauAsking.{width-narrow}
 use Rattle.clifford_laws.proofs.PlayedGates.{played-is, played-formed, played-same, width-played}
 use Rattle.clifford.proofs.RecordLaws.{identity-width, identity-good}
-use Rattle.gate_list.specs.Lists.{Play, recordCount, byteOf, listWidth, nextOf, playOf, chainOf, playsOf, gatesOf}
-use Rattle.gate_list.specs.OrderedLists.{PlayFits, PlaysFit, none, more, Chain, ends, links}
-use Rattle.gate_list.specs.Inside.Reading.{OwnRecord, ByteSized}
+use Rattle.gate_list.specs.Lists.{Play, recordSize, recordCount, byteOf, listWidth, nextOf, playOf, chainOf, playsOf, gatesOf}
+use Rattle.gate_list.specs.OrderedLists.{PlayFits, PlaysFit, more, Chain, ends, links}
+use Rattle.gate_list.specs.Inside.Reading.{OwnRecord, OwnByte, ByteSized}
 use Rattle.gate_list.specs.Runs.{tableauxOf, runRecord, stepCount}
-use Rattle.gate_list.specs.Inside.Runs.{RecordRoom, Begins, Ran}
+use Rattle.gate_list.specs.Inside.Runs.{Plays, recordPlayed, Begins, Ran}
 use Rattle.gate_list.proofs.GateOrder.{product-first}
 use Rattle.gate_list.proofs.AdmittedChains.{admitted-chain, admitted-plays, admitted-narrow, admitted-sized, step-count, steps-few}
 use Rattle.gate_list.proofs.ListAdmitted.{sized-some}
@@ -64,19 +59,19 @@ pub record Running (l t : List ℕ) (n i : ℕ) : Type 0 where
   pub steps : n + length rest ≡ stepCount l
   pub few : stepCount l ≤ 4095
 
-begins-formed : {l t : List ℕ} → Begins l t → FormedTableau t
+begins-formed : {l t : List ℕ} {ts : List (List ℕ)} → Begins l ts t → FormedTableau t
 unfolding qubits
 begins-formed {l} b = subst FormedTableau (sym (b .bytes)) (identity-good (listWidth l) (admitted-narrow l (b .asked)) .formed)
 
-begins-wide : {l t : List ℕ} → Begins l t → widthOf t ≡ listWidth l
+begins-wide : {l t : List ℕ} {ts : List (List ℕ)} → Begins l ts t → widthOf t ≡ listWidth l
 begins-wide {l} b = ap widthOf (b .bytes) ∙ identity-width (listWidth l)
 
-pub running-head : {l t : List ℕ} → Begins l t → OwnRecord l 0
+pub running-head : {l t : List ℕ} {ts : List (List ℕ)} → Begins l ts t → OwnRecord l 0
 running-head {l} b = record { own = sized-some (admitted-sized l (b .asked)) }
 
-pub running-start : {l t : List ℕ} {i : ℕ} → Begins l t → i ≡ nextOf l 0 → Running l t 0 i
+pub running-start : {l t : List ℕ} {ts : List (List ℕ)} {i : ℕ} → Begins l ts t → i ≡ nextOf l 0 → Running l t 0 i
 unfolding runRecord productOf gatesOf
-running-start {l} {t} {i} b e = record {
+running-start {l} {t} b e = record {
   rest = chainOf l;
   chain = subst (λ (j : ℕ). Chain l j (chainOf l)) (sym e) (admitted-chain l (b .asked));
   plays = admitted-plays l (b .asked);
@@ -90,7 +85,7 @@ running-start {l} {t} {i} b e = record {
 running-long : {l t : List ℕ} {n i : ℕ} → Running l t n i → length t ≡ recordLength (listWidth l)
 running-long r = r .formed .long ∙ ap recordLength (r .wide)
 
-pub running-same : {l t e : List ℕ} {n i : ℕ} → Begins l t → Running l e n i → length e ≡ length t
+pub running-same : {l t e : List ℕ} {ts : List (List ℕ)} {n i : ℕ} → Begins l ts t → Running l e n i → length e ≡ length t
 running-same b r = running-long r ∙ sym (begins-formed b .long ∙ ap recordLength (begins-wide b))
 
 pub running-end : {l t : List ℕ} {n i : ℕ} → Running l t n i → i ≡ 0 → Ran l t n
@@ -109,6 +104,9 @@ module _ {l t : List ℕ} {n i : ℕ} (r : Running l t n i) (h : i ≡ 0 → ⊥
   pub running-own : OwnRecord l i
   running-own = record { own = here .own }
 
+  pub running-plays : {t₀ : List ℕ} {ts : List (List ℕ)} → Begins l ts t₀ → Plays l i ts
+  running-plays b = record { own = running-own; tables = b .tables }
+
   left : n + suc (length (here .after)) ≡ stepCount l
   left = omega (arith, r .steps, ap length (here .is))
 
@@ -125,7 +123,7 @@ module _ {l t : List ℕ} {n i : ℕ} (r : Running l t n i) (h : i ≡ 0 → ⊥
   fits : PlayFits (listWidth l) (playOf l i)
   fits = first-fits all-fit
 
-  module _ {e : List ℕ} (ee : e ≡ played (byteOf l i 0) (byteOf l i 1) (byteOf l i 2) t) where
+  module _ {e : List ℕ} (ee : e ≡ recordPlayed l i t) where
     in-width : byteOf l i 1 < widthOf t
     unfolding playOf
     in-width = omega (arith, fits .first, r .wide)
@@ -135,15 +133,15 @@ module _ {l t : List ℕ} {n i : ℕ} (r : Running l t n i) (h : i ≡ 0 → ⊥
     second-in k = omega (arith, fits .second k, r .wide)
 
     composed : e ≡ composeRecord (gateRecord (byteOf l i 0) (byteOf l i 1) (byteOf l i 2)) t
-    unfolding playOf
+    unfolding playOf recordPlayed
     composed = ee ∙ played-is _ _ _ t (r .formed) (fits .gate) in-width second-in (fits .different)
 
     made : FormedTableau e
-    unfolding playOf
+    unfolding playOf recordPlayed
     made = subst FormedTableau (sym ee) (played-formed _ _ _ t (r .formed) (fits .gate) in-width second-in (fits .different))
 
     pub running-step : {k : ℕ} → k ≡ nextOf l i → Running l e (n + 1) k
-    unfolding playsOf playOf
+    unfolding playsOf playOf recordPlayed
     running-step {k} ek = record {
       rest = here .after;
       chain = subst (λ (j : ℕ). Chain l j (here .after)) (sym ek) (here .chain);
@@ -162,6 +160,7 @@ pub ruleset runs = (
   running-same,
   running-end,
   running-own,
+  running-plays,
   running-fits,
   running-less,
   running-step,
@@ -169,32 +168,16 @@ pub ruleset runs = (
 )
 
 -- ---- one gate
-pub record-played : (l : List ℕ) (i : ℕ) {a b g x y : ℕ} (t : List ℕ) {e : List ℕ} {f : Bool} → a ≡ byteOf l i 1 → ByteSized a x → b ≡ byteOf l i 2 → ByteSized b y → g ≡ byteOf l i 0
-    → GatePlayed g x y t e f → e ≡ played (byteOf l i 0) (byteOf l i 1) (byteOf l i 2) t
-record-played l i {x = x} {y = y} t ea ex eb ey eg p =
-    p .bytes ∙ ap (λ (k : ℕ). played k x y t) eg ∙ ap₂ (λ (j k : ℕ). played (byteOf l i 0) j k t) (ex .is ∙ ea) (ey .is ∙ eb)
+pub plays-byte : {l : List ℕ} {i k : ℕ} {ts : List (List ℕ)} → Plays l i ts → k < recordSize → OwnByte l i k
+plays-byte o h = own-byte (o .own) h
 
-pub ruleset record-plays = (own-byte, record-played, played-same, needs)
+pub record-played : {l : List ℕ} {i a b g x y : ℕ} {ts : List (List ℕ)} {t e : List ℕ} {f : Bool} → Plays l i ts → a ≡ byteOf l i 1 → ByteSized a x
+    → b ≡ byteOf l i 2 → ByteSized b y → g ≡ byteOf l i 0 → PlayedBy ts g x y t e f → e ≡ recordPlayed l i t
+unfolding recordPlayed
+record-played {l} {i} {x = x} {y} {t = t} o ea ex eb ey eg p =
+    gate-played (o .tables) p .bytes ∙ ap (λ (k : ℕ). played k x y t) eg ∙ ap₂ (λ (j k : ℕ). played (byteOf l i 0) j k t) (ex .is ∙ ea) (ey .is ∙ eb)
 
--- ---- the identity in a record's own bytes
-pub run-begins : {l t e : List ℕ} {n : ℕ} {r : Outcome} → RecordRoom l t → ByteSized (listWidth l) n → Written (identityAnswer n (length t)) (identityRecord n) t e r → Begins l e
-unfolding identityAnswer written
-run-begins {l} {t} {e} {n} o b w =
-    let narrow : n ≤ 128 = omega (arith, admitted-narrow l (o .asked), b .is) in
-    let long : length t ≡ recordLength n = o .long ∙ ap recordLength (sym (b .is)) in
-    let own : length (identityRecord n) ≡ recordLength n = identity-length n narrow in
-    let done : Done ≡ identityAnswer n (length t) = passed (width-narrow narrow) refl (has-room (recordLength n) (length t) (omega arith)) in
-    let bytes : e ≡ identityRecord n ++ drop (length (identityRecord n)) t = w .bytes ∙ ap (λ q. written q (identityRecord n) t) (sym done) in
-    let none : drop (length (identityRecord n)) t ≡ [] = drop-of-length-le t {i = length (identityRecord n)} (omega arith) in
-    record {
-      asked = o .asked;
-      bytes = bytes ∙ ap (λ (x : List ℕ). identityRecord n ++ x) none ∙ append-nil (identityRecord n) ∙ ap identityRecord (b .is);
-    }
-  where
-    identity-length : (n : ℕ) → n ≤ 128 → length (identityRecord n) ≡ recordLength n
-    identity-length n h = identity-good n (unfold qubits in h) .formed .long ∙ ap recordLength (identity-width n)
+pub plays-same : {l : List ℕ} {i g x y : ℕ} {ts : List (List ℕ)} {t e : List ℕ} {f : Bool} → Plays l i ts → PlayedBy ts g x y t e f → length e ≡ length t
+plays-same o p = played-same (gate-played (o .tables) p)
 
-pub begins-same : {l t e : List ℕ} → RecordRoom l t → Begins l e → length e ≡ length t
-begins-same o b = begins-formed b .long ∙ ap recordLength (begins-wide b) ∙ sym (o .long)
-
-pub ruleset run-starts = (run-begins, begins-same, needs)
+pub ruleset record-plays = (plays-byte, record-played, plays-same, needs)

@@ -8,7 +8,7 @@ use native.Mathlib.Omega.{arith}
 use lib.ListN.{length}
 use Rattle.pauli_group.specs.PauliString.{qubits}
 use Rattle.pauli.specs.declared.refusal.Outcome.the-variants.{Done}
-use Rattle.clifford.specs.Layout.{recordLength, widthOf}
+use Rattle.clifford.specs.Layout.{recordLength, widthOf, longestRecord}
 use Rattle.clifford.specs.GateAnswers.{gateRecord}
 use Rattle.clifford.specs.Tableaux.{recordValid, Good, identityRecord, composeRecord}
 use Rattle.clifford_laws.specs.WayBack.{Steps, productFrom, productOf}
@@ -16,7 +16,7 @@ use Rattle.clifford_laws.specs.WayBack as back
 use Rattle.clifford_laws.proofs.GateRecords.{gate-good}
 use Rattle.clifford_laws.proofs.PlayedGates.{played-is, width-played}
 use Rattle.clifford.proofs.RecordLaws.{identity-width, identity-good, compose-good, compose-width}
-use Rattle.clifford.proofs.TableauRecords.{record-small}
+use Rattle.clifford.proofs.Records.{record-small}
 use Rattle.gate_list.specs.Lists.{Play, listWidth, gatesOf}
 use Rattle.gate_list.specs.ListQuestions.{listQuestions}
 use Rattle.gate_list.specs.OrderedLists.{PlayFits, PlaysFit, none, more}
@@ -90,7 +90,7 @@ module _ (l : List ℕ) (e : listQuestions l ≡ Done) where
   pub run-length : length (runRecord l) ≡ recordLength (listWidth l)
   run-length = run-good .formed .long ∙ ap recordLength run-width
 
-  pub run-small : length (runRecord l) ≤ 33025
+  pub run-small : length (runRecord l) ≤ longestRecord
   run-small = omega (arith, run-length, record-small (listWidth l) (admitted-narrow l e))
 
 -- the run is, as it stands, the product of the gates' own tableaux that WayBack defines

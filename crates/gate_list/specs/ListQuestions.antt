@@ -4,16 +4,16 @@ use mathlib.Core.Bool.{Bool, false, cond, not, _&&_, _||_}
 use mathlib.Core.List.{List, [], _∷_}
 use lib.Dec.{eqb, ltb, leb}
 use lib.ListN.{length}
-use Rattle.pauli.specs.declared.refusal.Refusal.the-variants.{Gate, Qubit, SameQubit, ListLength, ListRecord, Link, Loop}
+use Rattle.pauli.specs.declared.refusal.Refusal.the-variants.{StepGate, StepQubit, StepSameQubit, ListLength, ListRecord, Link, Loop}
 use Rattle.pauli.specs.declared.refusal.Outcome.{Outcome}
 use Rattle.pauli.specs.declared.refusal.Outcome.the-variants.{Done, Refused}
 use Rattle.pauli.specs.Questions.{ask, _andThen_}
 use Rattle.clifford.specs.Questions.{widthQuestion}
-use Rattle.gate_list.specs.Lists.{recordSize, recordCount, byteOf, listWidth, nextOf}
+use Rattle.gate_list.specs.Lists.{recordSize, longestList, recordCount, byteOf, listWidth, nextOf}
 
 -- "a multiple of 6, from 6 to 24,576 bytes? 16"
 unfoldable pub sizeQuestion : List ℕ → Outcome
-sizeQuestion l = ask (eqb (length l % recordSize) 0 && (leb recordSize (length l) && leb (length l) 24576)) ListLength
+sizeQuestion l = ask (eqb (length l % recordSize) 0 && (leb recordSize (length l) && leb (length l) longestList)) ListLength
 
 -- "Head [..] right? 17, the record"
 unfoldable pub headQuestion : List ℕ → Outcome
@@ -30,15 +30,15 @@ zerosQuestion l i = ask (eqb (byteOf l i 3) 0 && (leb 24 (byteOf l i 0) || eqb (
 -- "Is the gate at most 37? 4", "Is each qubit [..] below the list's width? 5", "Are two qubits different? 6", each "with the record
 -- as detail"
 unfoldable pub stepGateQuestion : List ℕ → ℕ → Outcome
-stepGateQuestion l i = ask (ltb (byteOf l i 0) 38) (Gate i)
+stepGateQuestion l i = ask (ltb (byteOf l i 0) 38) (StepGate i)
 
 unfoldable pub stepQubitQuestion : List ℕ → ℕ → ℕ → Outcome
-stepQubitQuestion l i q = ask (ltb q (listWidth l)) (Qubit i)
+stepQubitQuestion l i q = ask (ltb q (listWidth l)) (StepQubit i)
 
 unfoldable pub stepSecondQuestions : List ℕ → ℕ → Outcome
 stepSecondQuestions l i =
     cond (ltb (byteOf l i 0) 24) Done
-    (stepQubitQuestion l i (byteOf l i 2) andThen ask (not (eqb (byteOf l i 1) (byteOf l i 2))) (SameQubit i))
+    (stepQubitQuestion l i (byteOf l i 2) andThen ask (not (eqb (byteOf l i 1) (byteOf l i 2))) (StepSameQubit i))
 
 -- "For each record 17, 4, 5, 6 [..], then its link"
 unfoldable pub recordQuestions : List ℕ → ℕ → Outcome

@@ -9,6 +9,13 @@ use lib.ListN.{length, getD}
 abbrev pub recordSize : ℕ
 recordSize = 6
 
+-- in records, and in bytes
+abbrev pub mostRecords : ℕ
+mostRecords = 4096
+
+abbrev pub longestList : ℕ
+longestList = recordSize * mostRecords
+
 -- the number of records, and byte k of record i
 unfoldable pub recordCount : List ℕ → ℕ
 recordCount l = length l / recordSize

@@ -1,20 +1,21 @@
 // The walk along the chain of a list.
 ghost use mathlib.Core.Path.{_≡_};
-ghost use mathlib.Core.List.{[]};
-ghost use Prim.Native.Nat.{_-_};
-ghost use Rattle.gate_list.specs.Lists.{recordCount, nextOf};
-ghost use Rattle.gate_list.specs.ListQuestions.{chainQuestions};
-ghost use Rattle.gate_list.specs.Inside.Reading.{BeforeChain};
+ghost use Rattle.gate_list.specs.Inside.Reading.{BeforeChain, linksQuestion};
+use crate::questions::check_link;
 use crate::questions::check_record;
 use crate::reading::next;
 use pauli::refusal::Outcome;
 use pauli::refusal::Refusal;
 
-// The records from the head's link on, each marked when it is met.
+// The head's link, and then the records from there on, each marked when it is met.
 pub(crate) fn check_chain(list: &[u8], met: &mut [u8]) -> Outcome
     requires { ⌜ BeforeChain (now list) (now met) ⌝ }
-    ensures { λ r. ⌜ r ≡ chainQuestions (now (list .entry)) [] (recordCount (now (list .entry)) - 1) (nextOf (now (list .entry)) 0) ⌝ }
+    ensures { λ r. ⌜ r ≡ linksQuestion (now (list .entry)) ⌝ }
 {
+    let link = check_link(list, 0);
+    let Outcome::Done = link else {
+        return link;
+    };
     // The record whose link is followed.
     let mut at = 0;
     loop {

@@ -3,34 +3,23 @@ ghost use mathlib.Core.Path.{_≡_};
 ghost use Rattle.gate_list.specs.ListQuestions.{listQuestions};
 ghost use Rattle.gate_list.specs.Inside.Reports.{WorkRoom};
 ghost use Rattle.gate_list.specs.Runs.{runAnswer};
-ghost use Rattle.gate_list.specs.Inside.Reading.{NoneMet, BeforeHead, linksQuestion};
+ghost use Rattle.gate_list.specs.Inside.Reading.{NoneMet};
 ghost use Rattle.gate_list.specs.Promises.{ListRun, Reported};
 use crate::chain::check_chain;
 use crate::questions::check_head;
-use crate::questions::check_link;
 use crate::questions::check_size;
+use crate::reading::MOST_RECORDS;
 use crate::reading::width;
 use crate::reporting::report_refusal;
 use crate::reporting::report_run;
 use crate::running::write_run;
+use clifford::layout::LONGEST_RECORD;
 use clifford::questions::check_width;
 use clifford::questions::record_size;
 use pauli::questions::and_then;
 use pauli::questions::check_room;
 use pauli::refusal::CountAnswer;
 use pauli::refusal::Outcome;
-
-// The head's link, and then the chain.
-fn check_links(list: &[u8], met: &mut [u8]) -> Outcome
-    requires { ⌜ BeforeHead (now list) (now met) ⌝ }
-    ensures { λ r. ⌜ r ≡ linksQuestion (now (list .entry)) ⌝ }
-{
-    let link = check_link(list, 0);
-    let Outcome::Done = link else {
-        return link;
-    };
-    check_chain(list, met)
-}
 
 // All questions in their order, with a mark for each record, none of them set.
 fn check_list_with(list: &[u8], met: &mut [u8]) -> Outcome
@@ -41,7 +30,7 @@ fn check_list_with(list: &[u8], met: &mut [u8]) -> Outcome
     let Outcome::Done = size else {
         return size;
     };
-    let from_head = and_then(check_head(list), check_links(list, met));
+    let from_head = and_then(check_head(list), check_chain(list, met));
     and_then(check_width(width(list)), from_head)
 }
 
@@ -49,7 +38,7 @@ fn check_list_with(list: &[u8], met: &mut [u8]) -> Outcome
 pub fn check_list(list: &[u8]) -> Outcome
     ensures { λ r. ⌜ r ≡ listQuestions (now (list .entry)) ⌝ }
 {
-    let mut met = [0u8; 4096];
+    let mut met = [0u8; MOST_RECORDS];
     check_list_with(list, &mut met)
 }
 
@@ -91,6 +80,6 @@ fn report_with(list: &[u8], work: &mut [u8], out: &mut [u8]) -> CountAnswer
 pub fn report(list: &[u8], out: &mut [u8]) -> CountAnswer
     ensures { λ r. ⌜ Reported (now (list .entry)) (now (out .entry)) (now (out .exit)) r ⌝ }
 {
-    let mut work = [0u8; 33025];
+    let mut work = [0u8; LONGEST_RECORD];
     report_with(list, &mut work, out)
 }

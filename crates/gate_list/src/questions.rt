@@ -1,27 +1,27 @@
 // The questions put to a list and to its records. Each answers Done, or the refusal.
 ghost use mathlib.Core.Path.{_≡_};
-ghost use Rattle.gate_list.specs.Lists.{byteOf};
 ghost use Rattle.gate_list.specs.ListQuestions.{sizeQuestion, headQuestion, linkQuestion, zerosQuestion, stepGateQuestion, stepQubitQuestion, stepSecondQuestions, recordQuestions};
-ghost use Rattle.gate_list.specs.Inside.Reading.{OwnRecord, zerosRight, stepDifferentQuestion, twoQuestions};
+ghost use Rattle.gate_list.specs.Inside.Reading.{OwnRecord, zerosRight, stepDifferentQuestion, twoQuestions, stepQubitsQuestions};
+use crate::reading::LONGEST_LIST;
+use crate::reading::RECORD_SIZE;
 use crate::reading::byte;
 use crate::reading::next;
 use crate::reading::record_count;
 use crate::reading::wide;
 use crate::reading::width;
-use pauli::questions::and_then;
 use pauli::refusal::Outcome;
 use pauli::refusal::Refusal;
 
 pub(crate) fn check_size(list: &[u8]) -> Outcome
     ensures { λ r. ⌜ r ≡ sizeQuestion (now (list .entry)) ⌝ }
 {
-    if list.len() % 6 != 0 {
+    if list.len() % RECORD_SIZE != 0 {
         return Outcome::Refused(Refusal::ListLength);
     }
-    if list.len() < 6 {
+    if list.len() < RECORD_SIZE {
         return Outcome::Refused(Refusal::ListLength);
     }
-    if 24576 < list.len() {
+    if LONGEST_LIST < list.len() {
         return Outcome::Refused(Refusal::ListLength);
     }
     Outcome::Done
@@ -83,7 +83,7 @@ fn check_gate(list: &[u8], i: usize) -> Outcome
     if byte(list, i, 0) < 38 {
         return Outcome::Done;
     }
-    Outcome::Refused(Refusal::Gate { record: i })
+    Outcome::Refused(Refusal::StepGate { record: i })
 }
 
 // A qubit that record i names.
@@ -93,21 +93,14 @@ fn check_qubit(list: &[u8], i: usize, qubit: u8) -> Outcome
     if wide(qubit) < width(list) {
         return Outcome::Done;
     }
-    Outcome::Refused(Refusal::Qubit { qubit: i })
-}
-
-fn check_first(list: &[u8], i: usize) -> Outcome
-    requires { ⌜ OwnRecord (now list) i ⌝ }
-    ensures { λ r. ⌜ r ≡ stepQubitQuestion (now (list .entry)) i (byteOf (now (list .entry)) i 1) ⌝ }
-{
-    check_qubit(list, i, byte(list, i, 1))
+    Outcome::Refused(Refusal::StepQubit { record: i })
 }
 
 fn check_different(i: usize, first: u8, second: u8) -> Outcome
     ensures { λ r. ⌜ r ≡ stepDifferentQuestion i first second ⌝ }
 {
     if first == second {
-        return Outcome::Refused(Refusal::SameQubit { qubit: i });
+        return Outcome::Refused(Refusal::StepSameQubit { record: i });
     }
     Outcome::Done
 }
@@ -136,15 +129,34 @@ fn check_second(list: &[u8], i: usize) -> Outcome
     check_two(list, i)
 }
 
-// All of record i, in the order of the questions.
+// The qubits of record i, and then its link.
+fn check_qubits(list: &[u8], i: usize) -> Outcome
+    requires { ⌜ OwnRecord (now list) i ⌝ }
+    ensures { λ r. ⌜ r ≡ stepQubitsQuestions (now (list .entry)) i ⌝ }
+{
+    let first = check_qubit(list, i, byte(list, i, 1));
+    let Outcome::Done = first else {
+        return first;
+    };
+    let second = check_second(list, i);
+    let Outcome::Done = second else {
+        return second;
+    };
+    check_link(list, i)
+}
+
+// All of record i, in the order of the questions. A list asks this of each record: no question is worked out after a refusal.
 pub(crate) fn check_record(list: &[u8], i: usize) -> Outcome
     requires { ⌜ OwnRecord (now list) i ⌝ }
     ensures { λ r. ⌜ r ≡ recordQuestions (now (list .entry)) i ⌝ }
 {
-    let from_second = and_then(check_second(list, i), check_link(list, i));
-    let from_first = and_then(check_first(list, i), from_second);
-    and_then(
-        check_zeros(list, i),
-        and_then(check_gate(list, i), from_first),
-    )
+    let zeros = check_zeros(list, i);
+    let Outcome::Done = zeros else {
+        return zeros;
+    };
+    let gate = check_gate(list, i);
+    let Outcome::Done = gate else {
+        return gate;
+    };
+    check_qubits(list, i)
 }

@@ -3,6 +3,12 @@ ghost use mathlib.Core.Path.{_≡_};
 ghost use Rattle.gate_list.specs.Lists.{recordCount, byteOf, listWidth, nextOf};
 ghost use Rattle.gate_list.specs.Inside.Reading.{OwnRecord, OwnByte, ByteSized};
 
+pub(crate) const RECORD_SIZE: usize = 6;
+
+pub(crate) const MOST_RECORDS: usize = 4096;
+
+pub(crate) const LONGEST_LIST: usize = RECORD_SIZE * MOST_RECORDS;
+
 pub(crate) fn wide(x: u8) -> usize
     ensures { λ r. ⌜ ByteSized x r ⌝ }
 {
@@ -12,7 +18,7 @@ pub(crate) fn wide(x: u8) -> usize
 pub(crate) fn record_count(list: &[u8]) -> usize
     ensures { λ r. ⌜ r ≡ recordCount (now (list .entry)) ⌝ }
 {
-    list.len() / 6
+    list.len() / RECORD_SIZE
 }
 
 // The width that the head names; bytes too few for it are read as width 0.
@@ -30,7 +36,7 @@ pub(crate) fn byte(list: &[u8], i: usize, k: usize) -> u8
     requires { ⌜ OwnByte (now list) i k ⌝ }
     ensures { λ r. ⌜ r ≡ byteOf (now (list .entry)) i k ⌝ }
 {
-    list[6 * i + k]
+    list[RECORD_SIZE * i + k]
 }
 
 // The record that record i links to.

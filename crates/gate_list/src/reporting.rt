@@ -1,16 +1,10 @@
-// What is written of a run: its display text, or the text of a refusal. A text is written as far as the destination reaches and its
-// length is answered in full, so that the same code counts and writes.
+// What is written of a run: its display text, or the text of a refusal.
 ghost use mathlib.Core.Path.{_≡_};
-ghost use mathlib.Core.List.{_++_};
-ghost use Prim.Native.Nat.{_/_, _%_, _≤_};
 ghost use lib.ListN.{length};
-ghost use Rattle.pauli.specs.SparseText.{decimal};
-ghost use Rattle.pauli.specs.TextWriting.{TextWritten};
-ghost use Rattle.pauli.specs.Inside.TextWriting.{Stored};
+ghost use Rattle.pauli.specs.Inside.TextWriting.{TextWritten};
 ghost use Rattle.clifford.specs.Display.{textOfTableau};
-ghost use Rattle.clifford.specs.Inside.Display.{TextPlace, NumberPlace};
-ghost use Rattle.gate_list.specs.Reports.{refusalText, LineNumbers, Listed};
-ghost use Rattle.gate_list.specs.Inside.Reports.{refusalLine, DetailPlace, ShowRoom, TextReported};
+ghost use Rattle.gate_list.specs.Reports.{refusalText};
+ghost use Rattle.gate_list.specs.Inside.Reports.{ShowRoom, TextReported};
 ghost use Rattle.gate_list.specs.Runs.{runRecord};
 use crate::reading::width;
 use crate::running::write_run;
@@ -22,84 +16,30 @@ use pauli::refusal::Outcome;
 use pauli::refusal::Refusal;
 use pauli::refusal::detail;
 use pauli::refusal::number;
-use pauli::rows::copy;
-use pauli::rows::smaller;
-use pauli::sparse_text::write_number;
+use pauli::text_writer::put_decimal;
+use pauli::text_writer::put_text;
 
-// A text from a place on; the answer is the next place.
-fn put_text(dst: &mut [u8], at: usize, text: &[u8]) -> usize
-    requires { ⌜ TextPlace at (now text) ⌝ }
-    ensures { λ r. ⌜ Stored at (now (text .entry)) (now (dst .entry)) (now (dst .exit)) r ⌝ }
-{
-    let start = smaller(at, dst.len());
-    copy(text, &mut dst[start..]);
-    at + text.len()
-}
-
-// The decimal numeral of a number up to 128.
-fn put_number(dst: &mut [u8], at: usize, n: usize) -> usize
-    requires { ⌜ NumberPlace at n ⌝ }
-    ensures { λ r. ⌜ Stored at (decimal n) (now (dst .entry)) (now (dst .exit)) r ⌝ }
-{
-    let start = smaller(at, dst.len());
-    at + write_number(n as u8, &mut dst[start..])
-}
-
-// The last two digits of a number.
-fn put_two_digits(dst: &mut [u8], at: usize, n: usize) -> usize
-    requires { ⌜ at ≤ 1000 ⌝ }
-    ensures { λ r. ⌜ Stored at (decimal (n / 10 % 10) ++ decimal (n % 10)) (now (dst .entry)) (now (dst .exit)) r ⌝ }
-{
-    let tens = n / 10 % 10;
-    let ones = n % 10;
-    let next = put_number(dst, at, tens);
-    put_number(dst, next, ones)
-}
-
-// The decimal numeral of a record's number: its hundreds, and then two digits.
-fn put_detail(dst: &mut [u8], at: usize, n: usize) -> usize
-    requires { ⌜ DetailPlace at n ⌝ }
-    ensures { λ r. ⌜ Stored at (decimal n) (now (dst .entry)) (now (dst .exit)) r ⌝ }
-{
-    if n < 100 {
-        return put_number(dst, at, n);
-    }
-    let rest = put_number(dst, at, n / 100);
-    put_two_digits(dst, rest, n)
-}
-
-// The line that tells a refusal by its number and its detail.
-fn write_line(dst: &mut [u8], number: usize, detail: usize) -> usize
-    requires { ⌜ LineNumbers number detail ⌝ }
-    ensures { λ r. ⌜ Stored 0 (refusalLine number detail) (now (dst .entry)) (now (dst .exit)) r ⌝ }
-{
-    let name = put_text(dst, 0, b"refused ");
-    let word = put_number(dst, name, number);
-    let place = put_text(dst, word, b" at ");
-    let end = put_detail(dst, place, detail);
-    put_text(dst, end, b"\n")
-}
-
-// The text of a refusal of a list.
+// The text of a refusal; the answer is its length.
 fn write_refusal(why: Refusal, dst: &mut [u8]) -> usize
-    requires { ⌜ Listed why ⌝ }
     ensures { λ r. ⌜ TextWritten (refusalText why) (now (dst .entry)) (now (dst .exit)) r ⌝ }
 {
-    write_line(dst, number(why) as usize, detail(why) as usize)
+    let word = put_text(dst, 0, b"refused ");
+    let at = put_decimal(dst, word, number(why));
+    let place = put_text(dst, at, b" at ");
+    let end = put_decimal(dst, place, detail(why));
+    put_text(dst, end, b"\n")
 }
 
 // Its length.
 fn refusal_length(why: Refusal) -> usize
-    requires { ⌜ Listed why ⌝ }
     ensures { λ r. ⌜ r ≡ length (refusalText why) ⌝ }
 {
     let mut nowhere = [0u8; 0];
     write_refusal(why, &mut nowhere)
 }
 
-// The text of a refusal of a list, where there is room for it.
+// The text of a refusal, where there is room for it.
 pub(crate) fn report_refusal(why: Refusal, out: &mut [u8]) -> CountAnswer
-    requires { ⌜ Listed why ⌝ }
     ensures { λ r. ⌜ TextReported (refusalText why) (now (out .entry)) (now (out .exit)) r ⌝ }
 {
     let answer = check_room(refusal_length(why), out.len());

@@ -14,7 +14,7 @@ use Rattle.pauli.specs.Answers.{refusalNumber}
 use Rattle.pauli.specs.Questions.{_andThen_}
 use Rattle.pauli.proofs.Asking.{passed}
 use Rattle.clifford.specs.Questions.{widthQuestion}
-use Rattle.clifford.proofs.TableauAsking.{width-narrow}
+use Rattle.clifford.proofs.Asking.{width-narrow}
 use Rattle.clifford_gates.specs.Gates.{All}
 use Rattle.gate_list.specs.Lists.{recordCount, listWidth, nextOf, chainOf}
 use Rattle.gate_list.specs.ListQuestions.{sizeQuestion, headQuestion, linkQuestion, recordQuestions, isMet, chainQuestions, listQuestions}

@@ -7,20 +7,21 @@ use borrow.Author.Tests.{eqb-true}
 use Rattle.pauli.specs.declared.refusal.Refusal.the-variants.{ListRecord}
 use Rattle.pauli.specs.declared.refusal.Outcome.the-variants.{Done}
 use Rattle.pauli.proofs.Asking.{ask-done}
+use Rattle.clifford_group.proofs.Valid.{and-both}
 use Rattle.clifford.specs.Questions.{widthQuestion}
-use Rattle.clifford.proofs.TableauAsking.{width-is}
+use Rattle.clifford.proofs.Asking.{width-is}
 use Rattle.gate_list.specs.Lists.{byteOf, listWidth, playOf}
 use Rattle.gate_list.specs.ListQuestions.{sizeQuestion, headQuestion, linkQuestion, zerosQuestion, recordQuestions}
 use Rattle.gate_list.proofs.AdmittedChains.{zeros-of, record-play}
-use Rattle.gate_list.proofs.Chains.{record-link}
-use Rattle.gate_list.proofs.ListAdmitted.{and-first, and-second, size-done, link-done}
+use Rattle.gate_list.proofs.Chains.{link-done, record-link}
+use Rattle.gate_list.proofs.ListAdmitted.{size-done}
 use Rattle.gate_list.proofs.OrderedChains.{record-done}
 use Rattle.gate_list_laws.specs.GateLists.{RightHead, RightRecord}
 
 pub passed-right : (l : List ℕ) (i : ℕ) → recordQuestions l i ≡ Done → RightRecord l i
 unfolding zerosQuestion
 passed-right l i e = record {
-  fixed = eqb-true _ 0 (and-first _ _ (ask-done _ (ListRecord i) (zeros-of l i e)));
+  fixed = eqb-true _ 0 (and-both _ _ (ask-done _ (ListRecord i) (zeros-of l i e)) .0);
   play = record-play l i e;
   link = record-link l i e;
 }
@@ -33,14 +34,15 @@ pub passed-head : (l : List ℕ) → sizeQuestion l ≡ Done → widthQuestion (
 unfolding headQuestion
 passed-head l s w h k =
     let zeros = ask-done _ (ListRecord 0) h in
-    let rest = and-second (eqb (byteOf l 0 0) 0) _ zeros in
+    let parts = and-both (eqb (byteOf l 0 0) 0) _ zeros in
+    let rest = and-both (eqb (byteOf l 0 2) 0) (eqb (byteOf l 0 3) 0) (parts .1) in
     record {
       whole = size-done l s .whole;
       some = size-done l s .some;
       few = size-done l s .few;
       narrow = width-is (listWidth l) w;
-      gate = eqb-true _ 0 (and-first _ _ zeros);
-      second = eqb-true _ 0 (and-first _ _ rest);
-      fixed = eqb-true _ 0 (and-second (eqb (byteOf l 0 2) 0) _ rest);
+      gate = eqb-true _ 0 (parts .0);
+      second = eqb-true _ 0 (rest .0);
+      fixed = eqb-true _ 0 (rest .1);
       link = link-done l 0 k;
     }

@@ -1,80 +1,39 @@
 -- The questions of `play`, what they let by, and what is then written.
 use mathlib.Core.Path.{_≡_, refl, sym, ap, ap₂, _∙_}
-use mathlib.Core.Bool.{Bool, true, cond}
+use mathlib.Core.Bool.{Bool, true}
 use mathlib.Core.Logic.{_≢_}
 use mathlib.Core.List.{List, _++_, append-nil}
 use Prim.Native.Nat.{ℕ, _≤_, _<_}
 use native.Mathlib.Omega.{arith}
 use native.Mathlib.Decide.{decLt}
-use lib.Dec.{ltb}
 use lib.ListN.{length, drop-of-length-le}
 use borrow.Author.Needs.{needs}
-use borrow.Author.Tests.{lt-ltb, le-ltb, ltb-true}
-use Rattle.pauli.specs.declared.refusal.Refusal.{Refusal}
-use Rattle.pauli.specs.declared.refusal.Refusal.the-variants.{Qubit}
 use Rattle.pauli.specs.declared.refusal.Outcome.{Outcome}
-use Rattle.pauli.specs.declared.refusal.Outcome.the-variants.{Done, Refused}
+use Rattle.pauli.specs.declared.refusal.Outcome.the-variants.{Done}
 use Rattle.pauli.specs.Answers.{written}
 use Rattle.pauli.specs.Questions.{_andThen_}
 use Rattle.pauli.proofs.Answers.{answers}
-use Rattle.pauli.proofs.Asking.{asked-yes, asked-no, ask-done, refused, passed, done-first, done-second}
+use Rattle.pauli.proofs.Asking.{passed, done-first, done-second}
 use Rattle.clifford.specs.Layout.{widthOf, FormedTableau}
 use Rattle.clifford.specs.Questions.{tableauQuestions}
 use Rattle.clifford.specs.Tableaux.{composeRecord}
-use Rattle.clifford.specs.GateQuestions.{gateQuestion, differentQuestion}
+use Rattle.clifford.specs.GateQuestions.{gateQuestion, differentQuestion, ownQubitQuestion, qubitsQuestions}
 use Rattle.clifford.specs.GateAnswers.{gateRecord}
 use Rattle.clifford.specs.Playing.{playable, played, GatePlayed}
-use Rattle.clifford.proofs.TableauAsking.{tableau-formed}
-use Rattle.clifford.proofs.GateAsking.{gate-in, gate-below, qubits-differ, are-different}
-use Rattle.clifford.proofs.PlayedRows.{playable-is, playable-yes, second-two}
+use Rattle.clifford.proofs.Asking.{tableau-formed}
+use Rattle.clifford.proofs.GateAsking.{gate-in, gate-below, own-in, own-below, qubits-one, qubits-of-two, qubits-differ, are-different}
+use Rattle.clifford.proofs.Play.{playable-is, playable-yes, second-two}
 use Rattle.clifford_laws.proofs.PlayedGates.{played-is, length-played, played-same}
-use Rattle.gate_play.specs.PlayQuestions.{ownQubitQuestion, qubitsQuestions, playQuestions}
-
--- ---- one qubit
-pub own-in : {w q : ℕ} → q < w → Done ≡ ownQubitQuestion w q
-unfolding ownQubitQuestion
-own-in {w} {q} h = asked-yes (Qubit q) (lt-ltb q w h)
-
-pub own-out : {w q : ℕ} → w ≤ q → Refused (Qubit q) ≡ ownQubitQuestion w q
-unfolding ownQubitQuestion
-own-out {w} {q} h = asked-no (Qubit q) (le-ltb q w h)
-
-own-below : (w q : ℕ) → ownQubitQuestion w q ≡ Done → q < w
-unfolding ownQubitQuestion
-own-below w q e = ltb-true q w (ask-done (ltb q w) (Qubit q) e)
-
--- ---- the qubits of a gate
-then-done : (a : Outcome) → a ≡ (a andThen Done)
-unfolding _andThen_
-then-done Done = refl
-then-done (Refused r) = refl
-
-qubits-of-one : (w g q r : ℕ) → g < 24 → (ownQubitQuestion w q andThen Done) ≡ qubitsQuestions w g q r
-unfolding qubitsQuestions
-qubits-of-one w g q r h = sym (ap (λ b. ownQubitQuestion w q andThen cond b Done (ownQubitQuestion w r andThen differentQuestion q r)) (lt-ltb g 24 h))
-
-qubits-of-two : (w g q r : ℕ) → 24 ≤ g → (ownQubitQuestion w q andThen ownQubitQuestion w r andThen differentQuestion q r) ≡ qubitsQuestions w g q r
-unfolding qubitsQuestions
-qubits-of-two w g q r h = sym (ap (λ b. ownQubitQuestion w q andThen cond b Done (ownQubitQuestion w r andThen differentQuestion q r)) (le-ltb g 24 h))
-
-pub qubits-one : (w : ℕ) {g : ℕ} (q r : ℕ) {a : Outcome} → g < 24 → a ≡ ownQubitQuestion w q → a ≡ qubitsQuestions w g q r
-qubits-one w {g} q r h e = e ∙ then-done (ownQubitQuestion w q) ∙ qubits-of-one w g q r h
-
-pub qubits-two : (w : ℕ) {g : ℕ} (q r : ℕ) {a b c d o : Outcome} → 24 ≤ g → a ≡ ownQubitQuestion w q → b ≡ ownQubitQuestion w r → c ≡ differentQuestion q r → d ≡ (b andThen c) → o ≡ (a andThen d)
-    → o ≡ qubitsQuestions w g q r
-qubits-two w {g} q r h ea eb ec ed eo = eo ∙ ap₂ _andThen_ ea (ed ∙ ap₂ _andThen_ eb ec) ∙ qubits-of-two w g q r h
+use Rattle.gate_play.specs.PlayQuestions.{playQuestions}
 
 -- ---- all of them
-pub play-refused : (t : List ℕ) (g q r : ℕ) {a : Outcome} {x : Refusal} → a ≡ tableauQuestions t → a ≡ Refused x → a ≡ playQuestions t g q r
+pub play-asked : (t : List ℕ) (g q r : ℕ) {n : ℕ} {a b c d o : Outcome} → a ≡ tableauQuestions t → b ≡ gateQuestion 38 g → n ≡ widthOf t
+    → c ≡ qubitsQuestions n g q r → d ≡ (b andThen c) → o ≡ (a andThen d) → o ≡ playQuestions t g q r
 unfolding playQuestions
-play-refused t g q r e f = refused _ e f
+play-asked t g q r ea eb en ec ed eo =
+    eo ∙ ap₂ _andThen_ ea (ed ∙ ap₂ _andThen_ eb (ec ∙ ap (λ (w : ℕ). qubitsQuestions w g q r) en))
 
-pub play-asked : (t : List ℕ) (g q r : ℕ) {n : ℕ} {a b c o : Outcome} → a ≡ tableauQuestions t → a ≡ Done → n ≡ widthOf t → b ≡ gateQuestion 38 g → c ≡ qubitsQuestions n g q r → o ≡ (b andThen c)
-    → o ≡ playQuestions t g q r
-unfolding playQuestions
-play-asked t g q r e f en eb ec eo = passed e f (eo ∙ ap₂ _andThen_ eb (ec ∙ ap (λ (w : ℕ). qubitsQuestions w g q r) en))
-
-pub ruleset play-questions = (own-in, own-out, qubits-one, qubits-two, play-refused, play-asked, needs)
+pub ruleset play-questions = (play-asked, needs)
 
 -- ---- what they let by: a tableau, and a gate that has a place in it
 module _ (t : List ℕ) (g q r : ℕ) (e : playQuestions t g q r ≡ Done) where
@@ -117,7 +76,7 @@ playable-asked t g q r e h =
     let p = playable-is g q r t h in
     let w = widthOf t in
     let qubits : Done ≡ qubitsQuestions w g q r = elim (decLt g 24) [
-      | yes l ↦ qubits-one w q r l (own-in (p .on .first))
+      | yes l ↦ qubits-one w q r (omega arith) (own-in (p .on .first))
       | no l ↦ let m : 24 ≤ g = omega arith in
           passed (own-in (p .on .first)) refl (passed (own-in (omega (arith, p .on .second, second-two q r m))) refl (qubits-differ (p .different m))) ∙ qubits-of-two w g q r m
     ] in

@@ -1,49 +1,22 @@
 // A gate on a tableau record, in place: its own tableau composed on the left, after all questions. Nothing of it is PECOS's.
 ghost use mathlib.Core.Path.{_≡_};
-ghost use Rattle.gate_play.specs.PlayQuestions.{ownQubitQuestion, qubitsQuestions, playQuestions};
+ghost use Rattle.gate_play.specs.PlayQuestions.{playQuestions};
 ghost use Rattle.gate_play.specs.Promises.{Played};
+use clifford::clifford::check_qubits;
 use clifford::layout::width;
 use clifford::playing::play_gate;
-use clifford::questions::check_different;
 use clifford::questions::check_gate;
 use clifford::questions::check_tableau;
 use pauli::questions::and_then;
 use pauli::refusal::Outcome;
-use pauli::refusal::Refusal;
-
-// A qubit of a tableau of this width.
-fn check_own_qubit(width: usize, qubit: usize) -> Outcome
-    ensures { λ o. ⌜ o ≡ ownQubitQuestion width qubit ⌝ }
-{
-    if qubit < width {
-        return Outcome::Done;
-    }
-    Outcome::Refused(Refusal::Qubit { qubit })
-}
-
-// The qubits of a gate; the second is not looked at for a one-qubit gate.
-fn check_qubits(width: usize, gate: usize, q: usize, r: usize) -> Outcome
-    ensures { λ o. ⌜ o ≡ qubitsQuestions width gate q r ⌝ }
-{
-    let first = check_own_qubit(width, q);
-    if gate < 24 {
-        return first;
-    }
-    let second = check_own_qubit(width, r);
-    let different = check_different(q, r);
-    and_then(first, and_then(second, different))
-}
 
 fn check_play(t: &[u8], gate: usize, q: usize, r: usize) -> Outcome
     ensures { λ o. ⌜ o ≡ playQuestions (now (t .entry)) gate q r ⌝ }
 {
-    let first = check_tableau(t);
-    let Outcome::Done = first else {
-        return first;
-    };
+    let formed = check_tableau(t);
     let known = check_gate(38, gate);
     let placed = check_qubits(width(t), gate, q, r);
-    and_then(known, placed)
+    and_then(formed, and_then(known, placed))
 }
 
 // The gate's tableau on q0 and q1 composed on the left of the tableau t: t acts first. q1 is not looked at for gates 0 to 23.

@@ -1,5 +1,5 @@
 -- Questions put in order: what a question that lets by or refuses says of the whole, and what the whole says of each.
-use mathlib.Core.Path.{_≡_, refl, sym, ap, _∙_}
+use mathlib.Core.Path.{_≡_, refl, sym, ap, ap₂, _∙_}
 use mathlib.Core.Bool.{Bool, true, false}
 use mathlib.Core.List.{List, _++_}
 use Prim.Native.Nat.{ℕ, _+_, _≤_, _<_}
@@ -33,6 +33,9 @@ unfolding ask
 ask-done true r e = refl
 ask-done false r e = cc
 
+pub never-done : {x : Refusal} → Refused x ≡ Done → ⊥
+never-done e = let z : _≡_ {A = ℕ} 0 1 = cc in omega arith
+
 -- ---- two questions in order
 pub refused : {r q : Outcome} {x : Refusal} (y : Outcome) → r ≡ q → r ≡ Refused x → r ≡ q andThen y
 unfolding _andThen_
@@ -47,6 +50,9 @@ then-second b e = passed refl e refl
 
 pub then-first : {a : Outcome} {x : Refusal} (b : Outcome) → a ≡ Refused x → a ≡ a andThen b
 then-first b e = refused b refl e
+
+pub then-asked : {a b r x y : Outcome} → r ≡ a andThen b → a ≡ x → b ≡ y → r ≡ x andThen y
+then-asked e p q = e ∙ ap₂ _andThen_ p q
 
 pub done-first : (q y : Outcome) → q andThen y ≡ Done → q ≡ Done
 unfolding _andThen_
@@ -120,6 +126,7 @@ string-good s l e h =
     passed (asked-yes Length (eq-eqb (length s) 129 l)) refl (asked-yes (BadByte (0 + firstBad s)) (le-leb (length s) (firstBad s) (omega arith)))
 
 pub ruleset questions = (
+  then-asked,
   refused,
   passed,
   byte-bad,

@@ -2,11 +2,11 @@
 use mathlib.Core.Path.{_≡_, refl, sym, ap, ap₂, _∙_}
 use mathlib.Core.Bool.{Bool, true, false, cond, _&&_}
 use mathlib.Core.List.{List, [], _∷_, _++_}
-use Prim.Native.Nat.{ℕ, zero, suc, _+_, _*_, _-_, _/_, _%_, _<_, _≤_}
-use native.Mathlib.Nat.{not-suc-le-zero}
+use Prim.Native.Nat.{ℕ, zero, suc, _+_, _*_, _-_, _/_, _%_, _^_, _<_, _≤_}
+use native.Mathlib.Nat.{not-suc-le-zero, pow-suc}
 use native.Mathlib.Decide.{decLt}
 use native.Mathlib.Omega.{arith}
-use lib.ListN.{length, length-append}
+use lib.ListN.{length, getD, length-append, List·getD-append}
 use borrow.Author.Tests.{lt-ltb, le-ltb, le-leb}
 use Rattle.pauli.specs.SparseText.{digitText, digitsTo, decimal}
 use Rattle.pauli.specs.Text.{isDigit, allDigits, digitsValue}
@@ -38,16 +38,19 @@ unfolding decimal
 decimal-more n h =
     digits-more n n h ∙ ap (λ (t : List ℕ). t ++ (digitText (n % 10) ∷ [])) (digits-enough n (suc (n / 10)) (n / 10) (omega arith) (omega arith))
 
--- ---- numerals of up to three digits
-pub decimal-two : (n : ℕ) → 10 ≤ n → n < 100 → decimal n ≡ digitText (n / 10) ∷ digitText (n % 10) ∷ []
-decimal-two n h l = decimal-more n h ∙ ap (λ (t : List ℕ). t ++ (digitText (n % 10) ∷ [])) (decimal-one (n / 10) (omega arith))
-
-pub decimal-three : (n : ℕ) → 100 ≤ n → n < 1000 → decimal n ≡ digitText (n / 100) ∷ digitText (n / 10 % 10) ∷ digitText (n % 10) ∷ []
-decimal-three n h l =
-    let hundreds : n / 10 / 10 ≡ n / 100 = omega arith in
-    decimal-more n (omega arith)
-    ∙ ap (λ (t : List ℕ). t ++ (digitText (n % 10) ∷ []))
-    (decimal-two (n / 10) (omega arith) (omega arith) ∙ ap (λ (k : ℕ). digitText k ∷ digitText (n / 10 % 10) ∷ []) hundreds)
+-- ---- how many digits: a number below 10^k has k at most
+pub decimal-most : (k n : ℕ) → n < 10 ^ suc k → length (decimal n) ≤ suc k
+decimal-most zero n h = omega (arith, ap length (decimal-one n (omega arith)))
+decimal-most (suc k) n h = elim (decLt n 10) [
+  | yes b ↦ omega (arith, ap length (decimal-one n b))
+  | no b ↦
+      omega (
+        arith,
+        ap length (decimal-more n (omega arith)),
+        length-append (decimal (n / 10)) (digitText (n % 10) ∷ []),
+        decimal-most k (n / 10) (omega (arith, pow-suc 10 (suc k))),
+      )
+]
 
 -- ---- read back
 pub value-append : (v : ℕ) (a b : List ℕ) → digitsValue v (a ++ b) ≡ digitsValue (digitsValue v a) b
@@ -102,3 +105,30 @@ decimal-some n = elim (decLt n 10) [
   | yes b ↦ omega (arith, ap length (digits-one n n b))
   | no b ↦ omega (arith, ap length (digits-more n n (omega arith)), length-append (digitsTo n (n / 10)) (digitText (n % 10) ∷ []))
 ]
+
+-- its first digit is 0 for 0 alone
+tenth-some : (n : ℕ) → 0 < length (digitsTo (suc n) n)
+unfolding decimal
+tenth-some n = decimal-some n
+
+digits-first : (k n : ℕ) → n < k → 0 < n → 48 < getD (digitsTo k n) 0 0
+digits-first zero n h l = absurd (not-suc-le-zero h)
+digits-first (suc k) n h l = elim (decLt n 10) [
+  | yes b ↦ omega (arith, ap (λ (t : List ℕ). getD t 0 0) (digits-one k n b))
+  | no b ↦
+      let rest = digitsTo k (n / 10) in
+      let some : 0 < length rest = omega (arith, ap length (digits-enough k (suc (n / 10)) (n / 10) (omega arith) (omega arith)), tenth-some (n / 10)) in
+      omega (
+        arith,
+        ap (λ (t : List ℕ). getD t 0 0) (digits-more k n (omega arith)) ∙ List·getD-append rest (digitText (n % 10) ∷ []) 0 0 some,
+        digits-first k (n / 10) (omega arith) (omega arith),
+      )
+]
+
+pub decimal-first : (n : ℕ) → getD (decimal n) 0 0 ≡ 48 → n ≡ 0
+unfolding decimal
+decimal-first zero h = refl
+decimal-first (suc n) h = absurd (never (suc n) h (omega arith))
+  where
+    never : (m : ℕ) → getD (digitsTo (suc m) m) 0 0 ≡ 48 → 0 < m → ⊥
+    never m h l = omega (arith, digits-first (suc m) m (omega arith) l)

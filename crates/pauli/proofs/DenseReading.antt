@@ -85,11 +85,13 @@ pub record Lettered (b : List ℕ) (o i : ℕ) : Type 0 where
 pub lettered-none : (b : List ℕ) (o : ℕ) → Lettered b o 0
 lettered-none b o = let e : o ≡ o + 0 = omega arith in record { within = omega arith; rest = ap (λ (k : ℕ). letterQuestions k 0 b) e }
 
-letters-here : (b : List ℕ) (k i : ℕ) → i < length b → letterQuestions k i (drop i b) ≡ denseLetter (getD b i 0) k i andThen letterQuestions (suc k) (suc i) (drop (suc i) b)
+letters-here : (b : List ℕ) (k i : ℕ) → i < length b
+    → letterQuestions k i (drop i b) ≡ denseLetter (getD b i 0) k i andThen letterQuestions (suc k) (suc i) (drop (suc i) b)
 unfolding letterQuestions
 letters-here b k i h = ap (letterQuestions k i) (drop-cons b i 0 h)
 
-pub lettered-more : {b : List ℕ} {o i : ℕ} {r : Outcome} → Lettered b o i → i < length b → r ≡ denseLetter (getD b i 0) (o + i) i → r ≡ Done → Lettered b o (i + 1)
+pub lettered-more : {b : List ℕ} {o i : ℕ} {r : Outcome} → Lettered b o i → i < length b → r ≡ denseLetter (getD b i 0) (o + i) i
+    → r ≡ Done → Lettered b o (i + 1)
 lettered-more {b} {o} {i} m h e d =
     let next : suc (o + i) ≡ o + (i + 1) = omega arith in
     record {
@@ -98,7 +100,8 @@ lettered-more {b} {o} {i} m h e d =
           ∙ ap₂ (λ (k j : ℕ). letterQuestions k j (drop j b)) next (sym (add-one i));
     }
 
-pub lettered-refused : {b : List ℕ} {o i : ℕ} {r : Outcome} {x : Refusal} → Lettered b o i → i < length b → r ≡ denseLetter (getD b i 0) (o + i) i → r ≡ Refused x
+pub lettered-refused : {b : List ℕ} {o i : ℕ} {r : Outcome} {x : Refusal} → Lettered b o i → i < length b
+    → r ≡ denseLetter (getD b i 0) (o + i) i → r ≡ Refused x
     → r ≡ letterQuestions o 0 b
 lettered-refused {b} {o} {i} m h e d = refused _ e d ∙ sym (m .rest ∙ letters-here b (o + i) i h)
 
@@ -151,10 +154,12 @@ module _ (t b : List ℕ) (k : ℕ) (at : DenseAt t b k) where
   pub dense-not-ascii : (room : ℕ) {r : Outcome} {x : Refusal} → r ≡ asciiQuestion t → r ≡ Refused x → r ≡ fromDenseQuestions t room
   dense-not-ascii room h e = refused _ h e ∙ chain-is room
 
-  pub dense-bad-letter : (room : ℕ) {r s : Outcome} {x : Refusal} → r ≡ asciiQuestion t → r ≡ Done → s ≡ letterQuestions k 0 b → s ≡ Refused x → s ≡ fromDenseQuestions t room
+  pub dense-bad-letter : (room : ℕ) {r s : Outcome} {x : Refusal} → r ≡ asciiQuestion t → r ≡ Done → s ≡ letterQuestions k 0 b
+      → s ≡ Refused x → s ≡ fromDenseQuestions t room
   dense-bad-letter room h e hs es = passed h e (refused _ hs es) ∙ chain-is room
 
-  pub dense-done : (room : ℕ) {r s q : Outcome} → r ≡ asciiQuestion t → r ≡ Done → s ≡ letterQuestions k 0 b → s ≡ Done → q ≡ roomQuestion 129 room → q ≡ fromDenseQuestions t room
+  pub dense-done : (room : ℕ) {r s q : Outcome} → r ≡ asciiQuestion t → r ≡ Done → s ≡ letterQuestions k 0 b → s ≡ Done
+      → q ≡ roomQuestion 129 room → q ≡ fromDenseQuestions t room
   dense-done room h e hs es hq = passed h e (passed hs es hq) ∙ chain-is room
 
 pub dense-fits : {t b : List ℕ} {k : ℕ} → DenseAt t b k → k + length b < 18446744073709551616
@@ -178,7 +183,8 @@ dense-record : (t d : List ℕ) → denseRecord t ++ drop 129 d ≡ written Done
 unfolding denseRecord
 dense-record t d = record-bytes (denseString t) d
 
-pub dense-bytes : (t b d : List ℕ) (k p : ℕ) {r : Outcome} {e : List ℕ} → DenseAt t b k → p ≡ phaseByte (textPhase t) → r ≡ fromDenseQuestions t (length d) → r ≡ Done
+pub dense-bytes : (t b d : List ℕ) (k p : ℕ) {r : Outcome} {e : List ℕ} → DenseAt t b k → p ≡ phaseByte (textPhase t)
+    → r ≡ fromDenseQuestions t (length d) → r ≡ Done
     → e ≡ p ∷ lettersNamed 128 b ++ drop 129 d → Written (fromDenseQuestions t (length d)) (denseRecord t) d e r
 dense-bytes t b d k p at ep h done w = written-done h done (w ∙ ap (λ (l : List ℕ). l ++ drop 129 d) (named-record t b k p at ep) ∙ dense-record t d)
 

@@ -24,10 +24,6 @@ or-cases : (a b : Bool) → (a || b) ≡ true → (a ≡ true) ⊎ (b ≡ true)
 or-cases true b e = inl refl
 or-cases false b e = inr e
 
-and-first : (a b : Bool) → (a && b) ≡ true → a ≡ true
-and-first true b e = refl
-and-first false b e = e
-
 and-second : (a b : Bool) → (a && b) ≡ true → b ≡ true
 and-second true b e = e
 and-second false b e = absurd (no e)
@@ -102,7 +98,8 @@ spaces-kept : (s : List ℕ) → anyDigit (drop (leadingSpaces s) s) ≡ anyDigi
 spaces-kept [] = ap anyDigit (drop-nil (leadingSpaces []))
 spaces-kept (c ∷ cs) = step (isSpace c) refl (spaces-kept cs)
   where
-    step : (b : Bool) → isSpace c ≡ b → anyDigit (drop (leadingSpaces cs) cs) ≡ anyDigit cs → anyDigit (drop (leadingSpaces (c ∷ cs)) (c ∷ cs)) ≡ anyDigit (c ∷ cs)
+    step : (b : Bool) → isSpace c ≡ b → anyDigit (drop (leadingSpaces cs) cs) ≡ anyDigit cs
+        → anyDigit (drop (leadingSpaces (c ∷ cs)) (c ∷ cs)) ≡ anyDigit (c ∷ cs)
     step true e rest = ap (λ (n : ℕ). anyDigit (drop n (c ∷ cs))) (spaces-here c cs e) ∙ rest ∙ sym (digit-here c cs (sym (digit-low (space-low c e))))
     step false e rest = ap (λ (n : ℕ). anyDigit (drop n (c ∷ cs))) (spaces-none c cs e)
 
@@ -143,13 +140,15 @@ module _ (t d : List ℕ) where
   picked true e = (ap (λ b. cond b (sparseQuestions t) (denseQuestions t) andThen roomQuestion 129 (length d)) e, ap (λ b. stringRecord (cond b (sparseString t) (denseString t))) e)
   picked false e = (ap (λ b. cond b (sparseQuestions t) (denseQuestions t) andThen roomQuestion 129 (length d)) e, ap (λ b. stringRecord (cond b (sparseString t) (denseString t))) e)
 
-pub either-sparse : (t : List ℕ) {d e : List ℕ} {r : Outcome} {b : Bool} → b ≡ isSparse t → b ≡ true → Written (fromSparseQuestions t (length d)) (sparseRecord t) d e r
+pub either-sparse : (t : List ℕ) {d e : List ℕ} {r : Outcome} {b : Bool} → b ≡ isSparse t → b ≡ true
+    → Written (fromSparseQuestions t (length d)) (sparseRecord t) d e r
     → Written (fromStrQuestions t (length d)) (textRecord t) d e r
 either-sparse t {d} {e} {r} p h w =
     let same = picked t d true (sym p ∙ h) in
     subst (λ q. Written q (textRecord t) d e r) (sym (same .0)) (subst (λ o. Written (fromSparseQuestions t (length d)) o d e r) (sym (same .1)) w)
 
-pub either-dense : (t : List ℕ) {d e : List ℕ} {r : Outcome} {b : Bool} → b ≡ isSparse t → b ≡ false → Written (fromDenseQuestions t (length d)) (denseRecord t) d e r
+pub either-dense : (t : List ℕ) {d e : List ℕ} {r : Outcome} {b : Bool} → b ≡ isSparse t → b ≡ false
+    → Written (fromDenseQuestions t (length d)) (denseRecord t) d e r
     → Written (fromStrQuestions t (length d)) (textRecord t) d e r
 either-dense t {d} {e} {r} p h w =
     let same = picked t d false (sym p ∙ h) in

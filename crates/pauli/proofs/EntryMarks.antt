@@ -86,17 +86,21 @@ pub unmark-none : {m : ℕ} → m ≡ 0 → 0 ≡ unmarked m
 unfolding unmarked
 unmark-none h = sym (ap unmarked h)
 
-unmark-is : (m : ℕ) → (m ≡ 0 → ⊥) → m - 1 ≡ unmarked m
+pub unmark-one : (m : ℕ) → (m ≡ 0 → ⊥) → m - 1 ≡ unmarked m
 unfolding unmarked
-unmark-is zero h = absurd (h refl)
-unmark-is (suc m) h = omega arith
-
-pub unmark-one : {m : ℕ} → (m ≡ 0 → ⊥) → m - 1 ≡ unmarked m
-unmark-one {m} h = unmark-is m h
+unmark-one zero h = absurd (h refl)
+unmark-one (suc m) h = omega arith
 
 pub ruleset marking = (marked-first, marked-again, unmark-none, unmark-one, needs)
 
 -- ---- the marks after n entries
+pub mark-ext : (n : ℕ) (f g : ℕ → Bool) (a b : ℕ → ℕ) → ((j : ℕ) → j < n → f j ≡ g j) → ((j : ℕ) → j < n → a j ≡ b j) → markTo f a n ≡ markTo g b n
+unfolding markTo
+mark-ext zero f g a b h k = refl
+mark-ext (suc n) f g a b h k =
+    let rest : markTo f a n ≡ markTo g b n = mark-ext n f g a b (λ j l. h j (omega arith)) (λ j l. k j (omega arith)) in
+    λ i. cond (h n (omega arith) i) (markMore (rest i) (k n (omega arith) i)) (rest i)
+
 pub length-marks : (e : List ℕ) (n : ℕ) → length (marksTo e n) ≡ 128
 unfolding marksTo qubits
 length-marks e n = length-listed 128 _

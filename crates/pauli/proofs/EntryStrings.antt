@@ -76,7 +76,8 @@ length-marked n m = length-listed n _
 pub letters-none : (m : List ℕ) {d : List ℕ} {n : ℕ} → n ≡ shorter m d → Filled (lettersMarked n m) d n 0 d
 letters-none m {d} {n} h = filled-none (omega (arith, length-marked n m)) (omega arith)
 
-pub letters-all : (m : List ℕ) {d : List ℕ} {n i : ℕ} {e : List ℕ} (k : ℕ) → n ≡ k → Filled (lettersMarked n m) d n i e → n ≤ i → e ≡ lettersMarked k m ++ drop k d
+pub letters-all : (m : List ℕ) {d : List ℕ} {n i : ℕ} {e : List ℕ} (k : ℕ) → n ≡ k → Filled (lettersMarked n m) d n i e → n ≤ i
+    → e ≡ lettersMarked k m ++ drop k d
 letters-all m {d} {n} {i} {e} k p f h =
     filled-all n refl f h ∙ ap (λ (l : List ℕ). l ++ drop n d) (take-all n (lettersMarked n m) (omega (arith, length-marked n m)))
     ∙ ap (λ (j : ℕ). lettersMarked j m ++ drop j d) p

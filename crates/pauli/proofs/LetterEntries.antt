@@ -22,7 +22,7 @@ use Rattle.pauli.specs.Entries.{entryCount, entryLetter, entryQubit, occ
 use Rattle.pauli.specs.Inside.Marks.{markMore, markTo, unmarked}
 use Rattle.pauli.specs.Questions.{smallestDuplicate, duplicateQuestion}
 use Rattle.pauli.proofs.Asking.{asked-yes}
-use Rattle.pauli.proofs.EntryMarks.{mark-is, mark-five, marked-letter}
+use Rattle.pauli.proofs.EntryMarks.{mark-ext, mark-is, mark-five, marked-letter}
 use Rattle.pauli.proofs.Places.{first-is}
 use Rattle.pauli.proofs.Records.{phase-back, letter-back, letter-small}
 
@@ -66,13 +66,6 @@ module _ (e : List ℕ) (l k : ℕ) (even : length e ≡ 2 * entryCount e) where
   qubit-new = ap (λ (n : ℕ). getD longer (n + 1) 0) (sym even) ∙ getD-append-add e (l ∷ k ∷ []) 1 0
 
 -- ---- marks
-mark-ext : (n : ℕ) (f g : ℕ → Bool) (a b : ℕ → ℕ) → ((j : ℕ) → j < n → f j ≡ g j) → ((j : ℕ) → j < n → a j ≡ b j) → markTo f a n ≡ markTo g b n
-unfolding markTo
-mark-ext zero f g a b h k = refl
-mark-ext (suc n) f g a b h k =
-    let rest : markTo f a n ≡ markTo g b n = mark-ext n f g a b (λ j l. h j (omega arith)) (λ j l. k j (omega arith)) in
-    λ i. cond (h n (omega arith) i) (markMore (rest i) (k n (omega arith) i)) (rest i)
-
 abbrev markOf : List ℕ → ℕ → ℕ
 markOf e q = markTo (λ j. eqb (entryQubit e j) q) (entryLetter e) (entryCount e)
 

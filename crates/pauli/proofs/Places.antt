@@ -7,11 +7,14 @@ use native.Mathlib.Nat.{le-refl, not-suc-le-zero, le-of-suc-le-suc}
 use native.Mathlib.Numerals.{add-one}
 use native.Mathlib.Decide.{ℕ-discrete}
 use native.Mathlib.Omega.{arith}
+use lib.Dec.{ltb}
 use lib.ListN.{length, getD, take, drop, set, length-append, length-take, length-drop, List·getD-append}
 use lib.Seq.{getD-at, ext-getD, take-all, take-length, getD-drop}
 use borrow.Author.Tests.{lt-ltb, le-ltb, le-leb, lt-leb}
 use borrow.Author.Needs.{needs}
 use Rattle.pauli.specs.Places.{listed, firstPlace}
+use Rattle.pauli.specs.Questions.{firstBad}
+use Rattle.pauli.specs.Inside.Turns.{NoneAbove}
 
 -- ---- lists by place
 module _ {A : Type 0} where
@@ -98,7 +101,33 @@ none-left {n} {f} {i} m h = first-is n f i (m .within) (m .none) (λ l. absurd (
     lt-le : i < n → n ≤ i → ⊥
     lt-le l h = omega arith
 
-pub ruleset scans = (none-start, none-more, none-found, none-left, lt-ltb, le-ltb, le-leb, lt-leb, needs)
+-- no byte above m before place i
+pub above-none : (s : List ℕ) (m : ℕ) → NoneAbove s 0 m
+above-none s m = record { each = λ k h. absurd (not-suc-le-zero h) }
+
+pub above-more : {s : List ℕ} {i m n : ℕ} → NoneAbove s i m → (m ≤ n) × (getD s i 0 ≤ n) → NoneAbove s (i + 1) n
+above-more {s} {i} a h = record {
+  each = λ k l. elim (ℕ-discrete k i) [
+    | yes e ↦ omega (arith, ap (λ (j : ℕ). getD s j 0) e, h .1)
+    | no d ↦ omega (arith, a .each k (omega (arith, l, d)), h .0)
+  ];
+}
+
+pub above-all : {s : List ℕ} {i m : ℕ} → NoneAbove s i m → length s ≤ i → NoneAbove s (length s) m
+above-all a h = record { each = λ k l. a .each k (omega (arith, l, h)) }
+
+pub none-bad : {s : List ℕ} {m : ℕ} → NoneAbove s (length s) m → m < 4 → length s ≡ firstBad s
+unfolding firstBad
+none-bad {s} a h =
+    first-is
+    (length s) (λ k. ltb 3 (getD s k 0)) (length s) (le-refl (length s)) (λ k l. le-ltb 3 (getD s k 0) (omega (arith, a .each k l))) (λ l. absurd (never l))
+  where
+    never : length s < length s → ⊥
+    never l = omega arith
+
+pub ruleset largest-bytes = (above-none, above-more, above-all, needs)
+
+pub ruleset scans = (none-bad, none-start, none-more, none-found, none-left, lt-ltb, le-ltb, le-leb, lt-leb, needs)
 
 -- what a scan that keeps the first place p knows before place i; p is n where none is seen yet
 pub record FirstSeen (n : ℕ) (f : ℕ → Bool) (i p : ℕ) : Type 0 where

@@ -1,11 +1,10 @@
 -- Rows multiplied and compared place by place: what a loop has done before a place, and what a caller reads off the contracts.
 use mathlib.Core.Path.{_≡_, refl, sym, ap, ap₂, _∙_}
 use mathlib.Core.List.{List, _++_}
-use Prim.Native.Nat.{ℕ, zero, suc, _+_, _-_, _%_, _<_, _≤_, zero-le}
+use Prim.Native.Nat.{ℕ, zero, suc, _+_, _%_, _<_, _≤_, zero-le}
 use native.Mathlib.Numerals.{add-one}
 use native.Mathlib.Omega.{arith}
-use lib.ListN.{length, drop, getD, set, length-append, length-drop, List·getD-append}
-use lib.Seq.{getD-drop, getD-append-add}
+use lib.ListN.{length, drop, getD, set, List·getD-append}
 use borrow.Author.Needs.{needs}
 use Rattle.pauli_group.specs.Phase.{_·_}
 use Rattle.pauli_group.specs.Letter.{letterPhase, letterMul, anticommute}
@@ -87,11 +86,6 @@ room h m k = omega (arith, before-length h m)
 pub ruleset rows = (before-none, before-step, before-all, before-length, room, needs)
 
 -- ---- what a caller reads off `RowTimes`, place by place
-pub row-length : {a b : List ℕ} {p : ℕ} {e : List ℕ} {r : ℕ} → RowTimes a b p e r → length e ≡ length a
-row-length {a} {b} m =
-    let n = shorter a b in
-    ap length (m .letters) ∙ length-append (productLetters n a b) (drop n a) ∙ omega (arith, length-letters n a b, length-drop n a)
-
 pub row-made : {a b : List ℕ} {p : ℕ} {e : List ℕ} {r : ℕ} → RowTimes a b p e r → (i : ℕ) → i < shorter a b
     → getD e i 0 ≡ letterByte (letterMul (letterAt a i) (letterAt b i))
 row-made {a} {b} m i h =
@@ -99,14 +93,6 @@ row-made {a} {b} m i h =
     ap (λ (l : List ℕ). getD l i 0) (m .letters)
     ∙ List·getD-append (productLetters n a b) (drop n a) 0 i (omega (arith, length-letters n a b))
     ∙ sym (letter-here n a b i h)
-
-pub row-kept : {a b : List ℕ} {p : ℕ} {e : List ℕ} {r : ℕ} → RowTimes a b p e r → (i : ℕ) → shorter a b ≤ i → getD e i 0 ≡ getD a i 0
-row-kept {a} {b} m i h =
-    let n = shorter a b in
-    let split : i ≡ length (productLetters n a b) + (i - n) = omega (arith, length-letters n a b) in
-    let whole : n + (i - n) ≡ i = omega arith in
-    ap₂ (λ (l : List ℕ) (j : ℕ). getD l j 0) (m .letters) split
-    ∙ getD-append-add (productLetters n a b) (drop n a) (i - n) 0 ∙ getD-drop n a (i - n) 0 ∙ ap (λ (j : ℕ). getD a j 0) whole
 
 -- the kernel agrees with `multiply_paulis` at every place, for all bytes
 pub letter-of-place : {a b : List ℕ} {p : ℕ} {e : List ℕ} {r : ℕ} → RowTimes a b p e r → (i : ℕ) → i < shorter a b

@@ -16,8 +16,8 @@ use Rattle.pauli_group.specs.PauliString.{PauliString, qubits}
 use Rattle.pauli.specs.Layout.{phaseOf, letterOf}
 use Rattle.pauli.specs.Rows.{letterAt}
 use Rattle.pauli.specs.SparseText.{decimal, digitsTo, prefixText, letterText, entryWord, wordsAt, entryWords, spaced, bodyText, sparseTextTo, sparseText, rowString, rowText}
-use Rattle.pauli.specs.TextWriting.{TextWritten}
-use Rattle.pauli.specs.Inside.TextWriting.{Stored, added, moreText, endText, NumberFits}
+use Rattle.pauli.specs.TextWriting.{Stored}
+use Rattle.pauli.specs.Inside.TextWriting.{TextWritten, added, moreText}
 use Rattle.pauli.proofs.TextWrites.{stored-none, stored-join, stored-as, stored-same, whole-text}
 
 -- ---- words, spaced; nothing where there are none
@@ -50,8 +50,13 @@ words-more ws X q = words-added ws (entryWord X q)
 words-more ws Y q = words-added ws (entryWord Y q)
 words-more ws Z q = words-added ws (entryWord Z q)
 
+-- what ends a text that has no word, or has some
+abbrev endText : Bool → List ℕ
+endText true = letterText I ∷ []
+endText false = []
+
 words-end : (ws : List (List ℕ)) → wordsText ws ++ endText (noWords ws) ≡ bodyText ws
-unfolding bodyText endText
+unfolding bodyText
 words-end [] = refl
 words-end (w ∷ ws) = append-nil (spaced w ws)
 
@@ -144,6 +149,11 @@ pub text-longest : length (sparseText (record { phase = MinusI; letters = λ q. 
 unfolding sparseText sparseTextTo qubits prefixText entryWords wordsAt entryWord decimal digitsTo bodyText spaced
 text-longest = refl
 
+-- "Written sparse text is at most 531 bytes": of a row too
+row-text-length : (p : ℕ) (a : List ℕ) → length (rowText p a) ≤ 531
+unfolding rowText qubits
+row-text-length p a = text-length-to (min (length a) 128) (rowString p a) (omega arith)
+
 -- ---- the loop that writes a row's words from place `first` on: n qubits in all, q so far, place k reached
 pub record Wording (a d : List ℕ) (n first q k : ℕ) (e : List ℕ) : Type 0 where
   pub within : q ≤ n
@@ -152,12 +162,10 @@ pub record Wording (a d : List ℕ) (n first q k : ℕ) (e : List ℕ) : Type 0 
   pub start : first ≤ 2
   pub text : Stored first (wordsText (entryWords q (letterAt a))) d e k
 
+-- the text is short, so the place is no cap
 place-is : {a d e : List ℕ} {n first q k : ℕ} → Wording a d n first q k e → k ≡ first + length (wordsText (entryWords q (letterAt a)))
-place-is m = m .text .place
-
-short-is : {a d e : List ℕ} {n first q k : ℕ} → Wording a d n first q k e → k ≤ 540
-short-is {a} {d} {e} {n} {first} {q} {k} m =
-    omega (arith, m .within, m .most, m .start, place-is m, words-to q (letterAt a) .short, span-most q (omega (arith, m .within, m .most)))
+place-is {a} {d} {e} {n} {first} {q} {k} m =
+    omega (arith, m .text .place, m .start, words-to q (letterAt a) .short, span-most q (omega (arith, m .within, m .most)))
 
 none-is : {a d e : List ℕ} {n first q k : ℕ} → Wording a d n first q k e → eqb k first ≡ noWords (entryWords q (letterAt a))
 none-is {a} {d} {e} {n} {first} {q} {k} m = elim (ℕ-discrete (length (wordsText (entryWords q (letterAt a)))) 0) [
@@ -172,17 +180,11 @@ wording-none p h s = record {
   row = omega arith;
   most = omega arith;
   start = omega (arith, s .place, prefix-length (phaseOf p));
-  text = stored-none;
+  text = stored-none (record { fits = omega (arith, s .place) });
 }
 
 pub wording-place : {a d e : List ℕ} {n first q k : ℕ} → Wording a d n first q k e → q < n → q < length a
 wording-place m h = omega (arith, m .row)
-
-pub wording-fits : {a d e : List ℕ} {n first q k : ℕ} → Wording a d n first q k e → q < n → NumberFits 970 k q
-wording-fits m h = record { place = omega (arith, short-is m); number = omega (arith, m .most) }
-
-pub wording-index : {a d e : List ℕ} {n first q k : ℕ} → Wording a d n first q k e → k ≤ 1000
-wording-index m = omega (arith, short-is m)
 
 pub wording-step : {a d e f : List ℕ} {n first q k r : ℕ} → Wording a d n first q k e → q < n
     → Stored k (moreText (eqb k first) (letterOf (getD a q 0)) q) e f r → Wording a d n first (q + 1) r f
@@ -200,10 +202,13 @@ wording-step {a} {d} {e} {f} {n} {first} {q} {k} {r} m h s = record {
         ap (λ b. wordsText (entryWords q (letterAt a)) ++ moreText b (letterOf (getD a q 0)) q) (none-is m)
         ∙ sym (words-more (entryWords q (letterAt a)) (letterOf (getD a q 0)) q) ∙ ap (λ (j : ℕ). wordsText (entryWords j (letterAt a))) (sym (add-one q))
 
-pub wording-same : {a d e f g v w : List ℕ} {n first q k r : ℕ} → Stored 0 v d e first → Wording a e n first q k f → Stored k w f g r → length g ≡ length d
-wording-same s m t = stored-same t ∙ stored-same (m .text) ∙ stored-same s
+pub wording-same : {a d e f v : List ℕ} {n first q k : ℕ} → Stored 0 v d e first → Wording a e n first q k f → length f ≡ length d
+wording-same s m = stored-same (m .text) ∙ stored-same s
 
-pub wording-all : {a d e f g : List ℕ} {n first q k r : ℕ} (p : ℕ) → n ≡ min (length a) 128 → n ≤ q → Stored 0 (prefixText (phaseOf p)) d e first
+pub wording-end : {a d e f g v w : List ℕ} {n first q k r : ℕ} → Stored 0 v d e first → Wording a e n first q k f → Stored k w f g r → length g ≡ length d
+wording-end s m t = stored-same t ∙ wording-same s m
+
+wording-all : {a d e f g : List ℕ} {n first q k r : ℕ} (p : ℕ) → n ≡ min (length a) 128 → n ≤ q → Stored 0 (prefixText (phaseOf p)) d e first
     → Wording a e n first q k f → Stored k (endText (eqb k first)) f g r → TextWritten (rowText p a) d g r
 unfolding rowText rowString sparseTextTo qubits
 wording-all {a} {d} {e} {f} {g} {n} {first} {q} {k} {r} p h l s m t =
@@ -211,6 +216,17 @@ wording-all {a} {d} {e} {f} {g} {n} {first} {q} {k} {r} p h l s m t =
     let ws = entryWords q (letterAt a) in
     let ends : wordsText ws ++ endText (eqb k first) ≡ bodyText (entryWords (min (length a) 128) (letterAt a)) =
     ap (λ b. wordsText ws ++ endText b) (none-is m) ∙ words-end ws ∙ ap (λ (j : ℕ). bodyText (entryWords j (letterAt a))) all in
-    whole-text (stored-as (ap (λ (x : List ℕ). prefixText (phaseOf p) ++ x) ends) (stored-join s (stored-join (m .text) t)))
+    whole-text
+    (omega (arith, row-text-length p a))
+    (stored-as (ap (λ (x : List ℕ). prefixText (phaseOf p) ++ x) ends) (stored-join s (stored-join (m .text) t)))
 
-pub ruleset wordings = (wording-none, wording-place, wording-fits, wording-index, wording-step, wording-same, wording-all, needs)
+module _ {a d e f : List ℕ} {n first q k : ℕ} (p : ℕ) (h : n ≡ min (length a) 128) (l : n ≤ q) (s : Stored 0 (prefixText (phaseOf p)) d e first)
+    (m : Wording a e n first q k f) where
+  pub wording-empty : {g : List ℕ} {r : ℕ} → k ≡ first → Stored k (73 ∷ []) f g r → TextWritten (rowText p a) d g r
+  unfolding letterText
+  wording-empty z t = wording-all p h l s m (stored-as (sym (ap endText (eq-eqb k first z))) t)
+
+  pub wording-some : (k ≡ first → ⊥) → TextWritten (rowText p a) d f k
+  wording-some z = wording-all p h l s m (stored-as (sym (ap endText (ne-eqb k first z))) (stored-none (record { fits = omega (arith, m .text .place) })))
+
+pub ruleset wordings = (wording-none, wording-place, wording-step, wording-same, wording-end, wording-empty, wording-some, needs)

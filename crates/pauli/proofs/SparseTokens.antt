@@ -1,8 +1,8 @@
 -- All tokens of a sparse text: what has been read and marked before a place.
 use mathlib.Core.Path.{_≡_, refl, sym, ap, _∙_, subst}
-use mathlib.Core.Bool.{Bool, false, cond}
+use mathlib.Core.Bool.{false}
 use mathlib.Core.List.{List, [], _∷_, _++_, append-assoc, append-nil}
-use Prim.Native.Nat.{ℕ, zero, suc, _+_, _*_, _-_, _<_, _≤_, min}
+use Prim.Native.Nat.{ℕ, suc, _+_, _*_, _-_, _<_, _≤_, min}
 use native.Mathlib.Nat.{le-refl, not-suc-le-zero}
 use native.Mathlib.Decide.{ℕ-discrete, decLt}
 use native.Mathlib.Omega.{arith}
@@ -17,13 +17,14 @@ use Rattle.pauli.specs.declared.sparse_reader.EntryAnswer.{EntryAnswer}
 use Rattle.pauli.specs.declared.sparse_reader.EntryAnswer.the-variants.{Entry, High, NoEntry}
 use Rattle.pauli_group.specs.PauliString.{qubits}
 use Rattle.pauli.specs.Entries.{entryCount, entryLetter, entryQubit}
-use Rattle.pauli.specs.Inside.Marks.{markMore, markTo, marksTo, MarkFits}
+use Rattle.pauli.specs.Inside.Marks.{markMore, marksTo, MarkFits}
 use Rattle.pauli.specs.Inside.Reading.{Skipped, WordAt, OneEntry, HighEntry, EntryRead, BodyAt, GoodEntries, TokensRead}
 use Rattle.pauli.specs.Text.{isSpace, leadingSpaces, Token, tokens, tokenQuestions, tokenEntries}
-use Rattle.pauli.proofs.EntryMarks.{length-marks, mark-step}
+use Rattle.pauli.proofs.EntryMarks.{mark-ext, length-marks, mark-step}
 use Rattle.pauli.proofs.Places.{listed-ext}
 use Rattle.pauli.proofs.SparseReading.{space-ends, no-more}
 use Rattle.pauli.proofs.Tokens.{tokens-skip}
+use Rattle.pauli.proofs.Asking.{never-done}
 
 -- ---- one entry more at the end of a list of entries
 module _ (e : List ℕ) (l q : ℕ) (even : length e ≡ entryCount e + entryCount e) where
@@ -59,17 +60,11 @@ module _ (e : List ℕ) (l q : ℕ) (even : length e ≡ entryCount e + entryCou
   unfolding entryQubit
   qubit-new = let place : 2 * n + 1 ≡ length e + 1 = omega (arith, even) in ap (λ (j : ℕ). getD more j 0) place ∙ getD-append-add e (l ∷ q ∷ []) 1 0
 
-mark-ext : (f g : ℕ → Bool) (a b : ℕ → ℕ) (n : ℕ) → ((j : ℕ) → j < n → f j ≡ g j) → ((j : ℕ) → j < n → a j ≡ b j) → markTo f a n ≡ markTo g b n
-unfolding markTo
-mark-ext f g a b zero hf ha = refl
-mark-ext f g a b (suc n) hf ha =
-    let rest : markTo f a n ≡ markTo g b n = mark-ext f g a b n (λ j h. hf j (omega arith)) (λ j h. ha j (omega arith)) in
-    λ i. cond (hf n (omega arith) i) (markMore (rest i) (ha n (omega arith) i)) (rest i)
-
-marks-ext : (d e : List ℕ) (n : ℕ) → ((j : ℕ) → j < n → entryLetter d j ≡ entryLetter e j) → ((j : ℕ) → j < n → entryQubit d j ≡ entryQubit e j) → marksTo d n ≡ marksTo e n
+marks-ext : (d e : List ℕ) (n : ℕ) → ((j : ℕ) → j < n → entryLetter d j ≡ entryLetter e j)
+    → ((j : ℕ) → j < n → entryQubit d j ≡ entryQubit e j) → marksTo d n ≡ marksTo e n
 unfolding marksTo
 marks-ext d e n hl hq =
-    listed-ext qubits _ _ (λ k l. mark-ext (λ j. eqb (entryQubit d j) k) (λ j. eqb (entryQubit e j) k) (entryLetter d) (entryLetter e) n (λ j h. ap (λ (x : ℕ). eqb x k) (hq j h)) hl)
+    listed-ext qubits _ _ (λ k l. mark-ext n (λ j. eqb (entryQubit d j) k) (λ j. eqb (entryQubit e j) k) (entryLetter d) (entryLetter e) (λ j h. ap (λ (x : ℕ). eqb x k) (hq j h)) hl)
 
 marks-more : (e : List ℕ) (l q : ℕ) → length e ≡ entryCount e + entryCount e → q < 128
     → set (marksTo e (entryCount e)) q (markMore (getD (marksTo e (entryCount e)) q 0) l) ≡ marksTo (e ++ (l ∷ q ∷ [])) (entryCount (e ++ (l ∷ q ∷ [])))
@@ -225,14 +220,12 @@ module _ {ws : List Token} {t m : List ℕ} {k h : ℕ} {a : EntryAnswer} {o n :
       never : length t ≤ g → ⊥
       never b = omega (arith, over .place)
 
-never-done : {x : Refusal} → Refused x ≡ Done → ⊥
-never-done e = let z : _≡_ {A = ℕ} 0 1 = cc in omega arith
-
 refused-read : {ws : List Token} (m : List ℕ) {x : Refusal} → tokenQuestions ws ≡ Refused x → TokensRead ws m (Refused x)
 refused-read m e = record { answer = sym e; marks = λ d. absurd (never-done d); good = λ d. absurd (never-done d) }
 
 -- a token is refused at once only where no index before it is too high
-pub reading-refused : {ws : List Token} {t m : List ℕ} {k h : ℕ} {a : EntryAnswer} {x : Refusal} → Reading ws t k h m → k < h → EntryRead (tokens k (drop k t)) t k a
+pub reading-refused : {ws : List Token} {t m : List ℕ} {k h : ℕ} {a : EntryAnswer} {x : Refusal} → Reading ws t k h m → k < h
+    → EntryRead (tokens k (drop k t)) t k a
     → a ≡ NoEntry x → TokensRead ws m (Refused x)
 reading-refused {m = m} {x = x} r l read told = refused-read m (r .questions (reading-open r l) ∙ read .refused x told)
 

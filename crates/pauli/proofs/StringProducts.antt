@@ -21,9 +21,9 @@ use Rattle.pauli.specs.Inside.Writing.{Operands}
 use Rattle.pauli.specs.declared.refusal.Outcome.{Outcome}
 use Rattle.pauli.specs.declared.refusal.Outcome.the-variants.{Done}
 use Rattle.pauli.specs.Answers.{written}
-use Rattle.pauli.specs.Questions.{stringQuestions, stringsQuestions, mulQuestions}
+use Rattle.pauli.specs.Questions.{_andThen_, stringQuestions, stringsQuestions, roomQuestion, mulQuestions}
 use Rattle.pauli.proofs.Answers.{answers}
-use Rattle.pauli.proofs.Asking.{done-first, done-second, string-formed, room-is, record-bytes}
+use Rattle.pauli.proofs.Asking.{then-asked, done-first, done-second, string-formed, room-is, record-bytes}
 use Rattle.pauli.proofs.Places.{from, from-is, listed-is, getD-listed, length-listed}
 use Rattle.pauli.proofs.Records.{phase-back, letter-there, decode-letter, decode-within}
 
@@ -149,6 +149,10 @@ product-written {s} {t} {d} {e} {ys} o ec em =
     ap₂ _++_ (em ∙ ap (λ (l : List ℕ). rowProduct l t) row ∙ row-product-is (omega arith) (omega arith) (o .first) (o .second)) rest
 
 -- ---- what the questions of the product let by
+pub mul-asked : (s t : List ℕ) (room : ℕ) {a b r : Outcome} → a ≡ stringsQuestions s t → b ≡ roomQuestion 129 room → r ≡ a andThen b → r ≡ mulQuestions s t room
+unfolding mulQuestions
+mul-asked s t room p h e = then-asked e p h
+
 pub operands : {s t d : List ℕ} {r : Outcome} → r ≡ mulQuestions s t (length d) → r ≡ Done → Operands s t d
 unfolding mulQuestions stringsQuestions
 operands {s} {t} {d} p h =
@@ -163,4 +167,4 @@ pub product-bytes : (s t d : List ℕ) {e : List ℕ} → e ≡ productRecord s 
 unfolding productRecord
 product-bytes s t d h = h ∙ record-bytes (mul (stringOf s) (stringOf t)) d
 
-pub ruleset string-products = (product-written, operands, product-bytes, answers, needs)
+pub ruleset string-products = (mul-asked, product-written, operands, product-bytes, answers, needs)

@@ -18,12 +18,12 @@ use Rattle.pauli.specs.declared.refusal.Outcome.the-variants.{Done}
 use Rattle.pauli.specs.declared.refusal.Flag.the-variants.{Yes, No}
 use Rattle.pauli.specs.Answers.{yesOrNo}
 use Rattle.pauli.specs.Layout.{letterByte, letterOf, decodeString, stringOf}
-use Rattle.pauli.specs.Questions.{stringQuestions, stringsQuestions, getQuestions}
+use Rattle.pauli.specs.Questions.{_andThen_, stringQuestions, qubitQuestion, stringsQuestions, getQuestions}
 use Rattle.pauli.specs.Rows.{letterAt, placesOf, shorter}
 use Rattle.pauli.specs.Strings.{phaseOfRecord, letterOfRecord, recordsCommute}
 use Rattle.pauli.specs.Inside.Writing.{Pair}
 use Rattle.pauli.proofs.Answers.{answers}
-use Rattle.pauli.proofs.Asking.{done-first, done-second, string-formed, qubit-below}
+use Rattle.pauli.proofs.Asking.{then-asked, done-first, done-second, string-formed, qubit-below}
 use Rattle.pauli.proofs.Places.{from, from-at, length-from}
 use Rattle.pauli.proofs.Records.{phase-there, letter-there, decode-letter}
 use Rattle.pauli.proofs.RowProducts.{count-exact}
@@ -37,6 +37,10 @@ pub phase-place : (s : List ℕ) {r : Outcome} → r ≡ stringQuestions s → r
 phase-place s p h = omega (arith, string-formed s (sym p ∙ h) .long)
 
 -- ---- one letter
+pub get-asked : (s : List ℕ) (q : ℕ) {a b r : Outcome} → a ≡ stringQuestions s → b ≡ qubitQuestion q → r ≡ a andThen b → r ≡ getQuestions s q
+unfolding getQuestions
+get-asked s q p h e = then-asked e p h
+
 pub letter-read : (s : List ℕ) (q : ℕ) {r : Outcome} → r ≡ getQuestions s q → r ≡ Done → getD s (q + 1) 0 ≡ letterOfRecord s q
 unfolding letterOfRecord stringOf qubits getQuestions
 letter-read s q p h =
@@ -49,9 +53,8 @@ pub letter-place : (s : List ℕ) (q : ℕ) {r : Outcome} → r ≡ getQuestions
 unfolding getQuestions
 letter-place s q p h = omega (arith, string-formed s (done-first _ _ (sym p ∙ h)) .long, qubit-below q (done-second (stringQuestions s) _ (sym p ∙ h)))
 
-pub letter-index : (s : List ℕ) (q : ℕ) {r : Outcome} → r ≡ getQuestions s q → r ≡ Done → Fits w64 (q + 1)
-unfolding getQuestions
-letter-index s q p h = record { fits = omega (arith, qubit-below q (done-second (stringQuestions s) _ (sym p ∙ h))) }
+pub letter-index : (q : ℕ) (a : Outcome) {b r : Outcome} → b ≡ qubitQuestion q → r ≡ a andThen b → r ≡ Done → Fits w64 (q + 1)
+letter-index q a {b} p e h = record { fits = omega (arith, qubit-below q (sym p ∙ done-second a b (sym e ∙ h))) }
 
 -- ---- commutation
 pub a-pair : {s t : List ℕ} {r : Outcome} → r ≡ stringsQuestions s t → r ≡ Done → Pair s t
@@ -76,4 +79,4 @@ pub odd-no : {s t : List ℕ} {r : ℕ} → Pair s t → r ≡ placesOf (shorter
 unfolding recordsCommute commute
 odd-no f e h = sym (ap yesOrNo (ap (λ (n : ℕ). eqb (n % 2) 0) (sym (places-are f e)) ∙ ne-eqb _ 0 h))
 
-pub ruleset string-reads = (phase-read, phase-place, letter-read, letter-place, letter-index, a-pair, even-yes, odd-no, answers, needs)
+pub ruleset string-reads = (get-asked, phase-read, phase-place, letter-read, letter-place, letter-index, a-pair, even-yes, odd-no, answers, needs)

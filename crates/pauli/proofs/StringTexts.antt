@@ -18,7 +18,7 @@ use Rattle.pauli.specs.Layout.{phaseOf, letterOf, stringOf, decodeString
 use Rattle.pauli.specs.Questions.{stringQuestions, roomQuestion}
 use Rattle.pauli.specs.Rows.{letterAt, shorter, copied}
 use Rattle.pauli.specs.SparseText.{wordsAt, entryWords, prefixText, bodyText, sparseTextTo, sparseText, rowString, rowText, textOfRecord, toSparseQuestions}
-use Rattle.pauli.specs.TextWriting.{TextWritten}
+use Rattle.pauli.specs.Inside.TextWriting.{TextWritten}
 use Rattle.pauli.proofs.Answers.{answers, count-done}
 use Rattle.pauli.proofs.Asking.{refused, passed, done-first, done-second, string-formed, room-is}
 use Rattle.pauli.proofs.Places.{from, from-at, length-from}
@@ -98,7 +98,8 @@ module _ (s d : List ℕ) {r : Outcome} (p : r ≡ toSparseQuestions s (length d
   pub text-place : 1 ≤ length s
   text-place = omega (arith, formed .long)
 
-  pub text-done : {e : List ℕ} {n : ℕ} → TextWritten (rowText (getD s 0 0) (from 1 s)) d e n → CountWritten (toSparseQuestions s (length d)) (textOfRecord s) d e (Count n)
+  pub text-done : {e : List ℕ} {n : ℕ} → TextWritten (rowText (getD s 0 0) (from 1 s)) d e n
+      → CountWritten (toSparseQuestions s (length d)) (textOfRecord s) d e (Count n)
   text-done t =
       count-done p h (t .count ∙ ap length (row-is formed)) (t .bytes ∙ ap (λ (w : List ℕ). copied w d) (row-is formed) ∙ copied-whole (textOfRecord s) d room)
 

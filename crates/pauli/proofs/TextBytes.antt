@@ -3,14 +3,12 @@ use mathlib.Core.Path.{_≡_, refl, sym, ap, ap₂, _∙_}
 use mathlib.Core.Bool.{Bool, true, false, cond, not, _&&_, _||_}
 use mathlib.Core.List.{List}
 use mathlib.Core.Logic.{_⊎_, inl, inr}
-use Prim.Native.Nat.{ℕ, suc, _+_, _^_, _<_, _≤_}
+use Prim.Native.Nat.{ℕ, suc, _+_, _<_, _≤_}
 use native.Mathlib.Numerals.{add-one}
 use native.Mathlib.Decide.{decLt}
 use native.Mathlib.Omega.{arith}
 use lib.Dec.{leb, eqb}
 use lib.ListN.{length, getD, drop, length-drop, List·getD-eq-default}
-use mir.Syntax.{w64}
-use mir.Val.{Fits}
 use borrow.Author.Needs.{needs}
 use borrow.Author.Tests.{eqb-true, ne-eqb, le-leb, lt-leb}
 use Rattle.pauli_group.specs.Phase.{PlusOne, MinusOne, PlusI, MinusI}
@@ -213,6 +211,3 @@ pub skipped : (count : List ℕ → ℕ) → ((s : List ℕ) → count s ≤ len
 skipped count bound t k {r} e h =
     let is : r ≡ count (drop k t) = e ∙ ap count (from-is k t) in
     record { is = omega arith; onward = omega arith; within = omega (arith, bound (drop k t), length-drop k t) }
-
-pub skip-fits : {count : List ℕ → ℕ} {t : List ℕ} {k r : ℕ} → Skipped count t k r → length t < 2 ^ 64 → Fits w64 r
-skip-fits s h = record { fits = omega (arith, s .within) }

@@ -15,17 +15,15 @@ use Rattle.pauli.specs.declared.refusal.Outcome.the-variants.{Done, Refu
 use Rattle.pauli.specs.Layout.{letterByte}
 use Rattle.pauli.specs.Questions.{_andThen_}
 use Rattle.pauli.specs.SparseText.{decimal, letterText, entryWord, wordsAt, entryWords}
-use Rattle.pauli.specs.Text.{isSpace, isDigit, isSign, isSmallI, letterNamed, allDigits, withoutPlus, digitsValue, indexValue, isIndex, indexQuestions, Token, token, letterQuestion, hasIndex, attachedQuestions, tokenQuestions, attachedEntry, apartEntry, tokenEntries, anyDigit}
+use Rattle.pauli.specs.Text.{isSpace, isDigit, isSign, isSmallI, letterNamed, allDigits, withoutPlus, digitsValue, indexValue, isIndex, indexQuestions, Token, token, letterQuestion, hasIndex, attachedQuestions, tokenQuestions, attachedEntry, tokenEntries, anyDigit}
+use Rattle.pauli_group.proofs.Finite.{and-both}
 use Rattle.pauli.proofs.Asking.{asked-yes}
 use Rattle.pauli.proofs.Decimals.{decimal-value, decimal-digits, decimal-some}
 use Rattle.pauli.proofs.LetterEntries.{entryAt, entriesTo}
 use Rattle.pauli.proofs.Words.{Each, none, more, each-append, each-map, Word, wordTokens}
+use Rattle.pauli.proofs.Tokens.{attached-entries}
 
 -- ---- a numeral is read as its number
-&&-true : (a b : Bool) → (a && b) ≡ true → (a ≡ true) × (b ≡ true)
-&&-true true b h = (refl, h)
-&&-true false b h = (h, cc)
-
 -- what the bytes of a text are: digits, or letters of entries
 pub record DigitByte (c : ℕ) : Type 0 where
   pub low : 48 ≤ c
@@ -35,8 +33,8 @@ digit-bytes : (w : List ℕ) → allDigits w ≡ true → Each DigitByte w
 unfolding allDigits isDigit
 digit-bytes [] h = none
 digit-bytes (c ∷ w) h =
-    let both = &&-true (leb 48 c && leb c 57) (allDigits w) h in
-    let digit = &&-true (leb 48 c) (leb c 57) (both .0) in
+    let both = and-both (leb 48 c && leb c 57) (allDigits w) h in
+    let digit = and-both (leb 48 c) (leb c 57) (both .0) in
     more (record { low = leb-true 48 c (digit .0); high = leb-true c 57 (digit .1) }) (digit-bytes w (both .1))
 
 pub decimal-bytes : (n : ℕ) → Each DigitByte (decimal n)
@@ -190,16 +188,11 @@ unfolding entryWords
 words-name zero f = refl
 words-name (suc n) f = entries-append (entryWords n f) (wordsAt (f n) n) ∙ ap₂ _++_ (words-name n f) (entries-at (f n) n)
 
-token-names : (t : Token) (ts : List Token) → hasIndex t ≡ true → tokenEntries (t ∷ ts) ≡ attachedEntry t ++ tokenEntries ts
-unfolding tokenEntries attachedEntry
-token-names t [] h = refl
-token-names t (x ∷ ts) h = ap (λ b. cond b (attachedEntry t ++ tokenEntries (x ∷ ts)) (apartEntry t x ++ tokenEntries ts)) h
-
 tokens-name : (k : ℕ) (w : List ℕ) (ws : List (List ℕ)) → EntryWord w → Each EntryWord ws → tokenEntries (wordTokens k w ws) ≡ wordEntries (w ∷ ws)
 unfolding tokenEntries attachedEntry
 tokens-name k w [] e none = refl
 tokens-name k w (x ∷ ws) e (more f r) =
-    token-names (token k w) (wordTokens (suc (k + length w)) x ws) (has-index k e)
+    attached-entries (token k w) (wordTokens (suc (k + length w)) x ws) (has-index k e)
     ∙ ap (λ (n : List ℕ). letterNamed (getD w 0 0) ∷ indexValue (drop 1 w) ∷ n) (tokens-name (suc (k + length w)) x ws f r)
 
 -- the tokens of all words of a string name its entries

@@ -5,7 +5,7 @@ use mathlib.Core.Bool.{Bool, true, false}
 use mathlib.Core.List.{List, _++_}
 use lib.ListN.{length, drop}
 use Rattle.pauli.specs.declared.refusal.Refusal.{Refusal}
-use Rattle.pauli.specs.declared.refusal.Refusal.the-variants.{Width, Length, BadByte, Gate, Qubit, SameQubit, Room, NotAscii, NotLetter, NoIndex, NotNumeral, Duplicate, TextQubit, ImageWidth, Slot, ListLength, ListRecord, Link, Loop}
+use Rattle.pauli.specs.declared.refusal.Refusal.the-variants.{Width, Length, BadByte, Gate, Qubit, SameQubit, Room, NotAscii, NotLetter, NoIndex, NotNumeral, Duplicate, TextQubit, ImageWidth, Slot, ListLength, ListRecord, StepGate, StepQubit, StepSameQubit, Link, Loop}
 use Rattle.pauli.specs.declared.refusal.Outcome.{Outcome}
 use Rattle.pauli.specs.declared.refusal.Outcome.the-variants.{Done, Refused}
 use Rattle.pauli.specs.declared.refusal.Product.{Product}
@@ -24,7 +24,7 @@ unfoldable pub refusalNumber : Refusal → ℕ
 refusalNumber Width = 1
 refusalNumber Length = 2
 refusalNumber (BadByte offset) = 3
-refusalNumber (Gate at) = 4
+refusalNumber Gate = 4
 refusalNumber (Qubit qubit) = 5
 refusalNumber (SameQubit qubit) = 6
 refusalNumber Room = 7
@@ -38,6 +38,9 @@ refusalNumber (ImageWidth qubit width) = 14
 refusalNumber (Slot slot width) = 15
 refusalNumber ListLength = 16
 refusalNumber (ListRecord at) = 17
+refusalNumber (StepGate at) = 4
+refusalNumber (StepQubit at) = 5
+refusalNumber (StepSameQubit at) = 6
 refusalNumber (Link at) = 18
 refusalNumber (Loop at) = 19
 
@@ -46,7 +49,7 @@ unfoldable pub refusalDetail : Refusal → ℕ
 refusalDetail Width = 0
 refusalDetail Length = 0
 refusalDetail (BadByte offset) = offset
-refusalDetail (Gate at) = at
+refusalDetail Gate = 0
 refusalDetail (Qubit qubit) = qubit
 refusalDetail (SameQubit qubit) = qubit
 refusalDetail Room = 0
@@ -60,6 +63,9 @@ refusalDetail (ImageWidth qubit width) = qubit
 refusalDetail (Slot slot width) = slot
 refusalDetail ListLength = 0
 refusalDetail (ListRecord at) = at
+refusalDetail (StepGate at) = at
+refusalDetail (StepQubit at) = at
+refusalDetail (StepSameQubit at) = at
 refusalDetail (Link at) = at
 refusalDetail (Loop at) = at
 

@@ -6,6 +6,7 @@ pub mod Questions
 pub mod Rows
 pub mod Strings
 pub mod Text
+pub mod QuotedText
 pub mod SparseText
 pub mod TextWriting
 pub mod Promises

@@ -3,11 +3,12 @@
 ghost use mathlib.Core.Path.{_≡_};
 ghost use mathlib.Core.List.{_++_};
 ghost use lib.ListN.{drop};
-ghost use Rattle.pauli.specs.Questions.{mulQuestions};
 ghost use Rattle.pauli.specs.Rows.{letterBytesProduct};
 ghost use Rattle.pauli.specs.Strings.{productRecord};
 ghost use Rattle.pauli.specs.Inside.Writing.{Operands};
 ghost use Rattle.pauli.specs.Promises.{LettersMultiplied, StringsMultiplied};
+use crate::STRING_LENGTH;
+use crate::questions::and_then;
 use crate::questions::check_pair;
 use crate::questions::check_room;
 use crate::questions::check_strings;
@@ -70,31 +71,20 @@ pub fn letter_product(a: u8, b: u8) -> LetterAnswer
     }
 }
 
-// The questions of the product, in their order.
-fn mul_answer(s: &[u8], t: &[u8], room: usize) -> Outcome
-    ensures { λ r. ⌜ r ≡ mulQuestions (now (s .entry)) (now (t .entry)) room ⌝ }
-{
-    let first = check_strings(s, t);
-    if let Outcome::Done = first {
-        return check_room(129, room);
-    }
-    first
-}
-
 // The product of two strings, written over the first 129 bytes of the destination: s is copied there and multiplied by t.
 fn write_product(s: &[u8], t: &[u8], dst: &mut [u8])
     requires { ⌜ Operands (now s) (now t) (now dst) ⌝ }
     ensures { λ _. ⌜ now (dst .exit) ≡ productRecord (now (s .entry)) (now (t .entry)) ++ drop 129 (now (dst .entry)) ⌝ }
 {
     copy(s, dst);
-    multiply_row(&mut dst[0..129], t);
+    multiply_row(&mut dst[0..STRING_LENGTH], t);
 }
 
 // The product s·t of two string records.
 pub fn mul(s: &[u8], t: &[u8], dst: &mut [u8]) -> Product
     ensures { λ r. ⌜ StringsMultiplied (now (s .entry)) (now (t .entry)) (now (dst .entry)) (now (dst .exit)) r ⌝ }
 {
-    let answer = mul_answer(s, t, dst.len());
+    let answer = and_then(check_strings(s, t), check_room(STRING_LENGTH, dst.len()));
     match answer {
         Outcome::Done => {
             write_product(s, t, dst);

@@ -4,11 +4,12 @@ ghost use mathlib.Core.Path.{_≡_};
 ghost use Prim.Native.Nat.{_+_, _<_, max};
 ghost use mathlib.Core.List.{_∷_, _++_};
 ghost use lib.ListN.{length, drop};
-ghost use Rattle.pauli.specs.Answers.{Written};
 ghost use Rattle.pauli.specs.Inside.Reading.{EndRead, DenseAt, DenseFit, lettersNamed};
 ghost use Rattle.pauli.specs.Layout.{phaseByte};
-ghost use Rattle.pauli.specs.Text.{isIdentity, textPhase, denseLetter, letterQuestions, fromDenseQuestions, denseRecord};
+ghost use Rattle.pauli.specs.Text.{isIdentity, textPhase, denseLetter, letterQuestions, fromDenseQuestions};
 ghost use Rattle.pauli.specs.Promises.{FromDenseText};
+use crate::QUBITS;
+use crate::STRING_LENGTH;
 use crate::questions::check_room;
 use crate::refusal::Outcome;
 use crate::refusal::Refusal;
@@ -64,7 +65,7 @@ fn check_letter(c: u8, offset: usize, qubit: usize) -> Outcome
     if letter_named(c) == 0 {
         return Outcome::Refused(Refusal::NotLetter { offset });
     }
-    if qubit < 128 {
+    if qubit < QUBITS {
         return Outcome::Done;
     }
     Outcome::Refused(Refusal::TextQubit { offset })
@@ -103,7 +104,7 @@ fn write_dense(phase: u8, body: &[u8], dst: &mut [u8])
     requires { ⌜ DenseFit (now dst) ⌝ }
     ensures { λ _. ⌜ now (dst .exit) ≡ phase ∷ lettersNamed 128 (now (body .entry)) ++ drop 129 (now (dst .entry)) ⌝ }
 {
-    write_named(body, &mut dst[1..129]);
+    write_named(body, &mut dst[1..STRING_LENGTH]);
     dst[0] = phase;
 }
 
@@ -120,13 +121,13 @@ fn dense_answer(t: &[u8], body: &[u8], offset: usize, room: usize) -> Outcome
     let Outcome::Done = second else {
         return second;
     };
-    check_room(129, room)
+    check_room(STRING_LENGTH, room)
 }
 
 fn dense_body(t: &[u8], phase: u8, body: &[u8], offset: usize, dst: &mut [u8]) -> Outcome
     requires { ⌜ DenseAt (now t) (now body) offset ⌝ }
     requires { ⌜ phase ≡ phaseByte (textPhase (now t)) ⌝ }
-    ensures { λ r. ⌜ Written (fromDenseQuestions (now (t .entry)) (length (now (dst .entry)))) (denseRecord (now (t .entry))) (now (dst .entry)) (now (dst .exit)) r ⌝ }
+    ensures { λ r. ⌜ FromDenseText (now (t .entry)) (now (dst .entry)) (now (dst .exit)) r ⌝ }
 {
     let answer = dense_answer(t, body, offset, dst.len());
     if let Outcome::Done = answer {

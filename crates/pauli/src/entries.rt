@@ -5,9 +5,11 @@ ghost use mathlib.Core.Path.{_≡_};
 ghost use mathlib.Core.List.{_∷_, _++_};
 ghost use lib.ListN.{getD, set, drop};
 ghost use Rattle.pauli.specs.Entries.{entryCount};
-ghost use Rattle.pauli.specs.Inside.Marks.{markMore, marksTo, firstTwice, unmarked, MarkFits, Unmarked, marksQuestion, Blank, EntriesRead, lettersMarked, MarksFit};
-ghost use Rattle.pauli.specs.Rows.{shorter};
+ghost use Rattle.pauli.specs.Inside.Marks.{markMore, marksTo, firstTwice, unmarked, MarkFits, Unmarked, marksQuestion, Blank, EntriesRead, lettersMarked, lettersOver, MarksFit};
 ghost use Rattle.pauli.specs.Questions.{evenQuestion, firstBadEntry, entryLettersQuestion, firstHighEntry, entryQubitsQuestion, entryQuestions, roomQuestion, _andThen_};
+use crate::QUBITS;
+use crate::STRING_LENGTH;
+use crate::questions::and_then;
 use crate::questions::check_byte;
 use crate::questions::check_room;
 use crate::refusal::Outcome;
@@ -81,29 +83,12 @@ fn check_entry_qubits(entries: &[u8]) -> Outcome
     Outcome::Done
 }
 
-fn check_each_entry(entries: &[u8]) -> Outcome
-    ensures { λ r. ⌜ r ≡ (entryLettersQuestion (now (entries .entry)) andThen entryQubitsQuestion (now (entries .entry))) ⌝ }
-{
-    let first = check_entry_letters(entries);
-    if let Outcome::Done = first {
-        return check_entry_qubits(entries);
-    }
-    first
-}
-
 // The questions put to a phase and to entries before their qubits are compared.
 pub(crate) fn check_entries(phase: u8, entries: &[u8]) -> Outcome
     ensures { λ r. ⌜ r ≡ entryQuestions phase (now (entries .entry)) ⌝ }
 {
-    let first = check_byte(phase);
-    let Outcome::Done = first else {
-        return first;
-    };
-    let second = check_even(entries);
-    let Outcome::Done = second else {
-        return second;
-    };
-    check_each_entry(entries)
+    let each = and_then(check_entry_letters(entries), check_entry_qubits(entries));
+    and_then(check_byte(phase), and_then(check_even(entries), each))
 }
 
 // One more entry with this letter on this qubit.
@@ -157,7 +142,7 @@ pub(crate) fn check_marks(marks: &[u8]) -> Outcome
     ensures { λ r. ⌜ r ≡ marksQuestion (now (marks .entry)) ⌝ }
 {
     let qubit = first_twice(marks);
-    if qubit < 128 {
+    if qubit < QUBITS {
         return Outcome::Refused(Refusal::Duplicate { qubit });
     }
     Outcome::Done
@@ -167,11 +152,7 @@ pub(crate) fn check_marks(marks: &[u8]) -> Outcome
 pub(crate) fn check_marks_and_room(marks: &[u8], room: usize) -> Outcome
     ensures { λ r. ⌜ r ≡ (marksQuestion (now (marks .entry)) andThen roomQuestion 129 room) ⌝ }
 {
-    let first = check_marks(marks);
-    if let Outcome::Done = first {
-        return check_room(129, room);
-    }
-    first
+    and_then(check_marks(marks), check_room(STRING_LENGTH, room))
 }
 
 // The questions put to a phase, entries and a destination, in their order; the entries are left marked.
@@ -196,7 +177,7 @@ fn unmark(m: u8) -> u8
 
 // The letters that the marks stand for, over the front of dst.
 fn write_letters(marks: &[u8], dst: &mut [u8])
-    ensures { λ _. ⌜ now (dst .exit) ≡ lettersMarked (shorter (now (marks .entry)) (now (dst .entry))) (now (marks .entry)) ++ drop (shorter (now (marks .entry)) (now (dst .entry))) (now (dst .entry)) ⌝ }
+    ensures { λ _. ⌜ now (dst .exit) ≡ lettersOver (now (marks .entry)) (now (dst .entry)) ⌝ }
 {
     let n = smaller(marks.len(), dst.len());
     let mut i = 0;
@@ -211,6 +192,6 @@ pub(crate) fn write_marked(phase: u8, marks: &[u8], dst: &mut [u8])
     requires { ⌜ MarksFit (now marks) (now dst) ⌝ }
     ensures { λ _. ⌜ now (dst .exit) ≡ phase ∷ lettersMarked 128 (now (marks .entry)) ++ drop 129 (now (dst .entry)) ⌝ }
 {
-    write_letters(marks, &mut dst[1..129]);
+    write_letters(marks, &mut dst[1..STRING_LENGTH]);
     dst[0] = phase;
 }

@@ -11,3 +11,9 @@ pub mod rows;
 mod sparse_reader;
 pub mod sparse_text;
 mod text;
+pub mod text_writer;
+
+// The qubits of a string, and the bytes of its record: its phase and a letter for each.
+pub const QUBITS: usize = 128;
+
+pub const STRING_LENGTH: usize = 129;

@@ -3,14 +3,15 @@
 ghost use mathlib.Core.Path.{_≡_};
 ghost use Rattle.pauli.specs.Answers.{yesOrNo};
 ghost use Rattle.pauli.specs.Inside.Marks.{Blank};
-ghost use Rattle.pauli.specs.Questions.{getQuestions};
 ghost use Rattle.pauli.specs.SparseText.{toSparseQuestions};
 ghost use Rattle.pauli.specs.Strings.{recordsCommute};
 ghost use Rattle.pauli.specs.Inside.Writing.{Pair};
 ghost use Rattle.pauli.specs.Promises.{PhaseOfString, LetterOfString, StringsCommute, FromEntries, FromSparseText, FromDenseText, FromText, SparseTextWritten};
+use crate::QUBITS;
 use crate::dense_reader::dense_string;
 use crate::entries::read_entries;
 use crate::entries::write_marked;
+use crate::questions::and_then;
 use crate::questions::check_qubit;
 use crate::questions::check_room;
 use crate::questions::check_string;
@@ -36,22 +37,11 @@ pub fn phase(s: &[u8]) -> ByteAnswer
     }
 }
 
-// The questions of `get`, in their order.
-fn get_answer(s: &[u8], qubit: usize) -> Outcome
-    ensures { λ r. ⌜ r ≡ getQuestions (now (s .entry)) qubit ⌝ }
-{
-    let first = check_string(s);
-    if let Outcome::Done = first {
-        return check_qubit(qubit);
-    }
-    first
-}
-
 // The letter of a string record at one qubit.
 pub fn get(s: &[u8], qubit: usize) -> ByteAnswer
     ensures { λ r. ⌜ LetterOfString (now (s .entry)) qubit r ⌝ }
 {
-    let answer = get_answer(s, qubit);
+    let answer = and_then(check_string(s), check_qubit(qubit));
     match answer {
         Outcome::Done => ByteAnswer::Byte(s[qubit + 1]),
         Outcome::Refused(why) => ByteAnswer::NoByte(why),
@@ -94,7 +84,7 @@ fn string_of_entries(phase: u8, entries: &[u8], marks: &mut [u8], dst: &mut [u8]
 pub fn with_phase_and_paulis(phase: u8, entries: &[u8], dst: &mut [u8]) -> Outcome
     ensures { λ r. ⌜ FromEntries phase (now (entries .entry)) (now (dst .entry)) (now (dst .exit)) r ⌝ }
 {
-    let mut marks = [0u8; 128];
+    let mut marks = [0u8; QUBITS];
     string_of_entries(phase, entries, &mut marks, dst)
 }
 
@@ -102,7 +92,7 @@ pub fn with_phase_and_paulis(phase: u8, entries: &[u8], dst: &mut [u8]) -> Outco
 pub fn from_sparse_str(t: &[u8], dst: &mut [u8]) -> Outcome
     ensures { λ r. ⌜ FromSparseText (now (t .entry)) (now (dst .entry)) (now (dst .exit)) r ⌝ }
 {
-    let mut marks = [0u8; 128];
+    let mut marks = [0u8; QUBITS];
     sparse_string(t, &mut marks, dst)
 }
 

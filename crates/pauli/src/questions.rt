@@ -1,6 +1,8 @@
 // The questions on entry that every layer puts. Each answers Done, or the refusal.
 ghost use mathlib.Core.Path.{_≡_};
 ghost use Rattle.pauli.specs.Questions.{byteQuestion, pairQuestions, stringQuestions, stringsQuestions, qubitQuestion, roomQuestion, _andThen_};
+use crate::QUBITS;
+use crate::STRING_LENGTH;
 use crate::refusal::Outcome;
 use crate::refusal::Refusal;
 
@@ -28,18 +30,14 @@ pub fn check_byte(b: u8) -> Outcome
 pub fn check_pair(a: u8, b: u8) -> Outcome
     ensures { λ r. ⌜ r ≡ pairQuestions a b ⌝ }
 {
-    let first = check_byte(a);
-    if let Outcome::Done = first {
-        return check_byte(b);
-    }
-    first
+    and_then(check_byte(a), check_byte(b))
 }
 
 // A string record.
 pub fn check_string(s: &[u8]) -> Outcome
     ensures { λ r. ⌜ r ≡ stringQuestions (now (s .entry)) ⌝ }
 {
-    if s.len() != 129 {
+    if s.len() != STRING_LENGTH {
         return Outcome::Refused(Refusal::Length);
     }
     let k = crate::rows::first_bad(s);
@@ -53,17 +51,13 @@ pub fn check_string(s: &[u8]) -> Outcome
 pub fn check_strings(s: &[u8], t: &[u8]) -> Outcome
     ensures { λ r. ⌜ r ≡ stringsQuestions (now (s .entry)) (now (t .entry)) ⌝ }
 {
-    let first = check_string(s);
-    if let Outcome::Done = first {
-        return check_string(t);
-    }
-    first
+    and_then(check_string(s), check_string(t))
 }
 
 pub fn check_qubit(qubit: usize) -> Outcome
     ensures { λ r. ⌜ r ≡ qubitQuestion qubit ⌝ }
 {
-    if qubit < 128 {
+    if qubit < QUBITS {
         return Outcome::Done;
     }
     Outcome::Refused(Refusal::Qubit { qubit })

@@ -2,12 +2,13 @@
 ghost use mathlib.Core.Path.{_≡_};
 ghost use Rattle.pauli.specs.Answers.{refusalNumber, refusalDetail, refusalReply, outcomeReply, productReply, byteReply, flagReply, countReply, letterReply};
 
-// A question that was answered no, with the values that its answer names.
+// A question that was answered no, with the values that its answer names: of a list's step its record, with the number of the gate's
+// own question.
 pub enum Refusal {
     Width,
     Length,
     BadByte { offset: usize },
-    Gate { record: usize },
+    Gate,
     Qubit { qubit: usize },
     SameQubit { qubit: usize },
     Room,
@@ -21,6 +22,9 @@ pub enum Refusal {
     Slot { slot: usize, width: usize },
     ListLength,
     ListRecord { record: usize },
+    StepGate { record: usize },
+    StepQubit { record: usize },
+    StepSameQubit { record: usize },
     Link { record: usize },
     Loop { record: usize },
 }
@@ -75,7 +79,7 @@ pub fn number(r: Refusal) -> u64
         Refusal::Width => 1,
         Refusal::Length => 2,
         Refusal::BadByte { offset: _ } => 3,
-        Refusal::Gate { record: _ } => 4,
+        Refusal::Gate => 4,
         Refusal::Qubit { qubit: _ } => 5,
         Refusal::SameQubit { qubit: _ } => 6,
         Refusal::Room => 7,
@@ -89,6 +93,9 @@ pub fn number(r: Refusal) -> u64
         Refusal::Slot { slot: _, width: _ } => 15,
         Refusal::ListLength => 16,
         Refusal::ListRecord { record: _ } => 17,
+        Refusal::StepGate { record: _ } => 4,
+        Refusal::StepQubit { record: _ } => 5,
+        Refusal::StepSameQubit { record: _ } => 6,
         Refusal::Link { record: _ } => 18,
         Refusal::Loop { record: _ } => 19,
     }
@@ -102,7 +109,7 @@ pub fn detail(r: Refusal) -> u64
         Refusal::Width => 0,
         Refusal::Length => 0,
         Refusal::BadByte { offset } => offset as u64,
-        Refusal::Gate { record } => record as u64,
+        Refusal::Gate => 0,
         Refusal::Qubit { qubit } => qubit as u64,
         Refusal::SameQubit { qubit } => qubit as u64,
         Refusal::Room => 0,
@@ -116,6 +123,9 @@ pub fn detail(r: Refusal) -> u64
         Refusal::Slot { slot, width: _ } => slot as u64,
         Refusal::ListLength => 0,
         Refusal::ListRecord { record } => record as u64,
+        Refusal::StepGate { record } => record as u64,
+        Refusal::StepQubit { record } => record as u64,
+        Refusal::StepSameQubit { record } => record as u64,
         Refusal::Link { record } => record as u64,
         Refusal::Loop { record } => record as u64,
     }

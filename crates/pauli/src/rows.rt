@@ -1,12 +1,13 @@
 // Kernels on rows of letter bytes. They stop at the shortest row and read a byte above 3 as 3, so they ask nothing of a caller.
 ghost use mathlib.Core.Path.{_≡_};
-ghost use Prim.Native.Nat.{_%_, min};
+ghost use Prim.Native.Nat.{_%_, _≤_, min};
+ghost use lib.ListN.{length};
 ghost use Rattle.pauli_group.specs.Letter.{letterMul};
 ghost use Rattle.pauli_group.specs.Papers.{power};
 ghost use Rattle.pauli.specs.Layout.{phaseByte, letterByte, letterOf};
 ghost use Rattle.pauli.specs.Questions.{firstBad};
 ghost use Rattle.pauli.specs.Rows.{phaseBytesProduct, placesOf, shorter, RowTimes, rowProduct, copied};
-ghost use Rattle.pauli.specs.Inside.Turns.{LetterByte, ForY, LetterTurns, PhaseTurns, anticommuting};
+ghost use Rattle.pauli.specs.Inside.Turns.{LetterByte, ForY, LetterTurns, PhaseTurns, anticommuting, NoneAbove};
 
 pub fn smaller(a: usize, b: usize) -> usize
     ensures { λ r. ⌜ r ≡ min a b ⌝ }
@@ -131,10 +132,32 @@ pub fn anticommuting_places(a: &[u8], b: &[u8]) -> u8
     count
 }
 
-// The first offset with a byte above 3, or the length.
+fn larger(a: u8, b: u8) -> u8
+    ensures { λ r. ⌜ (a ≤ r) × (b ≤ r) ⌝ }
+{
+    if a < b { b } else { a }
+}
+
+// The largest byte, 0 where there is none.
+fn largest(s: &[u8]) -> u8
+    ensures { λ r. ⌜ NoneAbove (now (s .entry)) (length (now (s .entry))) r ⌝ }
+{
+    let mut most: u8 = 0;
+    let mut i = 0;
+    while i < s.len() {
+        most = larger(most, s[i]);
+        i += 1;
+    }
+    most
+}
+
+// The first offset with a byte above 3, or the length. The largest byte is found sixteen bytes at a time, so it is asked first.
 pub fn first_bad(s: &[u8]) -> usize
     ensures { λ r. ⌜ r ≡ firstBad (now (s .entry)) ⌝ }
 {
+    if largest(s) < 4 {
+        return s.len();
+    }
     let mut i = 0;
     while i < s.len() {
         if 3 < s[i] {

@@ -12,6 +12,10 @@ pub record Finite (A : Type 0) : Type 1 where
   pub same : A → A → Bool
   pub equal : (a b : A) → T (same a b) → a ≡ b
 
+pub and-both : (a b : Bool) → (a && b) ≡ true → (a ≡ true) × (b ≡ true)
+and-both true b e = (refl, e)
+and-both false b e = (e, cc)
+
 &&-left : (a b : Bool) → T (a && b) → T a
 &&-left true b t = tt
 &&-left false b t = t

@@ -2,7 +2,7 @@
 -- places at which they anticommute.
 use mathlib.Core.Path.{_≡_, refl, sym, ap, ap₂, _∙_, fun-ext}
 use mathlib.Core.Bool.{Bool, true, false, cond, not}
-use Prim.Native.Nat.{ℕ, _%_, _≤_, _<_}
+use Prim.Native.Nat.{ℕ, _%_, _<_}
 use native.Mathlib.Omega.{arith}
 use native.Mathlib.Decide.{ℕ-discrete}
 use lib.Dec.{eqb}
@@ -12,8 +12,8 @@ use Rattle.pauli_group.specs.Letter.{Letter, I, letterPhase, letterMul, 
 use Rattle.pauli_group.specs.PauliString.{PauliString, qubits, productTo, phaseOfLetters, mul, identityString, scale, single, anticommutingPlaces, commute, commutationSign, Within}
 use Rattle.pauli_group.proofs.Laws.{·-assoc, ·-comm, ·-left, one-·, ·-one, ·-cancel, real-square, square-real}
 use Rattle.pauli_group.proofs.Laws.{letterMul-assoc, letterMul-comm, letterMul-self, letterMul-I, I-letterMul, letterPhase-self, letterPhase-I, I-letterPhase}
-use Rattle.pauli_group.proofs.Laws.{cocycle, swap, anticommute-sym, anticommute-self, anticommute-I, sign-mul}
-use Rattle.pauli_group.proofs.Products.{productTo-mul, productTo-one, productTo-ext, productTo-at, parity, signs-parity, countTo-le}
+use Rattle.pauli_group.proofs.Laws.{cocycle, swap, anticommute-sym, anticommute-I, sign-mul}
+use Rattle.pauli_group.proofs.Products.{productTo-mul, productTo-one, productTo-ext, productTo-at, parity, signs-parity}
 
 -- strings with equal phases and equal letters are equal
 pub string-ext : (s t : PauliString) → s .phase ≡ t .phase → ((q : ℕ) → s .letters q ≡ t .letters q) → s ≡ t
@@ -123,10 +123,6 @@ pub anticommute-mul : (s t : PauliString) → commute s t ≡ false → mul s t 
 unfolding sign
 anticommute-mul s t e = mul-swap s t ∙ ap (λ p. scale p (mul t s)) (commute-sign s t ∙ ap (λ b. sign (not b)) e)
 
-pub places-le : (s t : PauliString) → anticommutingPlaces s t ≤ qubits
-unfolding anticommutingPlaces
-places-le s t = countTo-le qubits _
-
 -- ---- further laws of the sign
 pub sign-sym : (s t : PauliString) → commutationSign s t ≡ commutationSign t s
 unfolding commutationSign
@@ -135,10 +131,6 @@ sign-sym s t = ap (productTo qubits) (fun-ext (λ q. ap sign (anticommute-sym (s
 pub sign-of-mul : (s t u : PauliString) → commutationSign (mul s t) u ≡ commutationSign s u · commutationSign t u
 unfolding commutationSign mul
 sign-of-mul s t u = ap (productTo qubits) (fun-ext (λ q. sign-mul (s .letters q) (t .letters q) (u .letters q))) ∙ productTo-mul qubits _ _
-
-pub sign-self : (s : PauliString) → commutationSign s s ≡ PlusOne
-unfolding commutationSign sign
-sign-self s = productTo-one qubits _ (λ q l. ap sign (anticommute-self (s .letters q)))
 
 pub sign-scale : (p : Phase) (s u : PauliString) → commutationSign (scale p s) u ≡ commutationSign s u
 unfolding commutationSign scale

@@ -27,20 +27,26 @@ mulG z w = gaussian (z .re *ℤ w .re -ℤ z .im *ℤ w .im) (z .re *ℤ w .im +
 unfoldable pub conjugateG : Gaussian → Gaussian
 conjugateG z = gaussian (z .re) (negℤ (z .im))
 
--- the rows (a, b) and (c, d)
-pub record Matrix : Type 0 where
-  pub a : Gaussian
-  pub b : Gaussian
-  pub c : Gaussian
-  pub d : Gaussian
+-- the rows (a, b) and (c, d), of numbers or of blocks; and the product
+pub record Square (A : Type 0) : Type 0 where
+  pub a : A
+  pub b : A
+  pub c : A
+  pub d : A
+
+abbrev pub squareProduct : {A : Type 0} (add times : A → A → A) → Square A → Square A → Square A
+squareProduct add times m n = record {
+  a = add (times (m .a) (n .a)) (times (m .b) (n .c));
+  b = add (times (m .a) (n .b)) (times (m .b) (n .d));
+  c = add (times (m .c) (n .a)) (times (m .d) (n .c));
+  d = add (times (m .c) (n .b)) (times (m .d) (n .d));
+}
+
+abbrev pub Matrix : Type 0
+Matrix = Square Gaussian
 
 unfoldable pub matrixProduct : Matrix → Matrix → Matrix
-matrixProduct m n = record {
-  a = addG (mulG (m .a) (n .a)) (mulG (m .b) (n .c));
-  b = addG (mulG (m .a) (n .b)) (mulG (m .b) (n .d));
-  c = addG (mulG (m .c) (n .a)) (mulG (m .d) (n .c));
-  d = addG (mulG (m .c) (n .b)) (mulG (m .d) (n .d));
-}
+matrixProduct m n = squareProduct addG mulG m n
 
 unfoldable pub scaleMatrix : Gaussian → Matrix → Matrix
 scaleMatrix z m = record { a = mulG z (m .a); b = mulG z (m .b); c = mulG z (m .c); d = mulG z (m .d) }

@@ -23,7 +23,6 @@ use Rattle.pauli.proofs.Records.{letter-back}
 use Rattle.pauli.proofs.TextRoundTrip.{Ascii, ascii-asked}
 use Rattle.pauli.proofs.Words.{Each, none, more, each-append, each-map}
 use Rattle.pauli.proofs.WrittenWords.{any-more}
-use Rattle.pauli_laws.specs.QuotedText.{bytesOf}
 use Rattle.pauli_laws.specs.DenseTexts.{_among_, prefixes, spellings, White, DenseText}
 use Rattle.pauli_laws.proofs.Spellings.{each-among, Spelled, spelled, known-spelled, identity-unnamed}
 use Rattle.pauli_laws.proofs.TrimmedText.{white-append, Ends, blank-body, Between, Trimmed, trimmed}
@@ -76,7 +75,7 @@ plain : (c : ℕ) → ltb c 128 ≡ true → isSpace c ≡ false → Plain c
 plain c a s = record { ascii = ltb-true c 128 a; solid = s }
 
 plain-prefixes : (p : Phase) → Each (Each Plain) (prefixes p)
-unfolding prefixes bytesOf isSpace
+unfolding prefixes isSpace
 plain-prefixes PlusOne = more none (more (more (plain 43 refl refl) none) none)
 plain-prefixes MinusOne = more (more (plain 45 refl refl) none) none
 plain-prefixes PlusI = more (more (plain 43 refl refl) (more (plain 105 refl refl) none)) (more (more (plain 105 refl refl) none) none)
@@ -99,7 +98,7 @@ not-empty : {p : Phase} (c : ℕ) (l : List ℕ) → length (c ∷ l) ≡ 0 → 
 not-empty c l h = absurd (omega arith)
 
 empty-prefix : (p : Phase) → Each (λ pre. length pre ≡ 0 → p ≡ PlusOne) (prefixes p)
-unfolding prefixes bytesOf
+unfolding prefixes
 empty-prefix PlusOne = more (λ h. refl) (more (λ h. refl) none)
 empty-prefix MinusOne = more (not-empty 45 []) none
 empty-prefix PlusI = more (not-empty 43 (105 ∷ [])) (more (not-empty 105 []) none)

@@ -15,7 +15,6 @@ use Rattle.pauli.specs.Text.{isSpace, isSign, isSmallI, textPhase, denseBody}
 use Rattle.pauli.proofs.Records.{phase-back}
 use Rattle.pauli.proofs.TextBytes.{space-high, plus-i, minus-i, plus, minus, just-i, no-prefix, head-none, head-some}
 use Rattle.pauli.proofs.Words.{Each, none, more}
-use Rattle.pauli_laws.specs.QuotedText.{bytesOf}
 use Rattle.pauli_laws.specs.DenseTexts.{_among_, prefixes, White}
 use Rattle.pauli_laws.proofs.Spellings.{each-among}
 use Rattle.pauli_laws.proofs.TrimmedText.{Between, starts-within, starts-at, starts, start-is, body-is, blank-start}
@@ -67,7 +66,7 @@ module _ (p : Phase) (r : List ℕ) where
       → PrefixRead (getD (pre ++ r) 0 0) (getD (pre ++ r) 1 0) (record { phase = phaseByte p; length = length pre })
 
 reads-all : (p : Phase) (r : List ℕ) → Each (Read p r) (prefixes p)
-unfolding prefixes bytesOf phaseByte isReal
+unfolding prefixes phaseByte isReal
 reads-all PlusOne r =
     more (λ l u. no-prefix (not-plus (u refl)) (not-minus (u refl)) (not-i (l refl))) (more (λ l u. plus refl (not-i (l refl))) none)
 reads-all MinusOne r = more (λ l u. minus refl (not-i (l refl))) none
@@ -118,7 +117,7 @@ prefixed-some : {p : Phase} (x : ℕ) (l : List ℕ) {body : List ℕ} → (x �
 prefixed-some x l w h = record { written = w; longest = h; unsigned = λ e. absurd (omega arith) }
 
 pub prefixed-none : {body : List ℕ} → isSmallI (getD body 0 0) ≡ false → isSign (getD body 0 0) ≡ false → Prefixed PlusOne [] body
-unfolding prefixes bytesOf
+unfolding prefixes
 prefixed-none h k = record { written = List·Memᴰ·head refl; longest = λ r. h; unsigned = λ r. k }
 
 -- a sign, alone or with an i
@@ -133,15 +132,15 @@ module _ (x : ℕ) (real imaginary : Phase) (one : (x ∷ []) among prefixes rea
   ]
 
 plus-split : (c : List ℕ) → PrefixSplit (43 ∷ c)
-unfolding prefixes bytesOf isReal
+unfolding prefixes isReal
 plus-split = sign-split 43 PlusOne PlusI (List·Memᴰ·tail (List·Memᴰ·head refl)) (List·Memᴰ·head refl) refl
 
 minus-split : (c : List ℕ) → PrefixSplit (45 ∷ c)
-unfolding prefixes bytesOf isReal
+unfolding prefixes isReal
 minus-split = sign-split 45 MinusOne MinusI (List·Memᴰ·head refl) (List·Memᴰ·head refl) refl
 
 i-split : (c : List ℕ) → PrefixSplit (105 ∷ c)
-unfolding prefixes bytesOf isReal
+unfolding prefixes isReal
 i-split c = split-at PlusI (105 ∷ []) c refl (prefixed-some 105 [] (List·Memᴰ·tail (List·Memᴰ·head refl)) (λ h. absurd (true≢false (sym h))))
 
 pub prefix-split : (c : List ℕ) → PrefixSplit c

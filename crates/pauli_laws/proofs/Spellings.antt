@@ -14,7 +14,6 @@ use Rattle.pauli.proofs.DenseReading.{identity-not}
 use Rattle.pauli.proofs.Records.{letter-back}
 use Rattle.pauli.proofs.TextBytes.{named-none}
 use Rattle.pauli.proofs.Words.{Each, none, more}
-use Rattle.pauli_laws.specs.QuotedText.{bytesOf}
 use Rattle.pauli_laws.specs.DenseTexts.{_among_, spellings}
 
 -- ---- one of a list
@@ -49,7 +48,7 @@ byte : {l : Letter} (c : ℕ) → letterNamed c ≡ letterByte l → isIdentity 
 byte c n i k a s u = record { named = n; identity = i; known = k; ascii = ltb-true c 128 a; solid = s; unsigned = u }
 
 spelled-all : (l : Letter) → Each (Spelled l) (spellings l)
-unfolding spellings bytesOf letterNamed letterByte isIdentity isSpace isSign
+unfolding spellings letterNamed letterByte isIdentity isSpace isSign
 spelled-all I = more (byte 73 refl refl refl refl refl refl) (more (byte 105 refl refl refl refl refl refl) (more (byte 49 refl refl refl refl refl refl) none))
 spelled-all X = more (byte 88 refl refl refl refl refl refl) (more (byte 120 refl refl refl refl refl refl) none)
 spelled-all Y = more (byte 89 refl refl refl refl refl refl) (more (byte 121 refl refl refl refl refl refl) none)
@@ -70,7 +69,7 @@ abbrev OwnSpelling : ℕ → Type 0
 OwnSpelling c = c among spellings (letterOf (letterNamed c))
 
 nine-spelled : Each OwnSpelling nine
-unfolding spellings bytesOf letterNamed letterOf
+unfolding spellings letterNamed letterOf
 nine-spelled =
     more first (more second (more (List·Memᴰ·tail second) (more first (more second (more first (more second (more first (more second none))))))))
   where

@@ -8,7 +8,7 @@ use Rattle.pauli_group.specs.Phase.{Phase, PlusOne, MinusOne, PlusI, MinusI, is
 use Rattle.pauli_group.specs.Letter.{Letter, I, X, Z, Y}
 use Rattle.pauli_group.specs.PauliString.{PauliString, qubits, Within}
 use Rattle.pauli.specs.Text.{isSpace, isSmallI}
-use Rattle.pauli_laws.specs.QuotedText.{bytesOf}
+use Rattle.pauli.specs.QuotedText.{bytesOf}
 
 infix 40 _among_
 abbrev pub _among_ : {A : Type 0} → A → List A → Type 0

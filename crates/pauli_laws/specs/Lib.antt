@@ -1,4 +1,3 @@
-pub mod QuotedText
 pub mod EntryLists
 pub mod DenseTexts
 pub mod TextReadings

@@ -9,7 +9,7 @@ use Rattle.pauli.specs.Answers.{refusalNumber, refusalDetail}
 use Rattle.pauli.specs.Layout.{stringLength}
 use Rattle.pauli.specs.SparseText.{textOfRecord}
 use Rattle.pauli.specs.Text.{fromSparseQuestions, sparseRecord, fromDenseQuestions, denseRecord, fromStrQuestions, textRecord}
-use Rattle.pauli_laws.specs.QuotedText.{bytesOf}
+use Rattle.pauli.specs.QuotedText.{bytesOf}
 
 -- `from_sparse_str`, `from_dense_str`, `from_str`
 pub data Reader : Type 0 where

@@ -28,7 +28,8 @@ byte-replied h e = told _ h e
 pub flag-replied : {q : Outcome} {f : Bool} {x : Flag} {r : Reply} → FlagAnswered q f x → r ≡ flagReply x → Replied flagReply (FlagAnswered q f) r
 flag-replied h e = told _ h e
 
-pub letter-replied : {q : Outcome} {p l : ℕ} {x : LetterAnswer} {r : Reply} → LetterAnswered q p l x → r ≡ letterReply x → Replied letterReply (LetterAnswered q p l) r
+pub letter-replied : {q : Outcome} {p l : ℕ} {x : LetterAnswer} {r : Reply} → LetterAnswered q p l x → r ≡ letterReply x
+    → Replied letterReply (LetterAnswered q p l) r
 letter-replied h e = told _ h e
 
 pub offset-replied : {q : Outcome} {n : ℕ} {x : CountAnswer} {r : Reply} → CountAnswered q n x → r ≡ countReply x → Replied countReply (CountAnswered q n) r
@@ -40,16 +41,20 @@ gate-replied h e = told _ h e
 pub name-replied : {q : Outcome} {n : ℕ} {x : GateAnswer} {r : Reply} → NameAnswered q n x → r ≡ gateReply x → Replied gateReply (NameAnswered q n) r
 name-replied h e = told _ h e
 
-pub written-replied : {q : Outcome} {out d e : List ℕ} {x : Outcome} {r : Reply} → Written q out d e x → r ≡ outcomeReply x → Replied outcomeReply (Written q out d e) r
+pub written-replied : {q : Outcome} {out d e : List ℕ} {x : Outcome} {r : Reply} → Written q out d e x → r ≡ outcomeReply x
+    → Replied outcomeReply (Written q out d e) r
 written-replied h e = told _ h e
 
-pub product-replied : {q : Outcome} {out d e : List ℕ} {x : Product} {r : Reply} → ProductWritten q out d e x → r ≡ productReply x → Replied productReply (ProductWritten q out d e) r
+pub product-replied : {q : Outcome} {out d e : List ℕ} {x : Product} {r : Reply} → ProductWritten q out d e x → r ≡ productReply x
+    → Replied productReply (ProductWritten q out d e) r
 product-replied h e = told _ h e
 
-pub count-replied : {q : Outcome} {out d e : List ℕ} {x : CountAnswer} {r : Reply} → CountWritten q out d e x → r ≡ countReply x → Replied countReply (CountWritten q out d e) r
+pub count-replied : {q : Outcome} {out d e : List ℕ} {x : CountAnswer} {r : Reply} → CountWritten q out d e x → r ≡ countReply x
+    → Replied countReply (CountWritten q out d e) r
 count-replied h e = told _ h e
 
-pub run-replied : {q : Outcome} {n : ℕ} {out d e : List ℕ} {x : CountAnswer} {r : Reply} → RunAnswered q n out d e x → r ≡ countReply x → Replied countReply (RunAnswered q n out d e) r
+pub run-replied : {q : Outcome} {n : ℕ} {out d e : List ℕ} {x : CountAnswer} {r : Reply} → RunAnswered q n out d e x
+    → r ≡ countReply x → Replied countReply (RunAnswered q n out d e) r
 run-replied h e = told _ h e
 
 pub ruleset replies = (byte-replied, flag-replied, letter-replied, offset-replied, gate-replied, name-replied, written-replied, product-replied, count-replied, run-replied, needs)

@@ -4,23 +4,11 @@ use pauli::algebra;
 use pauli::pauli_string;
 use pauli::quarter_phase;
 use pauli::refusal;
+use vectors::Byte;
 use vectors::Case;
 use vectors::Outcome;
 use vectors::Reply;
 use vectors::Tally;
-
-// A number of a line as a byte.
-enum Byte {
-    Of(u8),
-    Wide,
-}
-
-fn narrow(n: u64) -> Byte {
-    if 255 < n {
-        return Byte::Wide;
-    }
-    Byte::Of(n as u8)
-}
 
 // The library's reply, as the reader has it.
 fn told(r: refusal::Reply) -> Reply {
@@ -29,7 +17,7 @@ fn told(r: refusal::Reply) -> Reply {
 
 // The functions of one byte.
 fn call_byte(line: &[u8], n1: u64) -> Reply {
-    let Byte::Of(p) = narrow(n1) else {
+    let Byte::Of(p) = vectors::narrow(n1) else {
         return Reply::Unknown;
     };
     if vectors::is_named(line, b"phase_conjugate") {
@@ -43,10 +31,10 @@ fn call_byte(line: &[u8], n1: u64) -> Reply {
 
 // The functions of two bytes, and those of one.
 fn call_bytes(line: &[u8], n1: u64, n2: u64) -> Reply {
-    let Byte::Of(p) = narrow(n1) else {
+    let Byte::Of(p) = vectors::narrow(n1) else {
         return Reply::Unknown;
     };
-    let Byte::Of(q) = narrow(n2) else {
+    let Byte::Of(q) = vectors::narrow(n2) else {
         return Reply::Unknown;
     };
     if vectors::is_named(line, b"phase_product") {
@@ -59,7 +47,7 @@ fn call_bytes(line: &[u8], n1: u64, n2: u64) -> Reply {
 }
 
 fn with_phase_and_paulis(n1: u64, entries: &[u8], d: &mut [u8]) -> Reply {
-    let Byte::Of(phase) = narrow(n1) else {
+    let Byte::Of(phase) = vectors::narrow(n1) else {
         return Reply::Unknown;
     };
     told(refusal::outcome_reply(pauli_string::with_phase_and_paulis(phase, entries, d)))

@@ -4,24 +4,12 @@ use clifford::clifford as gates;
 use clifford::clifford_rep;
 use gate_list::gate_list as lists;
 use pauli::refusal;
+use vectors::Byte;
 use vectors::Case;
 use vectors::Expected;
 use vectors::Outcome;
 use vectors::Reply;
 use vectors::Tally;
-
-// A number of a line as a byte.
-enum Byte {
-    Of(u8),
-    Wide,
-}
-
-fn narrow(n: u64) -> Byte {
-    if 255 < n {
-        return Byte::Wide;
-    }
-    Byte::Of(n as u8)
-}
 
 // The library's reply, as the reader has it.
 fn told(r: refusal::Reply) -> Reply {
@@ -37,7 +25,7 @@ fn named(r: gates::GateAnswer) -> Reply {
 }
 
 fn gate_compose(g: u8, n2: u64) -> Reply {
-    let Byte::Of(h) = narrow(n2) else {
+    let Byte::Of(h) = vectors::narrow(n2) else {
         return Reply::Unknown;
     };
     named(gates::compose(g, h))
@@ -45,7 +33,7 @@ fn gate_compose(g: u8, n2: u64) -> Reply {
 
 // The functions of a gate.
 fn call_gate(line: &[u8], case: Case, d: &mut [u8]) -> Reply {
-    let Byte::Of(g) = narrow(case.n1) else {
+    let Byte::Of(g) = vectors::narrow(case.n1) else {
         return Reply::Unknown;
     };
     if vectors::is_named(line, b"gate_compose") {

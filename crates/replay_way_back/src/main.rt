@@ -33,34 +33,26 @@ fn record_in(t: &[u8]) -> &[u8] {
     &t[0..len]
 }
 
-fn is_composed_in(a: &[u8], b: &[u8], record: &[u8], out: &mut [u8]) -> bool {
-    if !is_done(clifford_rep::compose(a, b, out)) {
-        return false;
-    }
-    vectors::same(record_in(out), record)
-}
-
 // Whether a composed with b is this record.
 fn is_composed(a: &[u8], b: &[u8], record: &[u8]) -> bool {
     let mut out = vectors::field_room();
-    is_composed_in(a, b, record, &mut out)
-}
-
-fn is_two_sided_in(back: &[u8], product: &[u8], one: &mut [u8]) -> bool {
-    if !is_done(clifford_rep::identity(width(product), one)) {
+    if !is_done(clifford_rep::compose(a, b, &mut out)) {
         return false;
     }
-    let due = record_in(one);
-    if !is_composed(back, product, due) {
-        return false;
-    }
-    is_composed(product, back, due)
+    vectors::same(record_in(&out), record)
 }
 
 // Whether the inverse undoes the product on both sides, to the identity of the product's width.
 fn is_two_sided(back: &[u8], product: &[u8]) -> bool {
     let mut one = vectors::field_room();
-    is_two_sided_in(back, product, &mut one)
+    if !is_done(clifford_rep::identity(width(product), &mut one)) {
+        return false;
+    }
+    let due = record_in(&one);
+    if !is_composed(back, product, due) {
+        return false;
+    }
+    is_composed(product, back, due)
 }
 
 fn is_valid(t: &[u8]) -> bool {
@@ -161,21 +153,17 @@ fn send(t: &[u8], strings: &[u8], d: &mut [u8]) -> Reply {
     Reply::Of(0, 0)
 }
 
-fn send_by(back: &[u8], now: &[u8], strings: &[u8], d: &mut [u8]) -> Reply {
-    let mut brought = vectors::field_room();
-    if !is_done(clifford_rep::compose(back, now, &mut brought)) {
-        return Reply::Unknown;
-    }
-    send(record_in(&brought), strings, d)
-}
-
 // Sends each string through the record that the inverse of the product brings back.
 fn send_back(now: &[u8], product: &[u8], strings: &[u8], d: &mut [u8]) -> Reply {
     let mut back = vectors::field_room();
     if !is_done(clifford_rep::inverse(product, &mut back)) {
         return Reply::Unknown;
     }
-    send_by(record_in(&back), now, strings, d)
+    let mut brought = vectors::field_room();
+    if !is_done(clifford_rep::compose(record_in(&back), now, &mut brought)) {
+        return Reply::Unknown;
+    }
+    send(record_in(&brought), strings, d)
 }
 
 fn call(

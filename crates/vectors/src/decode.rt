@@ -49,6 +49,19 @@ pub fn decimal(s: &[u8]) -> Number {
     Number::Of(value)
 }
 
+// A number as a byte.
+pub enum Byte {
+    Of(u8),
+    Wide,
+}
+
+pub fn narrow(n: u64) -> Byte {
+    if 255 < n {
+        return Byte::Wide;
+    }
+    Byte::Of(n as u8)
+}
+
 // What a field of bytes holds: how many, 0 where it is malformed.
 pub struct Decoded {
     pub ok: bool,
@@ -138,32 +151,27 @@ struct Run {
     next: usize,
 }
 
-fn no_run(next: usize) -> Run
-    ensures { λ r. ⌜ r .next ≡ next ⌝ }
-{
-    Run {
-        byte: 0,
-        times: 0,
-        next,
-    }
-}
-
 fn run_at(s: &[u8], at: usize) -> Run
     ensures { λ r. ⌜ Passed (now (s .entry)) at (r .next) ⌝ }
 {
+    let none = Run {
+        byte: 0,
+        times: 0,
+        next: s.len(),
+    };
     if s.len() < 2 {
-        return no_run(s.len());
+        return none;
     }
     if s.len() - 2 < at {
-        return no_run(s.len());
+        return none;
     }
     let high = hex_digit(s[at]);
     let low = hex_digit(s[at + 1]);
     if 15 < high {
-        return no_run(s.len());
+        return none;
     }
     if 15 < low {
-        return no_run(s.len());
+        return none;
     }
     let r = repeat_at(s, at + 2);
     Run {
@@ -181,18 +189,12 @@ fn fill(part: &mut [u8], x: u8) {
     }
 }
 
-fn malformed() -> Decoded
-    ensures { λ r. ⌜ r .len ≡ 0 ⌝ }
-{
-    Decoded { ok: false, len: 0 }
-}
-
 // Puts the bytes that a field spells at the front of `buf`. More than it holds is malformed.
 pub fn bytes(s: &[u8], buf: &mut [u8]) -> Decoded
     ensures { λ r. ⌜ r .len ≤ length (now (buf .entry)) ⌝ }
 {
     if s.len() == 0 {
-        return malformed();
+        return Decoded { ok: false, len: 0 };
     }
     if check::same(s, b"-") {
         return Decoded { ok: true, len: 0 };
@@ -203,10 +205,10 @@ pub fn bytes(s: &[u8], buf: &mut [u8]) -> Decoded
         let run = run_at(s, at);
         let times = run.times;
         if times == 0 {
-            return malformed();
+            return Decoded { ok: false, len: 0 };
         }
         if ((buf.len() - n) as u64) < times {
-            return malformed();
+            return Decoded { ok: false, len: 0 };
         }
         let end = n + times as usize;
         fill(&mut buf[n..end], run.byte);

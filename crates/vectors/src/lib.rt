@@ -25,10 +25,12 @@ mod scan;
 mod tally;
 
 pub use check::same;
+pub use decode::Byte;
 pub use decode::Decoded;
 pub use decode::Number;
 pub use decode::bytes;
 pub use decode::decimal;
+pub use decode::narrow;
 pub use reading::Case;
 pub use reading::Expected;
 pub use reading::Kind;

@@ -94,14 +94,10 @@ fn is_bad_syntax(line: &[u8]) -> bool {
     check::same(field(line, 8), b"!")
 }
 
-// How many fields a line has, by its reply.
-fn fields_due(line: &[u8]) -> usize {
-    if is_bad_syntax(line) { 9 } else { 11 }
-}
-
-// A name first, `=` before the reply, and no field too few or too many.
+// A name first, `=` before the reply, and as many fields as its reply makes.
 fn is_shaped(line: &[u8]) -> bool {
-    if fields(line) != fields_due(line) {
+    let due = if is_bad_syntax(line) { 9 } else { 11 };
+    if fields(line) != due {
         return false;
     }
     if !is_name(field(line, 0)) {
@@ -130,24 +126,21 @@ struct Numbers {
     n3: u64,
 }
 
-fn no_numbers() -> Numbers {
-    Numbers {
+fn read_numbers(line: &[u8]) -> Numbers {
+    let none = Numbers {
         ok: false,
         n1: 0,
         n2: 0,
         n3: 0,
-    }
-}
-
-fn read_numbers(line: &[u8]) -> Numbers {
+    };
     let Number::Of(n1) = decimal(field(line, 3)) else {
-        return no_numbers();
+        return none;
     };
     let Number::Of(n2) = decimal(field(line, 4)) else {
-        return no_numbers();
+        return none;
     };
     let Number::Of(n3) = decimal(field(line, 5)) else {
-        return no_numbers();
+        return none;
     };
     Numbers {
         ok: true,

@@ -92,26 +92,6 @@ impl Tally {
         }
     }
 
-    fn blank(self) -> Tally
-        ensures { λ r. ⌜ Tallied Outcome.Blank self r ⌝ }
-    {
-        Tally {
-            lines: more(self.lines),
-            cases: self.cases,
-            mismatches: self.mismatches,
-        }
-    }
-
-    fn matched(self) -> Tally
-        ensures { λ r. ⌜ Tallied Outcome.Match self r ⌝ }
-    {
-        Tally {
-            lines: more(self.lines),
-            cases: more(self.cases),
-            mismatches: self.mismatches,
-        }
-    }
-
     fn mismatched(self, why: &[u8]) -> Tally
         ensures { λ r. ⌜ Tallied Outcome.Mismatch self r ⌝ }
     {
@@ -131,8 +111,16 @@ impl Tally {
         ensures { λ r. ⌜ Tallied outcome self r ⌝ }
     {
         match outcome {
-            Outcome::Blank => self.blank(),
-            Outcome::Match => self.matched(),
+            Outcome::Blank => Tally {
+                lines: more(self.lines),
+                cases: self.cases,
+                mismatches: self.mismatches,
+            },
+            Outcome::Match => Tally {
+                lines: more(self.lines),
+                cases: more(self.cases),
+                mismatches: self.mismatches,
+            },
             Outcome::Mismatch => self.mismatched(b": mismatch\n"),
             Outcome::Malformed => self.mismatched(b": malformed\n"),
             Outcome::Unknown => self.mismatched(b": unknown function\n"),

@@ -108,25 +108,44 @@ pub fn with_phase_and_paulis(phase: u8, entries: &[u8], dst: &mut [u8]) -> Answe
 /// Writes the string of a sparse text, as "-i X0 z 7".
 pub fn from_sparse_str(text: &[u8], dst: &mut [u8]) -> Answer {
     answer(unsafe {
-        raw::rc_from_sparse_str(text.as_ptr(), text.len(), dst.as_mut_ptr(), dst.len())
+        raw::rc_from_sparse_str(
+            text.as_ptr().cast(),
+            text.len(),
+            dst.as_mut_ptr(),
+            dst.len(),
+        )
     })
 }
 
 /// Writes the string of a dense text, as "-iXIIIIIIZ".
 pub fn from_dense_str(text: &[u8], dst: &mut [u8]) -> Answer {
     answer(unsafe {
-        raw::rc_from_dense_str(text.as_ptr(), text.len(), dst.as_mut_ptr(), dst.len())
+        raw::rc_from_dense_str(
+            text.as_ptr().cast(),
+            text.len(),
+            dst.as_mut_ptr(),
+            dst.len(),
+        )
     })
 }
 
 /// Writes the string of a text: sparse where it has a digit, otherwise dense.
 pub fn from_str(text: &[u8], dst: &mut [u8]) -> Answer {
-    answer(unsafe { raw::rc_from_str(text.as_ptr(), text.len(), dst.as_mut_ptr(), dst.len()) })
+    answer(unsafe {
+        raw::rc_from_str(
+            text.as_ptr().cast(),
+            text.len(),
+            dst.as_mut_ptr(),
+            dst.len(),
+        )
+    })
 }
 
 /// Writes the string's sparse text; the value is its length.
 pub fn to_sparse_str(s: &[u8], dst: &mut [u8]) -> Answer {
-    answer(unsafe { raw::rc_to_sparse_str(s.as_ptr(), s.len(), dst.as_mut_ptr(), dst.len()) })
+    answer(unsafe {
+        raw::rc_to_sparse_str(s.as_ptr(), s.len(), dst.as_mut_ptr().cast(), dst.len())
+    })
 }
 
 /// Writes the identity of width n.
@@ -209,7 +228,7 @@ pub fn from_pauli_string(s: &[u8], dst: &mut [u8]) -> Answer {
 
 /// Writes the tableau's text, a line for each generator; the value is its length.
 pub fn display(t: &[u8], dst: &mut [u8]) -> Answer {
-    answer(unsafe { raw::rc_display(t.as_ptr(), t.len(), dst.as_mut_ptr(), dst.len()) })
+    answer(unsafe { raw::rc_display(t.as_ptr(), t.len(), dst.as_mut_ptr().cast(), dst.len()) })
 }
 
 /// Writes one of the 24 products of H and SZ, by its index from 0 to 23, on a qubit.
@@ -256,5 +275,12 @@ pub fn run(list: &[u8], dst: &mut [u8]) -> Answer {
 /// Writes what the program writes of the list: its run's display text, or "refused N at D" and a newline; the value is its length.
 #[cfg(feature = "lists")]
 pub fn report(list: &[u8], out: &mut [u8]) -> Answer {
-    answer(unsafe { raw::rc_report(list.as_ptr(), list.len(), out.as_mut_ptr(), out.len()) })
+    answer(unsafe {
+        raw::rc_report(
+            list.as_ptr(),
+            list.len(),
+            out.as_mut_ptr().cast(),
+            out.len(),
+        )
+    })
 }

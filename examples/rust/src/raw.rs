@@ -1,5 +1,7 @@
 //! The declarations of `include/renetcleat.h`.
 
+use std::ffi::c_char;
+
 /// Number 0 and a value, or a refusal's number and its detail.
 #[repr(C)]
 #[derive(Debug, Clone, Copy, PartialEq, Eq)]
@@ -33,19 +35,20 @@ unsafe extern "C" {
         dst_len: usize,
     ) -> Reply;
     pub fn rc_from_sparse_str(
-        text: *const u8,
+        text: *const c_char,
         text_len: usize,
         dst: *mut u8,
         dst_len: usize,
     ) -> Reply;
     pub fn rc_from_dense_str(
-        text: *const u8,
+        text: *const c_char,
         text_len: usize,
         dst: *mut u8,
         dst_len: usize,
     ) -> Reply;
-    pub fn rc_from_str(text: *const u8, text_len: usize, dst: *mut u8, dst_len: usize) -> Reply;
-    pub fn rc_to_sparse_str(s: *const u8, s_len: usize, dst: *mut u8, dst_len: usize) -> Reply;
+    pub fn rc_from_str(text: *const c_char, text_len: usize, dst: *mut u8, dst_len: usize)
+    -> Reply;
+    pub fn rc_to_sparse_str(s: *const u8, s_len: usize, dst: *mut c_char, dst_len: usize) -> Reply;
     pub fn rc_identity(n: usize, dst: *mut u8, dst_len: usize) -> Reply;
     pub fn rc_x_image(t: *const u8, t_len: usize, slot: usize) -> Reply;
     pub fn rc_z_image(t: *const u8, t_len: usize, slot: usize) -> Reply;
@@ -90,7 +93,7 @@ unsafe extern "C" {
     pub fn rc_is_valid(t: *const u8, t_len: usize) -> Reply;
     pub fn rc_support_qubits(t: *const u8, t_len: usize, dst: *mut u8, dst_len: usize) -> Reply;
     pub fn rc_from_pauli_string(s: *const u8, s_len: usize, dst: *mut u8, dst_len: usize) -> Reply;
-    pub fn rc_display(t: *const u8, t_len: usize, dst: *mut u8, dst_len: usize) -> Reply;
+    pub fn rc_display(t: *const u8, t_len: usize, dst: *mut c_char, dst_len: usize) -> Reply;
     pub fn rc_single_qubit_clifford(
         index: usize,
         qubit: usize,
@@ -104,5 +107,5 @@ unsafe extern "C" {
     pub fn rc_gate_inverse(g: u8) -> Reply;
     pub fn rc_from_clifford_rep(t: *const u8, t_len: usize) -> Reply;
     pub fn rc_run(list: *const u8, list_len: usize, dst: *mut u8, dst_len: usize) -> Reply;
-    pub fn rc_report(list: *const u8, list_len: usize, out: *mut u8, out_len: usize) -> Reply;
+    pub fn rc_report(list: *const u8, list_len: usize, out: *mut c_char, out_len: usize) -> Reply;
 }

@@ -120,17 +120,18 @@ const HEAD: &str = "# Benchmarks
 Made by `tools/bench`, never part of the tests. One driver times three sides on the same inputs, once all three have given the same
 answer; a figure is the least of repeated runs.
 
-- Rust: PECOS's own files (`tools/oracle`), an ordinary release build, called directly on its own values; nothing is read or written as
-  a record inside the timed part.
+- Rust: PECOS's own files (`tools/oracle`), an ordinary release build, called directly on its own values; nothing is read or written
+  as a record inside the timed part.
 - this library: through the C interface, questions on entry included.
 - plain C: `tools/benching/src/plain.c`, loops over bytes with tables, `gcc -O3`. It trusts its inputs.
 
 Strings have any letters on the qubits named and I on the others. Tableaux are valid, of random gates; how many of their letters are
-not I stands beside the width, and 75 % is full. A list's gates and qubits are random; in the Rust each step composes the gate's tableau
-with the record. A gate played by itself (`play`) is CX on a full tableau, which the library reads through for its questions.
+not I stands beside the width, and 75 % is full. A list's gates and qubits are random; in the Rust each step composes the gate's
+tableau with the record. A gate played by itself (`play`) is CX on a full tableau, which the library reads through for its
+questions.
 
-The Rust's time goes by the letters that are not I, this library's much less: on sparse tableaux the ratio is smaller, and the goals are
-those of full ones.
+The Rust's time goes by the letters that are not I, this library's much less: on sparse tableaux the ratio is smaller, and the goals
+are those of full ones.
 ";
 
 /// The page; `load` is the machine's load before the first figure.

@@ -104,10 +104,10 @@ fn reply(call: &Call, b1: &mut Lent, b2: &mut Lent, d: &mut Lent) -> Reply {
             "commutes_with" => raw::rc_commutes_with(p1, l1, p2, l2),
             "mul" => raw::rc_mul(p1, l1, p2, l2, pd, ld),
             "with_phase_and_paulis" => raw::rc_with_phase_and_paulis(byte(n1), p1, l1, pd, ld),
-            "from_sparse_str" => raw::rc_from_sparse_str(p1, l1, pd, ld),
-            "from_dense_str" => raw::rc_from_dense_str(p1, l1, pd, ld),
-            "from_str" => raw::rc_from_str(p1, l1, pd, ld),
-            "to_sparse_str" => raw::rc_to_sparse_str(p1, l1, pd, ld),
+            "from_sparse_str" => raw::rc_from_sparse_str(p1.cast(), l1, pd, ld),
+            "from_dense_str" => raw::rc_from_dense_str(p1.cast(), l1, pd, ld),
+            "from_str" => raw::rc_from_str(p1.cast(), l1, pd, ld),
+            "to_sparse_str" => raw::rc_to_sparse_str(p1, l1, pd.cast(), ld),
             "identity" => raw::rc_identity(size(n1), pd, ld),
             "x_image" => raw::rc_x_image(p1, l1, size(n1)),
             "z_image" => raw::rc_z_image(p1, l1, size(n1)),
@@ -120,7 +120,7 @@ fn reply(call: &Call, b1: &mut Lent, b2: &mut Lent, d: &mut Lent) -> Reply {
             "is_valid" => raw::rc_is_valid(p1, l1),
             "support_qubits" => raw::rc_support_qubits(p1, l1, pd, ld),
             "from_pauli_string" => raw::rc_from_pauli_string(p1, l1, pd, ld),
-            "display" => raw::rc_display(p1, l1, pd, ld),
+            "display" => raw::rc_display(p1, l1, pd.cast(), ld),
             "single_qubit_clifford" => raw::rc_single_qubit_clifford(size(n1), size(n2), pd, ld),
             "on_qubits" => raw::rc_on_qubits(byte(n1), size(n2), size(n3), pd, ld),
             "on_qubit" => raw::rc_on_qubit(byte(n1), size(n2), pd, ld),
@@ -131,7 +131,7 @@ fn reply(call: &Call, b1: &mut Lent, b2: &mut Lent, d: &mut Lent) -> Reply {
             #[cfg(feature = "lists")]
             "run" => raw::rc_run(p1, l1, pd, ld),
             #[cfg(feature = "lists")]
-            "report" => raw::rc_report(p1, l1, pd, ld),
+            "report" => raw::rc_report(p1, l1, pd.cast(), ld),
             name => panic!("{name} is not called"),
         }
     }

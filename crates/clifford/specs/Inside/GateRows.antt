@@ -1,5 +1,5 @@
 -- The entries of the gates' tables and the rows made from them, as the functions on them promise one another.
-use Prim.Native.Nat.{ℕ, zero, suc, _+_, _*_, _≤_, _<_}
+use Prim.Native.Nat.{ℕ, zero, suc, _+_, _≤_, _<_}
 use mathlib.Core.Path.{_≡_}
 use mathlib.Core.Bool.{Bool, cond, _&&_}
 use mathlib.Core.List.{List, [], _∷_}
@@ -11,9 +11,7 @@ use Rattle.clifford_gates.specs.Gates.{Image, oneQubitGates, PairImage, TwoQubi
 use Rattle.clifford_gates.specs.GateNumbers.{isMinus, firstWith}
 use Rattle.pauli.specs.Layout.{phaseByte, phaseOf, letterByte, letterOf}
 use Rattle.pauli.specs.declared.algebra.PhasedLetter.{PhasedLetter}
-use Rattle.clifford.specs.declared.gates.PairBytes.{PairBytes}
 use Rattle.clifford.specs.declared.gates.RowImage.{RowImage}
-use Rattle.clifford.specs.Layout.{rowLength, recordLength}
 use Rattle.clifford.specs.Inside.Writing.{IsGenerator}
 use Rattle.clifford.specs.GateQuestions.{gateWidth}
 use Rattle.clifford.specs.GateRows.{imageBytes}
@@ -27,10 +25,10 @@ pairBytes g =
     phaseByte (g .z1 .phase) ∷ letterByte (g .z1 .first) ∷ letterByte (g .z1 .second) ∷ []
 
 -- an image on two qubits as a phase byte and two letter bytes
-pub record PairOf (i : PairImage) (r : PairBytes) : Type 0 where
-  pub phase : r .0 ≡ phaseByte (i .phase)
-  pub first : r .1 ≡ letterByte (i .first)
-  pub second : r .2 ≡ letterByte (i .second)
+pub record PairOf (i : PairImage) (x : RowImage) : Type 0 where
+  pub phase : x .sign ≡ phaseByte (i .phase)
+  pub first : x .first ≡ letterByte (i .first)
+  pub second : x .second ≡ letterByte (i .second)
 
 -- the image of the letter byte 1, X, or of another, Z
 unfoldable pub generatorImage : PairImage → PairImage → ℕ → PairImage
@@ -42,6 +40,11 @@ generatorImage x z (suc (suc l)) = z
 pub record TakesTwo (g : ℕ) : Type 0 where
   pub from : 24 ≤ g
   pub below : g < 38
+
+-- and a place of its entry where an image starts
+pub record EntryPlace (g k : ℕ) : Type 0 where
+  pub two : TakesTwo g
+  pub inside : k ≤ 9
 
 -- ---- gates found by their images
 
@@ -83,8 +86,9 @@ pub record OneRow (s : PauliString) (k : ℕ) (i : RowImage) : Type 0 where
   pub first : i .place ≡ k
   pub second : i .other ≡ k
 
-unfoldable pub pairOn : PairBytes → ℕ → ℕ → RowImage
-pairOn p q r = record { sign = p .0; first = p .1; place = q; second = p .2; other = r }
+-- the image that starts at the place k of an entry, on the qubits q and r
+unfoldable pub entryPair : List ℕ → ℕ → ℕ → ℕ → RowImage
+entryPair e k q r = record { sign = getD e k 0; first = getD e (k + 1) 0; place = q; second = getD e (k + 2) 0; other = r }
 
 -- i is the string s, of w letters
 pub record RowImageOf (w : ℕ) (s : PauliString) (i : RowImage) : Type 0 where
@@ -102,10 +106,9 @@ pub record GateOn (g q r : ℕ) : Type 0 where
   pub second : 24 ≤ g → r < 128
   pub different : 24 ≤ g → q ≢ r
 
--- the same, with X or Z on a qubit below the gate's width
-pub record ImageAsked (g q r k l : ℕ) : Type 0 where
+-- the same, with X or Z
+pub record ImageAsked (g q r l : ℕ) : Type 0 where
   pub on : GateOn g q r
-  pub place : k < gateWidth g q r
   pub letter : IsGenerator l
 
 -- an image, and a work row of any content that it fits
@@ -115,39 +118,10 @@ pub record PutsImage (i : RowImage) (d : List ℕ) : Type 0 where
   pub second : i .other + 1 < length d
   pub narrow : length d ≤ 129
 
--- the tableau of a gate at its width w, into d; row i of it, into out; and by way of the work row k
-pub record WritesGate (g q r w : ℕ) (d : List ℕ) : Type 0 where
-  pub on : GateOn g q r
-  pub wide : w ≡ gateWidth g q r
-  pub narrow : w ≤ 128
-  pub room : recordLength w ≤ length d
-
-pub record WritesGateRow (g q r w i : ℕ) (out : List ℕ) : Type 0 where
-  pub on : GateOn g q r
-  pub wide : w ≡ gateWidth g q r
-  pub narrow : w ≤ 128
-  pub own : i < 2 * w
-  pub room : rowLength w ≤ length out
-
-pub record WritesGateBy (g q r w i : ℕ) (k out : List ℕ) : Type 0 where
-  pub row : WritesGateRow g q r w i out
-  pub work : length k ≡ w + 1
-
 -- w is the width of a gate's tableau
 pub record GateSpan (g q r w : ℕ) : Type 0 where
   pub is : w ≡ gateWidth g q r
   pub small : w ≤ 128
-
--- a gate and its qubits, and room for its tableau
-pub record GateFits (g q r : ℕ) (d : List ℕ) : Type 0 where
-  pub on : GateOn g q r
-  pub room : recordLength (gateWidth g q r) ≤ length d
-
--- a one-qubit gate and its qubit, and room for its tableau
-pub record OneFits (g q : ℕ) (d : List ℕ) : Type 0 where
-  pub gate : g < 24
-  pub qubit : q < 128
-  pub room : recordLength (suc q) ≤ length d
 
 -- two one-qubit gates
 pub record BothSmall (g h : ℕ) : Type 0 where

@@ -1,5 +1,5 @@
 -- The rows of an inverse in the order of its record: their bodies, which have the letters by the symplectic transpose.
-use Prim.Native.Nat.{ℕ, _+_, _*_, _≤_, _<_}
+use Prim.Native.Nat.{ℕ, _+_, _*_, _<_}
 use mathlib.Core.Path.{_≡_}
 use mathlib.Core.Bool.{Bool, true, false, cond}
 use mathlib.Core.List.{List}
@@ -8,8 +8,7 @@ use lib.ListN.{length}
 use Rattle.pauli_group.specs.Letter.{Letter}
 use Rattle.pauli_group.specs.PauliString.{PauliString}
 use Rattle.clifford_group.specs.Tableau.{Tableau, hasX, hasZ, transposed}
-use Rattle.pauli.specs.Layout.{encodeString}
-use Rattle.clifford.specs.Layout.{rowLength, recordLength, rowOf, widthOf, tableauOf, FormedTableau, rowQubit}
+use Rattle.clifford.specs.Layout.{rowOf, widthOf, rowQubit}
 use Rattle.clifford.specs.Inside.Rows.{OwnRow}
 
 -- which bit of a letter row r of the inverse reads, of width w: the z bit for an X row and the x bit for a Z row
@@ -49,29 +48,8 @@ pub record WritesBody (b : List ℕ) (w r : ℕ) (d : List ℕ) : Type 0 where
   pub row : RowBack b w r
   pub long : length d ≡ w + 1
 
--- the same, with its body s, to be sent forward into the work row k
-pub record SendsBody (b : List ℕ) (w r : ℕ) (s k : List ℕ) : Type 0 where
+-- the same, with work rows s and k of any content
+pub record InvertsRow (b : List ℕ) (w r : ℕ) (s k : List ℕ) : Type 0 where
   pub row : RowBack b w r
-  pub body : s ≡ encodeString w (bodyOf (tableauOf b) r)
+  pub source : length s ≡ w + 1
   pub work : length k ≡ w + 1
-
--- row r, into out; and by way of the work rows s, for its body, and k
-pub record InvertsRow (b : List ℕ) (w r : ℕ) (out : List ℕ) : Type 0 where
-  pub row : RowBack b w r
-  pub room : rowLength w ≤ length out
-
-pub record InvertsBy (b : List ℕ) (w r : ℕ) (s k out : List ℕ) : Type 0 where
-  pub inverts : InvertsRow b w r out
-  pub body : length s ≡ w + 1
-  pub work : length k ≡ w + 1
-
--- all rows, into d; and at the width w that b has
-pub record InvertsTo (b d : List ℕ) : Type 0 where
-  pub tableau : FormedTableau b
-  pub room : recordLength (widthOf b) ≤ length d
-
-pub record Inverts (b : List ℕ) (w : ℕ) (d : List ℕ) : Type 0 where
-  pub tableau : FormedTableau b
-  pub wide : w ≡ widthOf b
-  pub narrow : w ≤ 128
-  pub room : recordLength w ≤ length d

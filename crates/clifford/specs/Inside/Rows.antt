@@ -10,16 +10,16 @@ use Rattle.pauli_group.specs.Letter.{anticommute}
 use Rattle.pauli_group.specs.PauliString.{PauliString, mul, scale, identityString}
 use Rattle.clifford_group.specs.Tableau.{Tableau}
 use Rattle.pauli.specs.Layout.{phaseByte, phaseOf, letterOf, encodeString, decodeString, WellFormed}
-use Rattle.clifford.specs.Layout.{rowLength, encodeRow, rowPart, widthOf, FormedTableau}
+use Rattle.clifford.specs.Layout.{rowLength, encodeRow, lettersOf, rowPart, recordLength, longestRecord, widthOf, FormedTableau}
 
--- r is the size or offset n in a record, at most 33025
+-- r is the size or offset n in a record
 pub record Sized (n r : ℕ) : Type 0 where
   pub is : r ≡ n
-  pub small : r ≤ 33025
+  pub small : r ≤ longestRecord
 
 -- the letter bytes of row r of a record
 unfoldable pub rowLetters : List ℕ → ℕ → List ℕ
-rowLetters b r = drop 1 (rowPart b r)
+rowLetters b r = lettersOf (rowPart b r)
 
 -- the letters of a work row in number, and its string
 abbrev pub lettersIn : List ℕ → ℕ
@@ -62,6 +62,15 @@ pub record RowIndex (w r : ℕ) : Type 0 where
 -- a row of the record b
 pub record OwnRow (b : List ℕ) (r : ℕ) : Type 0 where
   pub tableau : FormedTableau b
+  pub own : r < 2 * widthOf b
+
+-- b is as long as its width says, whatever its bytes; and a row of such a b
+pub record Laid (b : List ℕ) : Type 0 where
+  pub narrow : widthOf b ≤ 128
+  pub long : length b ≡ recordLength (widthOf b)
+
+pub record RowInside (b : List ℕ) (r : ℕ) : Type 0 where
+  pub laid : Laid b
   pub own : r < 2 * widthOf b
 
 -- two rows of it; a qubit of it; and two qubits
@@ -130,16 +139,21 @@ pub record Finished (d out : List ℕ) : Type 0 where
   pub row : WellFormed (lettersIn d) d
   pub room : rowLength (lettersIn d) ≤ length out
 
--- a string s to be sent through the record b into a work row d of any content
-pub record Sends (b s d : List ℕ) : Type 0 where
+-- the record b to be applied to a string s, into a work row d of any content
+pub record AppliesString (b s d : List ℕ) : Type 0 where
   pub tableau : FormedTableau b
   pub string : WellFormed (lettersIn s) s
   pub wide : widthOf b < length d
   pub reach : length s ≤ length d
   pub narrow : length d ≤ 129
 
--- a letter on qubit q to be sent through it
-pub record SendsLetter (b d : List ℕ) (q : ℕ) : Type 0 where
+-- the same, and room for the image as a row
+pub record AppliesRow (b s d out : List ℕ) : Type 0 where
+  pub applies : AppliesString b s d
+  pub room : rowLength (lettersIn d) ≤ length out
+
+-- the same, to a letter on qubit q
+pub record AppliesLetter (b d : List ℕ) (q : ℕ) : Type 0 where
   pub tableau : FormedTableau b
   pub wide : widthOf b < length d
   pub place : q + 1 < length d

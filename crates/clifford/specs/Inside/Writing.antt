@@ -1,86 +1,21 @@
 -- What a function that writes may count on once the questions have let it by.
-use Prim.Native.Nat.{ℕ, _+_, _*_, _≤_, _<_, max}
+use Prim.Native.Nat.{ℕ, _+_, _*_, _≤_, _<_}
 use mathlib.Core.Path.{_≡_}
 use mathlib.Core.Bool.{true, cond}
 use mathlib.Core.List.{List}
 use lib.ListN.{length, set}
-use Rattle.pauli_group.specs.PauliString.{Within}
+use Rattle.pauli_group.specs.PauliString.{PauliString, scale, commutationSign, Within}
 use Rattle.pauli.specs.Layout.{stringLength, stringOf, WellFormed}
-use Rattle.clifford.specs.Layout.{rowLength, recordLength, widthOf, tableauOf, FormedTableau}
+use Rattle.clifford.specs.Layout.{widthOf, tableauOf, FormedTableau}
 use Rattle.clifford.specs.Images.{spanTo}
 use Rattle.clifford.specs.Support.{inSupport, supportQubits}
-use Rattle.clifford.specs.Inside.Rows.{OwnRow, OwnQubit, Sends, lettersIn}
+use Rattle.clifford.specs.Inside.Rows.{OwnRow, OwnQubit}
 
 -- a tableau and a string, and room for a string
 pub record Applies (t s d : List ℕ) : Type 0 where
   pub tableau : FormedTableau t
   pub string : WellFormed 128 s
   pub room : stringLength ≤ length d
-
--- a string to be sent through t into the work row k, and room for the row
-pub record SendsRow (t s k out : List ℕ) : Type 0 where
-  pub sends : Sends t s k
-  pub room : rowLength (lettersIn k) ≤ length out
-
--- ---- a tableau widened
-
--- the identity of width n, into d
-pub record Identifies (n : ℕ) (d : List ℕ) : Type 0 where
-  pub narrow : n ≤ 128
-  pub room : recordLength n ≤ length d
-
--- to the larger of its own width and n, into d
-pub record ExtendsTo (t : List ℕ) (n : ℕ) (d : List ℕ) : Type 0 where
-  pub tableau : FormedTableau t
-  pub narrow : n ≤ 128
-  pub room : recordLength (max (widthOf t) n) ≤ length d
-
--- to the width w, into d
-pub record Extends (t : List ℕ) (w : ℕ) (d : List ℕ) : Type 0 where
-  pub tableau : FormedTableau t
-  pub wide : widthOf t ≤ w
-  pub narrow : w ≤ 128
-  pub room : recordLength w ≤ length d
-
--- row r of it, into out
-pub record ExtendsRow (t : List ℕ) (w r : ℕ) (out : List ℕ) : Type 0 where
-  pub tableau : FormedTableau t
-  pub wide : widthOf t ≤ w
-  pub narrow : w ≤ 128
-  pub own : r < 2 * w
-  pub room : rowLength w ≤ length out
-
--- by way of the work row k
-pub record ExtendsBy (t : List ℕ) (w r : ℕ) (k out : List ℕ) : Type 0 where
-  pub row : ExtendsRow t w r out
-  pub work : length k ≡ w + 1
-
--- ---- two tableaux composed
-
-pub record ComposesTo (a b d : List ℕ) : Type 0 where
-  pub first : FormedTableau a
-  pub second : FormedTableau b
-  pub room : recordLength (max (widthOf a) (widthOf b)) ≤ length d
-
--- at the width w that the two have
-pub record Composes (a b : List ℕ) (w : ℕ) (d : List ℕ) : Type 0 where
-  pub first : FormedTableau a
-  pub second : FormedTableau b
-  pub wide : w ≡ max (widthOf a) (widthOf b)
-  pub room : recordLength w ≤ length d
-
-pub record ComposesRow (a b : List ℕ) (w r : ℕ) (out : List ℕ) : Type 0 where
-  pub first : FormedTableau a
-  pub second : FormedTableau b
-  pub wide : w ≡ max (widthOf a) (widthOf b)
-  pub own : r < 2 * w
-  pub room : rowLength w ≤ length out
-
--- by way of the work rows s, for b's row, and k
-pub record ComposesBy (a b : List ℕ) (w r : ℕ) (s k out : List ℕ) : Type 0 where
-  pub row : ComposesRow a b w r out
-  pub source : length s ≡ w + 1
-  pub work : length k ≡ w + 1
 
 -- ---- an image set
 
@@ -112,24 +47,16 @@ pub record IsGenerator (l : ℕ) : Type 0 where
   pub some : 0 < l
   pub small : l < 3
 
-pub record SignsTo (s d : List ℕ) : Type 0 where
-  pub string : WellFormed 128 s
-  pub room : recordLength (spanTo 128 (stringOf s)) ≤ length d
+-- conjugation by s keeps the letter x up to the sign by which the two change places
+unfoldable pub conjugated : PauliString → PauliString → PauliString
+conjugated s x = scale (commutationSign s x) x
 
-pub record Signs (s : List ℕ) (w : ℕ) (d : List ℕ) : Type 0 where
+-- a string, X or Z on a qubit, and a work row of any content that has the qubit
+pub record PauliRow (s : List ℕ) (q l : ℕ) (k : List ℕ) : Type 0 where
   pub string : WellFormed 128 s
-  pub wide : Span s w
-  pub room : recordLength w ≤ length d
-
-pub record SignsRow (s : List ℕ) (w r : ℕ) (out : List ℕ) : Type 0 where
-  pub string : WellFormed 128 s
-  pub wide : Span s w
-  pub own : r < 2 * w
-  pub room : rowLength w ≤ length out
-
-pub record SignsBy (s : List ℕ) (w r : ℕ) (k out : List ℕ) : Type 0 where
-  pub row : SignsRow s w r out
-  pub work : length k ≡ w + 1
+  pub letter : IsGenerator l
+  pub place : q + 1 < length k
+  pub narrow : length k ≤ 129
 
 -- ---- the support
 

@@ -13,6 +13,4 @@ check-play-spec =
     (λ c. search play-questions)
     (λ c. search play-questions)
     (λ c. search play-questions)
-    (λ c. search play-questions)
-    (λ c. search play-questions)
     (λ c. search play-questions))

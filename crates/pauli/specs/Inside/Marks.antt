@@ -3,15 +3,16 @@
 use Prim.Native.Nat.{ℕ, zero, suc, _≤_, _<_}
 use mathlib.Core.Path.{_≡_}
 use mathlib.Core.Bool.{Bool, cond}
-use mathlib.Core.List.{List}
+use mathlib.Core.List.{List, _++_}
 use lib.Dec.{eqb, leb}
-use lib.ListN.{length, getD}
+use lib.ListN.{length, getD, drop}
 use Rattle.pauli_group.specs.PauliString.{qubits}
 use Rattle.pauli.specs.declared.refusal.Refusal.the-variants.{Duplicate}
 use Rattle.pauli.specs.declared.refusal.Outcome.{Outcome}
 use Rattle.pauli.specs.declared.refusal.Outcome.the-variants.{Done}
 use Rattle.pauli.specs.Questions.{ask, withPhaseQuestions}
 use Rattle.pauli.specs.Places.{listed, firstPlace}
+use Rattle.pauli.specs.Rows.{shorter}
 use Rattle.pauli.specs.Entries.{entryCount, entryLetter, entryQubit}
 
 -- a mark after one more entry with letter l
@@ -63,6 +64,10 @@ pub record EntriesRead (p : ℕ) (e : List ℕ) (room : ℕ) (m : List ℕ) (r :
 -- the letters that the marks stand for
 unfoldable pub lettersMarked : ℕ → List ℕ → List ℕ
 lettersMarked n m = listed n (λ q. unmarked (getD m q 0))
+
+-- those letters over the front of d, as far as both reach
+abbrev pub lettersOver : List ℕ → List ℕ → List ℕ
+lettersOver m d = lettersMarked (shorter m d) m ++ drop (shorter m d) d
 
 -- 128 marks, and room for a string record
 pub record MarksFit (m d : List ℕ) : Type 0 where

@@ -1,7 +1,9 @@
 -- What the pieces of the kernels promise. A place's phase is counted in quarter turns, the exponent of i; Y = iXZ and ZX = -XZ.
-use Prim.Native.Nat.{ℕ, zero, suc, _≤_}
+use Prim.Native.Nat.{ℕ, zero, suc, _≤_, _<_}
 use mathlib.Core.Path.{_≡_}
 use mathlib.Core.Bool.{cond}
+use mathlib.Core.List.{List}
+use lib.ListN.{getD}
 use Rattle.pauli_group.specs.Letter.{letterPhase, anticommute}
 use Rattle.pauli_group.specs.Papers.{power}
 use Rattle.pauli.specs.Layout.{phaseOf, letterByte, letterOf}
@@ -32,3 +34,7 @@ pub record PhaseTurns (p t : ℕ) : Type 0 where
 -- 1 where two letter bytes anticommute, else 0
 unfoldable pub anticommuting : ℕ → ℕ → ℕ
 anticommuting a b = cond (anticommute (letterOf a) (letterOf b)) 1 0
+
+-- no byte before place i is above m
+pub record NoneAbove (s : List ℕ) (i m : ℕ) : Type 0 where
+  pub each : (k : ℕ) → k < i → getD s k 0 ≤ m

@@ -8,6 +8,11 @@ on-qubit-spec =
     tie.close
     (tie.spec
     (λ c κs. search one-qubit-answers)
+    (λ c κs. search one-qubit-answers)
+    (λ c κs. search one-qubit-answers)
+    (λ c. search one-qubit-answers)
+    (λ c. search one-qubit-answers)
+    (λ c. search one-qubit-answers)
     (λ c. search one-qubit-answers)
     (λ c κs. search one-qubit-answers)
     (λ c. search one-qubit-answers)

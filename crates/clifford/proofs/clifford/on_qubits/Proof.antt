@@ -8,7 +8,12 @@ on-qubits-spec =
     tie.close
     (tie.spec
     (λ c κs. search gate-answers)
+    (λ c κs. search gate-answers)
+    (λ c κs. search gate-answers)
     (λ c. search gate-answers)
+    (λ c. search gate-answers)
+    (λ c. search gate-answers)
+    (λ c κs. search gate-answers)
     (λ c κs. search gate-answers)
     (λ c. search gate-answers)
     (λ c. search gate-answers)

@@ -8,6 +8,12 @@ single-qubit-clifford-spec =
     tie.close
     (tie.spec
     (λ c κs. search one-qubit-answers)
+    (λ c κs. search one-qubit-answers)
+    (λ c κs. search one-qubit-answers)
+    (λ c. search one-qubit-answers)
+    (λ c κs. search one-qubit-answers)
+    (λ c. search one-qubit-answers)
+    (λ c. search one-qubit-answers)
     (λ c. search one-qubit-answers)
     (λ c κs. search one-qubit-answers)
     (λ c. search one-qubit-answers)

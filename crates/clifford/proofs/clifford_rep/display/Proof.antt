@@ -1,5 +1,5 @@
 -- `clifford_rep::display` meets its contract: the questions, and the text where they let it by.
-use Rattle.clifford.proofs.Displays.{displays}
+use Rattle.clifford.proofs.Display.{displays}
 use Rattle.clifford.proofs.clifford_rep.display.Statement.{statement}
 use Rattle.clifford.proofs.clifford_rep.display.Tie as tie
 

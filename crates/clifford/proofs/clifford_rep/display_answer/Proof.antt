@@ -1,5 +1,5 @@
 -- `clifford_rep::display_answer` meets its contract: the questions in their order.
-use Rattle.clifford.proofs.Displays.{displays}
+use Rattle.clifford.proofs.Display.{displays}
 use Rattle.clifford.proofs.clifford_rep.display_answer.Statement.{statement}
 use Rattle.clifford.proofs.clifford_rep.display_answer.Tie as tie
 

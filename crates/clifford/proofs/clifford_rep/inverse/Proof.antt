@@ -1,5 +1,5 @@
--- `clifford_rep::inverse` meets its contract: the questions, and the inverse where they let it by.
-use Rattle.clifford.proofs.InverseAnswers.{inverses}
+-- `clifford_rep::inverse` meets its contract.
+use Rattle.clifford.proofs.Answers.{inverses}
 use Rattle.clifford.proofs.clifford_rep.inverse.Statement.{statement}
 use Rattle.clifford.proofs.clifford_rep.inverse.Tie as tie
 
@@ -7,5 +7,11 @@ pub inverse-spec : {M : Type 1} → statement M
 inverse-spec =
     tie.close
     (tie.spec
-    (λ c. search inverses) (λ c. search inverses) (λ c. search inverses) (λ c. search inverses) (λ c. search inverses)
-    (λ c. search inverses) (λ c. search inverses))
+    (λ c κs. search inverses)
+    (λ c. search inverses)
+    (λ c κs. search inverses)
+    (λ c κs. search inverses)
+    (λ c. search inverses)
+    (λ c. search inverses)
+    (λ c. search inverses)
+    (λ c. search inverses))

@@ -1,5 +1,5 @@
 -- `clifford_rep::is_valid` meets its contract: the questions, and validity where they let it by.
-use Rattle.clifford.proofs.ValidRows.{validity}
+use Rattle.clifford.proofs.IsValid.{validity}
 use Rattle.clifford.proofs.clifford_rep.is_valid.Statement.{statement}
 use Rattle.clifford.proofs.clifford_rep.is_valid.Tie as tie
 

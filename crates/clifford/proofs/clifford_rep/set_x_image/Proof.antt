@@ -1,5 +1,5 @@
 -- `clifford_rep::set_x_image` meets its contract: the questions, and the image set where they let it by.
-use Rattle.clifford.proofs.ImageSetting.{image-setting}
+use Rattle.clifford.proofs.SetImage.{image-setting}
 use Rattle.clifford.proofs.clifford_rep.set_x_image.Statement.{statement}
 use Rattle.clifford.proofs.clifford_rep.set_x_image.Tie as tie
 

@@ -1,5 +1,5 @@
 -- `clifford_rep::support_answer` meets its contract: the questions in their order.
-use Rattle.clifford.proofs.Supports.{support-answers}
+use Rattle.clifford.proofs.SupportQubits.{support-answers}
 use Rattle.clifford.proofs.clifford_rep.support_answer.Statement.{statement}
 use Rattle.clifford.proofs.clifford_rep.support_answer.Tie as tie
 

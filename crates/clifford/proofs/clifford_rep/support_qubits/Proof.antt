@@ -1,5 +1,5 @@
 -- `clifford_rep::support_qubits` meets its contract: the questions, and the support where they let it by.
-use Rattle.clifford.proofs.Supports.{support-answers}
+use Rattle.clifford.proofs.SupportQubits.{support-answers}
 use Rattle.clifford.proofs.clifford_rep.support_qubits.Statement.{statement}
 use Rattle.clifford.proofs.clifford_rep.support_qubits.Tie as tie
 

@@ -1,5 +1,5 @@
 -- `clifford_rep::x_image` meets its contract.
-use Rattle.clifford.proofs.TableauImages.{images}
+use Rattle.clifford.proofs.Images.{images}
 use Rattle.clifford.proofs.clifford_rep.x_image.Statement.{statement}
 use Rattle.clifford.proofs.clifford_rep.x_image.Tie as tie
 

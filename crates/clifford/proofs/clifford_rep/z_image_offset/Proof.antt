@@ -1,5 +1,5 @@
 -- `clifford_rep::z_image_offset` meets its contract.
-use Rattle.clifford.proofs.TableauImages.{image-offsets}
+use Rattle.clifford.proofs.Images.{image-offsets}
 use Rattle.clifford.proofs.clifford_rep.z_image_offset.Statement.{statement}
 use Rattle.clifford.proofs.clifford_rep.z_image_offset.Tie as tie
 

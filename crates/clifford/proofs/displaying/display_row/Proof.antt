@@ -1,5 +1,5 @@
 -- `displaying::display_row` meets its contract.
-use Rattle.clifford.proofs.Displays.{orders}
+use Rattle.clifford.proofs.Display.{orders}
 use Rattle.clifford.proofs.displaying.display_row.Statement.{statement}
 use Rattle.clifford.proofs.displaying.display_row.Tie as tie
 

@@ -1,5 +1,5 @@
 -- `displaying::starts_with` meets its contract, by the laws of `Alike`.
-use Rattle.clifford.proofs.Displays.{Alike, starts}
+use Rattle.clifford.proofs.Display.{Alike, starts}
 use Prim.Native.Nat.{_-_}
 use lib.ListN.{length}
 use Rattle.clifford.proofs.displaying.starts_with.Statement.{statement}

@@ -1,5 +1,5 @@
 -- `displaying::write_display` meets its contract, by the laws of `Lines`.
-use Rattle.clifford.proofs.Displays.{Lines, lines-place, line-loops}
+use Rattle.clifford.proofs.Display.{Lines, lines-own, line-loops}
 use Prim.Native.Nat.{_*_, _-_}
 use Rattle.clifford.proofs.displaying.write_display.Statement.{statement}
 use Rattle.clifford.proofs.displaying.write_display.Tie as tie
@@ -11,7 +11,7 @@ abbrev μ-loop : tie.MeasureT-loop
 μ-loop t dst₀ n header at₀ i₀ dst at i = 2 * n - i
 
 line-requires : tie.Need-write-line-requires Inv-loop μ-loop
-line-requires c κs = lines-place (c .before .before .before .loop .inv) (c .before .before .loop-test .taken) (c .before .display-row .ensures)
+line-requires c κs = lines-own (c .before .before .before .loop .inv) (c .before .before .loop-test .taken) (c .before .display-row .ensures)
 
 pub write-display-spec : {M : Type 1} → statement M
 write-display-spec =

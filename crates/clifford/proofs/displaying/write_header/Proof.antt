@@ -1,5 +1,5 @@
 -- `displaying::write_header` meets its contract.
-use Rattle.clifford.proofs.Displays.{headers}
+use Rattle.clifford.proofs.Display.{headers}
 use Rattle.clifford.proofs.displaying.write_header.Statement.{statement}
 use Rattle.clifford.proofs.displaying.write_header.Tie as tie
 

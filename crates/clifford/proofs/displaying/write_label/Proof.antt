@@ -1,5 +1,5 @@
 -- `displaying::write_label` meets its contract.
-use Rattle.clifford.proofs.Displays.{labels}
+use Rattle.clifford.proofs.Display.{labels}
 use Rattle.clifford.proofs.displaying.write_label.Statement.{statement}
 use Rattle.clifford.proofs.displaying.write_label.Tie as tie
 
@@ -8,4 +8,4 @@ write-label-spec =
     tie.close
     (tie.spec
     (λ c. search labels) (λ c. search labels) (λ c. search labels) (λ c. search labels) (λ c. search labels)
-    (λ c. search labels) (λ c. search labels))
+    (λ c. search labels) (λ c. search labels) (λ c. search labels) (λ c. search labels))

@@ -1,5 +1,5 @@
 -- `displaying::write_letter` meets its contract.
-use Rattle.clifford.proofs.Displays.{generator-letters}
+use Rattle.clifford.proofs.Display.{generator-letters}
 use Rattle.clifford.proofs.displaying.write_letter.Statement.{statement}
 use Rattle.clifford.proofs.displaying.write_letter.Tie as tie
 

@@ -1,5 +1,5 @@
 -- `displaying::write_line` meets its contract.
-use Rattle.clifford.proofs.Displays.{text-lines}
+use Rattle.clifford.proofs.Display.{text-lines}
 use Rattle.clifford.proofs.displaying.write_line.Statement.{statement}
 use Rattle.clifford.proofs.displaying.write_line.Tie as tie
 
@@ -8,4 +8,5 @@ write-line-spec =
     tie.close
     (tie.spec
     (λ c. search text-lines) (λ c. search text-lines) (λ c. search text-lines) (λ c. search text-lines)
-    (λ c. search text-lines) (λ c. search text-lines) (λ c. search text-lines))
+    (λ c. search text-lines) (λ c. search text-lines) (λ c. search text-lines) (λ c. search text-lines)
+    (λ c. search text-lines))

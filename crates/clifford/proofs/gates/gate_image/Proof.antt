@@ -8,12 +8,15 @@ gate-image-spec =
     tie.close
     (tie.spec
     (λ c κs. search gate-images)
+    (λ c. search gate-images)
     (λ c κs. search gate-images)
     (λ c. search gate-images)
     (λ c κs. search gate-images)
-    (λ c κs. search gate-images)
+    (λ c. search gate-images)
     (λ c. search gate-images)
     (λ c κs. search gate-images)
+    (λ c. search gate-images)
+    (λ c. search gate-images)
     (λ c κs. search gate-images)
     (λ c. search gate-images)
     (λ c κs. search gate-images)

@@ -1,5 +1,5 @@
 -- `inverting::body_letter` meets its contract.
-use Rattle.clifford.proofs.InverseRows.{body-letters}
+use Rattle.clifford.proofs.Inverse.{body-letters}
 use Rattle.clifford.proofs.inverting.body_letter.Statement.{statement}
 use Rattle.clifford.proofs.inverting.body_letter.Tie as tie
 

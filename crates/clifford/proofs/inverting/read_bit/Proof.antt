@@ -1,5 +1,5 @@
 -- `inverting::read_bit` meets its contract.
-use Rattle.clifford.proofs.InverseRows.{bit-reads}
+use Rattle.clifford.proofs.Inverse.{bit-reads}
 use Rattle.clifford.proofs.inverting.read_bit.Statement.{statement}
 use Rattle.clifford.proofs.inverting.read_bit.Tie as tie
 

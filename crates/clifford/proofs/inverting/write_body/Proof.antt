@@ -1,7 +1,7 @@
 -- `inverting::write_body` meets its contract, by the laws of `BodyTo`.
-use Rattle.clifford.proofs.InverseRows.{bodies}
+use Rattle.clifford.proofs.Inverse.{bodies}
 use Prim.Native.Nat.{_-_}
-use Rattle.clifford.proofs.InverseRows.{BodyTo}
+use Rattle.clifford.proofs.Inverse.{BodyTo}
 use Rattle.clifford.proofs.inverting.write_body.Statement.{statement}
 use Rattle.clifford.proofs.inverting.write_body.Tie as tie
 

@@ -1,5 +1,5 @@
 -- `layout::change_row` meets its contract.
-use Rattle.clifford.proofs.PlayedRows.{row-changes}
+use Rattle.clifford.proofs.RowAccess.{row-changes}
 use Rattle.clifford.proofs.layout.change_row.Statement.{statement}
 use Rattle.clifford.proofs.layout.change_row.Tie as tie
 

@@ -1,5 +1,5 @@
 -- `layout::letter_in_row` meets its contract.
-use Rattle.clifford.proofs.InverseRows.{letter-reads}
+use Rattle.clifford.proofs.RowAccess.{letter-reads}
 use Rattle.clifford.proofs.layout.letter_in_row.Statement.{statement}
 use Rattle.clifford.proofs.layout.letter_in_row.Tie as tie
 

@@ -1,5 +1,5 @@
 -- `layout::row` meets its contract.
-use Rattle.clifford.proofs.WorkRows.{row-access}
+use Rattle.clifford.proofs.RowAccess.{row-access}
 use Rattle.clifford.proofs.layout.row.Statement.{statement}
 use Rattle.clifford.proofs.layout.row.Tie as tie
 

@@ -1,5 +1,5 @@
 -- `layout::row_letters` meets its contract.
-use Rattle.clifford.proofs.ValidRows.{row-reads}
+use Rattle.clifford.proofs.RowAccess.{row-reads}
 use Rattle.clifford.proofs.layout.row_letters.Statement.{statement}
 use Rattle.clifford.proofs.layout.row_letters.Tie as tie
 

@@ -1,5 +1,5 @@
 -- `layout::row_qubit` meets its contract.
-use Rattle.clifford.proofs.WorkRows.{row-access}
+use Rattle.clifford.proofs.RowAccess.{row-access}
 use Rattle.clifford.proofs.layout.row_qubit.Statement.{statement}
 use Rattle.clifford.proofs.layout.row_qubit.Tie as tie
 

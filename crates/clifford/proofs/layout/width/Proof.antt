@@ -1,5 +1,5 @@
 -- `layout::width` meets its contract.
-use Rattle.clifford.proofs.TableauAsking.{tableau-questions}
+use Rattle.clifford.proofs.Asking.{tableau-questions}
 use Rattle.clifford.proofs.layout.width.Statement.{statement}
 use Rattle.clifford.proofs.layout.width.Tie as tie
 

@@ -1,5 +1,5 @@
 -- `playing::is_playable` meets its contract.
-use Rattle.clifford.proofs.PlayedRows.{playables}
+use Rattle.clifford.proofs.Play.{playables}
 use Rattle.clifford.proofs.playing.is_playable.Statement.{statement}
 use Rattle.clifford.proofs.playing.is_playable.Tie as tie
 

@@ -1,5 +1,5 @@
--- `playing::play_gate` meets its contract.
-use Rattle.clifford.proofs.PlayedRows.{playing}
+-- `playing::play_gate` meets its contract: the tables are the gates' own.
+use Rattle.clifford.proofs.Play.{gate-plays}
 use Rattle.clifford.proofs.playing.play_gate.Statement.{statement}
 use Rattle.clifford.proofs.playing.play_gate.Tie as tie
 
@@ -7,12 +7,7 @@ pub play-gate-spec : {M : Type 1} → statement M
 play-gate-spec =
     tie.close
     (tie.spec
-    (λ c κs. search playing)
-    (λ c κs. search playing)
-    (λ c κs. search playing)
-    (λ c κs. search playing)
-    (λ c κs. search playing)
-    (λ c. search playing)
-    (λ c. search playing)
-    (λ c. search playing)
-    (λ c. search playing))
+    (λ c κs. search gate-plays)
+    (λ c κs. search gate-plays)
+    (λ c. search gate-plays)
+    (λ c. search gate-plays))

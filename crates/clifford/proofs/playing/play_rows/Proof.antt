@@ -1,6 +1,6 @@
 -- `playing::play_rows` meets its contract, by the laws of `PlayedTo`.
 use Prim.Native.Nat.{_*_, _-_}
-use Rattle.clifford.proofs.PlayedRows.{PlayedTo, plays}
+use Rattle.clifford.proofs.Play.{PlayedTo, plays}
 use Rattle.clifford.proofs.playing.play_rows.Statement.{statement}
 use Rattle.clifford.proofs.playing.play_rows.Tie as tie
 

@@ -1,5 +1,5 @@
 -- `playing::second_fits` meets its contract.
-use Rattle.clifford.proofs.PlayedRows.{second-fitting}
+use Rattle.clifford.proofs.Play.{second-fitting}
 use Rattle.clifford.proofs.playing.second_fits.Statement.{statement}
 use Rattle.clifford.proofs.playing.second_fits.Tie as tie
 

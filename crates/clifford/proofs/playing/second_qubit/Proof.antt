@@ -1,5 +1,5 @@
 -- `playing::second_qubit` meets its contract.
-use Rattle.clifford.proofs.PlayedRows.{seconds}
+use Rattle.clifford.proofs.Play.{seconds}
 use Rattle.clifford.proofs.playing.second_qubit.Statement.{statement}
 use Rattle.clifford.proofs.playing.second_qubit.Tie as tie
 

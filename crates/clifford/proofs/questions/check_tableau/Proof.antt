@@ -1,5 +1,5 @@
 -- `questions::check_tableau` meets its contract: the questions in their order.
-use Rattle.clifford.proofs.TableauAsking.{tableau-questions}
+use Rattle.clifford.proofs.Asking.{tableau-questions}
 use Rattle.clifford.proofs.questions.check_tableau.Statement.{statement}
 use Rattle.clifford.proofs.questions.check_tableau.Tie as tie
 

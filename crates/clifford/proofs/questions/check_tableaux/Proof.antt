@@ -1,5 +1,5 @@
 -- `questions::check_tableaux` meets its contract: the questions in their order.
-use Rattle.clifford.proofs.TableauAsking.{tableau-questions}
+use Rattle.clifford.proofs.Asking.{tableau-questions}
 use Rattle.clifford.specs.Questions.{composeQuestions}
 use Rattle.clifford.proofs.questions.check_tableaux.Statement.{statement}
 use Rattle.clifford.proofs.questions.check_tableaux.Tie as tie

@@ -1,5 +1,5 @@
 -- `questions::check_width` meets its contract: each return is the case of the tests that led there.
-use Rattle.clifford.proofs.TableauAsking.{tableau-questions}
+use Rattle.clifford.proofs.Asking.{tableau-questions}
 use Rattle.clifford.proofs.questions.check_width.Statement.{statement}
 use Rattle.clifford.proofs.questions.check_width.Tie as tie
 

@@ -1,5 +1,5 @@
 -- `setting::check_inside` meets its contract.
-use Rattle.clifford.proofs.ImageSetting.{insides}
+use Rattle.clifford.proofs.SetImage.{insides}
 use Rattle.clifford.proofs.setting.check_inside.Statement.{statement}
 use Rattle.clifford.proofs.setting.check_inside.Tie as tie
 

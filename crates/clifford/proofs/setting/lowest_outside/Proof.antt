@@ -1,7 +1,7 @@
 -- `setting::lowest_outside` meets its contract: no letter outside the width before the qubit reached.
-use Rattle.clifford.proofs.ImageSetting.{outsides}
+use Rattle.clifford.proofs.SetImage.{outsides}
 use Prim.Native.Nat.{_-_}
-use Rattle.clifford.proofs.ImageSetting.{OutsideTo}
+use Rattle.clifford.proofs.SetImage.{OutsideTo}
 use Rattle.clifford.proofs.setting.lowest_outside.Statement.{statement}
 use Rattle.clifford.proofs.setting.lowest_outside.Tie as tie
 

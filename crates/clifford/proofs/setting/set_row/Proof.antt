@@ -1,5 +1,5 @@
 -- `setting::set_row` meets its contract.
-use Rattle.clifford.proofs.ImageSetting.{row-setting}
+use Rattle.clifford.proofs.SetImage.{row-setting}
 use Rattle.clifford.proofs.setting.set_row.Statement.{statement}
 use Rattle.clifford.proofs.setting.set_row.Tie as tie
 

@@ -1,5 +1,5 @@
 -- `support::changed` meets its contract.
-use Rattle.clifford.proofs.Supports.{changes}
+use Rattle.clifford.proofs.SupportQubits.{changes}
 use Rattle.clifford.proofs.support.changed.Statement.{statement}
 use Rattle.clifford.proofs.support.changed.Tie as tie
 

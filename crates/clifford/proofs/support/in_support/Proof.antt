@@ -1,9 +1,9 @@
 -- `support::in_support` meets its contract, by the laws of `NoneSo`.
-use Rattle.clifford.proofs.Supports.{support-tests}
+use Rattle.clifford.proofs.SupportQubits.{support-tests}
 use Prim.Native.Nat.{_-_}
 use Rattle.clifford.specs.Layout.{tableauOf}
 use Rattle.clifford.specs.Support.{supportsQubit}
-use Rattle.clifford.proofs.Supports.{NoneSo}
+use Rattle.clifford.proofs.SupportQubits.{NoneSo}
 use Rattle.clifford.proofs.support.in_support.Statement.{statement}
 use Rattle.clifford.proofs.support.in_support.Tie as tie
 

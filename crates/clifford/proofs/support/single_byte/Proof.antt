@@ -1,5 +1,5 @@
 -- `support::single_byte` meets its contract.
-use Rattle.clifford.proofs.Supports.{single-bytes}
+use Rattle.clifford.proofs.SupportQubits.{single-bytes}
 use Rattle.clifford.proofs.support.single_byte.Statement.{statement}
 use Rattle.clifford.proofs.support.single_byte.Tie as tie
 

@@ -1,5 +1,5 @@
 -- `support::support_bit` meets its contract.
-use Rattle.clifford.proofs.Supports.{support-bits}
+use Rattle.clifford.proofs.SupportQubits.{support-bits}
 use Rattle.clifford.proofs.support.support_bit.Statement.{statement}
 use Rattle.clifford.proofs.support.support_bit.Tie as tie
 

@@ -1,7 +1,7 @@
 -- `support::support_count` meets its contract, by the laws of `CountTo`.
-use Rattle.clifford.proofs.Supports.{counting}
+use Rattle.clifford.proofs.SupportQubits.{counting}
 use Prim.Native.Nat.{_-_}
-use Rattle.clifford.proofs.Supports.{CountTo}
+use Rattle.clifford.proofs.SupportQubits.{CountTo}
 use Rattle.clifford.proofs.support.support_count.Statement.{statement}
 use Rattle.clifford.proofs.support.support_count.Tie as tie
 

@@ -1,5 +1,5 @@
 -- `support::supports` meets its contract.
-use Rattle.clifford.proofs.Supports.{supporting}
+use Rattle.clifford.proofs.SupportQubits.{supporting}
 use Rattle.clifford.proofs.support.supports.Statement.{statement}
 use Rattle.clifford.proofs.support.supports.Tie as tie
 

@@ -1,5 +1,5 @@
 -- `support::touches` meets its contract.
-use Rattle.clifford.proofs.Supports.{touching}
+use Rattle.clifford.proofs.SupportQubits.{touching}
 use Rattle.clifford.proofs.support.touches.Statement.{statement}
 use Rattle.clifford.proofs.support.touches.Tie as tie
 

@@ -1,5 +1,5 @@
 -- `support::write_qubit` meets its contract.
-use Rattle.clifford.proofs.Supports.{qubit-writing}
+use Rattle.clifford.proofs.SupportQubits.{qubit-writing}
 use Rattle.clifford.proofs.support.write_qubit.Statement.{statement}
 use Rattle.clifford.proofs.support.write_qubit.Tie as tie
 

@@ -1,7 +1,7 @@
 -- `support::write_support` meets its contract, by the laws of `WroteTo`.
-use Rattle.clifford.proofs.Supports.{support-writing}
+use Rattle.clifford.proofs.SupportQubits.{support-writing}
 use Prim.Native.Nat.{_-_}
-use Rattle.clifford.proofs.Supports.{WroteTo}
+use Rattle.clifford.proofs.SupportQubits.{WroteTo}
 use Rattle.clifford.proofs.support.write_support.Statement.{statement}
 use Rattle.clifford.proofs.support.write_support.Tie as tie
 

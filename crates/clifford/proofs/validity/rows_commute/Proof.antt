@@ -1,5 +1,5 @@
 -- `validity::rows_commute` meets its contract.
-use Rattle.clifford.proofs.ValidRows.{row-commutation}
+use Rattle.clifford.proofs.IsValid.{row-commutation}
 use Rattle.clifford.proofs.validity.rows_commute.Statement.{statement}
 use Rattle.clifford.proofs.validity.rows_commute.Tie as tie
 

@@ -1,9 +1,9 @@
 -- `validity::valid_before` meets its contract, by the laws of `AllBefore`.
-use Rattle.clifford.proofs.ValidRows.{before-validity}
+use Rattle.clifford.proofs.IsValid.{before-validity}
 use Prim.Native.Nat.{_-_}
 use Rattle.clifford_group.specs.Tableau.{validPair}
 use Rattle.clifford.specs.Layout.{tableauOf}
-use Rattle.clifford.proofs.ValidRows.{AllBefore}
+use Rattle.clifford.proofs.IsValid.{AllBefore}
 use Rattle.clifford.proofs.validity.valid_before.Statement.{statement}
 use Rattle.clifford.proofs.validity.valid_before.Tie as tie
 

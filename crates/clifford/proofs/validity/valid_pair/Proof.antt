@@ -1,5 +1,5 @@
 -- `validity::valid_pair` meets its contract.
-use Rattle.clifford.proofs.ValidRows.{pair-validity}
+use Rattle.clifford.proofs.IsValid.{pair-validity}
 use Rattle.clifford.proofs.validity.valid_pair.Statement.{statement}
 use Rattle.clifford.proofs.validity.valid_pair.Tie as tie
 

@@ -1,5 +1,5 @@
 -- `validity::valid_qubit` meets its contract.
-use Rattle.clifford.proofs.ValidRows.{qubit-validity}
+use Rattle.clifford.proofs.IsValid.{qubit-validity}
 use Rattle.clifford.proofs.validity.valid_qubit.Statement.{statement}
 use Rattle.clifford.proofs.validity.valid_qubit.Tie as tie
 
@@ -7,5 +7,11 @@ pub valid-qubit-spec : {M : Type 1} → statement M
 valid-qubit-spec =
     tie.close
     (tie.spec
-    (λ c. search qubit-validity) (λ c. search qubit-validity) (λ c. search qubit-validity) (λ c. search qubit-validity)
-    (λ c. search qubit-validity) (λ c. search qubit-validity) (λ c. search qubit-validity) (λ c. search qubit-validity))
+    (λ c. search qubit-validity)
+    (λ c. search qubit-validity)
+    (λ c. search qubit-validity)
+    (λ c. search qubit-validity)
+    (λ c. search qubit-validity)
+    (λ c. search qubit-validity)
+    (λ c. search qubit-validity)
+    (λ c. search qubit-validity))

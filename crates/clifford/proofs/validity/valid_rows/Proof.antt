@@ -1,8 +1,8 @@
 -- `validity::valid_rows` meets its contract, by the laws of `AllBefore`.
-use Rattle.clifford.proofs.ValidRows.{rows-validity}
+use Rattle.clifford.proofs.IsValid.{rows-validity}
 use Prim.Native.Nat.{_-_}
 use Rattle.clifford.specs.Layout.{tableauOf}
-use Rattle.clifford.proofs.ValidRows.{AllBefore, validRow, row-more}
+use Rattle.clifford.proofs.IsValid.{AllBefore, validRow, row-more}
 use Rattle.clifford.proofs.validity.valid_rows.Statement.{statement}
 use Rattle.clifford.proofs.validity.valid_rows.Tie as tie
 

@@ -7,6 +7,6 @@ pub report-refusal-spec : {M : Type 1} → statement M
 report-refusal-spec =
     tie.close
     (tie.spec
-    (λ c κs. search text-reports) (λ c κs. search text-reports) (λ c. search text-reports)
-    (λ c κs. search text-reports) (λ c. search text-reports) (λ c. search text-reports)
+    (λ c. search text-reports) (λ c. search text-reports) (λ c. search text-reports)
+    (λ c. search text-reports) (λ c. search text-reports) (λ c. search text-reports)
     (λ c. search text-reports) (λ c. search text-reports))

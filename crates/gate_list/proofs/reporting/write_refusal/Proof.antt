@@ -7,5 +7,6 @@ pub write-refusal-spec : {M : Type 1} → statement M
 write-refusal-spec =
     tie.close
     (tie.spec
-    (λ c κs. search refusal-texts) (λ c κs. search refusal-texts) (λ c κs. search refusal-texts)
-    (λ c. search refusal-texts) (λ c. search refusal-texts))
+    (λ c. search refusal-texts) (λ c. search refusal-texts) (λ c. search refusal-texts) (λ c. search refusal-texts)
+    (λ c. search refusal-texts) (λ c. search refusal-texts) (λ c. search refusal-texts) (λ c. search refusal-texts)
+    (λ c. search refusal-texts) (λ c. search refusal-texts) (λ c. search refusal-texts) (λ c. search refusal-texts))

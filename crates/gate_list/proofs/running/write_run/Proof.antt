@@ -8,4 +8,5 @@ write-run-spec =
     tie.close
     (tie.spec
     (λ c. search run-writes) (λ c. search run-writes) (λ c. search run-writes) (λ c. search run-writes)
-    (λ c. search run-writes) (λ c. search run-writes) (λ c. search run-writes) (λ c. search run-writes))
+    (λ c. search run-writes) (λ c. search run-writes) (λ c. search run-writes) (λ c. search run-writes)
+    (λ c. search run-writes) (λ c. search run-writes))

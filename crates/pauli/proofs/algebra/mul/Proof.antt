@@ -7,5 +7,6 @@ pub mul-spec : {M : Type 1} → statement M
 mul-spec =
     tie.close
     (tie.spec
-    (λ c. search string-products) (λ c. search string-products) (λ c. search string-products) (λ c. search string-products)
+    (λ c. search string-products) (λ c. search string-products) (λ c. search string-products)
+    (λ c. search string-products) (λ c. search string-products) (λ c. search string-products)
     (λ c. search string-products) (λ c. search string-products) (λ c. search string-products))

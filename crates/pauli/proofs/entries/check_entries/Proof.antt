@@ -9,5 +9,5 @@ unfolding entryQuestions
 check-entries-spec =
     tie.close
     (tie.spec
-    (λ c. search questions) (λ c. search questions) (λ c. search questions) (λ c. search questions) (λ c. search questions)
-    (λ c. search questions) (λ c. search questions) (λ c. search questions) (λ c. search questions) (λ c. search questions))
+    (λ c. search questions) (λ c. search questions) (λ c. search questions) (λ c. search questions)
+    (λ c. search questions) (λ c. search questions) (λ c. search questions) (λ c. search questions))

@@ -8,4 +8,5 @@ get-spec =
     tie.close
     (tie.spec
     (λ c. search string-reads) (λ c. search string-reads) (λ c. search string-reads) (λ c. search string-reads)
-    (λ c. search string-reads) (λ c. search string-reads) (λ c. search string-reads))
+    (λ c. search string-reads) (λ c. search string-reads) (λ c. search string-reads) (λ c. search string-reads)
+    (λ c. search string-reads))

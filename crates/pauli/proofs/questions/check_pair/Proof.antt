@@ -9,5 +9,4 @@ unfolding pairQuestions
 check-pair-spec =
     tie.close
     (tie.spec
-    (λ c. search questions) (λ c. search questions) (λ c. search questions) (λ c. search questions) (λ c. search questions)
-    (λ c. search questions))
+    (λ c. search questions) (λ c. search questions) (λ c. search questions) (λ c. search questions))

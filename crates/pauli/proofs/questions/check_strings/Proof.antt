@@ -9,5 +9,4 @@ unfolding stringsQuestions
 check-strings-spec =
     tie.close
     (tie.spec
-    (λ c. search questions) (λ c. search questions) (λ c. search questions) (λ c. search questions) (λ c. search questions)
-    (λ c. search questions))
+    (λ c. search questions) (λ c. search questions) (λ c. search questions) (λ c. search questions))

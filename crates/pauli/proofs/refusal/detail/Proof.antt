@@ -28,4 +28,7 @@ detail-spec =
     (λ c. search (at-case refusalDetail, needs)) (λ c. search (at-case refusalDetail, needs))
     (λ c. search (at-case refusalDetail, needs)) (λ c. search (at-case refusalDetail, needs))
     (λ c. search (at-case refusalDetail, needs)) (λ c. search (at-case refusalDetail, needs))
+    (λ c. search (at-case refusalDetail, needs)) (λ c. search (at-case refusalDetail, needs))
+    (λ c. search (at-case refusalDetail, needs)) (λ c. search (at-case refusalDetail, needs))
+    (λ c. search (at-case refusalDetail, needs)) (λ c. search (at-case refusalDetail, needs))
     (λ c. search (at-case refusalDetail, needs)) (λ c. search (at-case refusalDetail, needs)))

@@ -28,4 +28,7 @@ number-spec =
     (λ c. search (at-case refusalNumber, needs)) (λ c. search (at-case refusalNumber, needs))
     (λ c. search (at-case refusalNumber, needs)) (λ c. search (at-case refusalNumber, needs))
     (λ c. search (at-case refusalNumber, needs)) (λ c. search (at-case refusalNumber, needs))
+    (λ c. search (at-case refusalNumber, needs)) (λ c. search (at-case refusalNumber, needs))
+    (λ c. search (at-case refusalNumber, needs)) (λ c. search (at-case refusalNumber, needs))
+    (λ c. search (at-case refusalNumber, needs)) (λ c. search (at-case refusalNumber, needs))
     (λ c. search (at-case refusalNumber, needs)) (λ c. search (at-case refusalNumber, needs)))

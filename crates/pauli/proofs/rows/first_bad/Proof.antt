@@ -20,4 +20,4 @@ first-bad-spec =
     (tie.spec
     Inv-loop μ-loop
     (λ c. search scans) (λ c. search scans) (λ c. search scans) (λ c. search scans) (λ c. search scans) (λ c. search scans)
-    (λ c. search scans))
+    (λ c. search scans) (λ c. search scans) (λ c. search scans))

@@ -9,4 +9,5 @@ write-prefix-spec =
     (tie.spec
     (λ c. search prefixes) (λ c. search prefixes) (λ c. search prefixes) (λ c. search prefixes) (λ c. search prefixes)
     (λ c. search prefixes) (λ c. search prefixes) (λ c. search prefixes) (λ c. search prefixes) (λ c. search prefixes)
-    (λ c. search prefixes) (λ c. search prefixes) (λ c. search prefixes) (λ c. search prefixes))
+    (λ c. search prefixes) (λ c. search prefixes) (λ c. search prefixes) (λ c. search prefixes) (λ c. search prefixes)
+    (λ c. search prefixes))

@@ -17,4 +17,4 @@ write-sparse-spec =
     Inv-loop μ-loop
     (λ c. search wordings) (λ c. search wordings) (λ c. search wordings) (λ c. search wordings) (λ c. search wordings)
     (λ c. search wordings) (λ c. search wordings) (λ c. search wordings) (λ c. search wordings) (λ c. search wordings)
-    (λ c. search wordings))
+    (λ c. search wordings) (λ c. search wordings) (λ c. search wordings))

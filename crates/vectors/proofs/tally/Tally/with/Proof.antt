@@ -23,4 +23,5 @@ with-spec =
     (λ c. search tallies)
     (λ c. search tallies)
     (λ c. search tallies)
+    (λ c. search tallies)
     (λ c. search tallies))

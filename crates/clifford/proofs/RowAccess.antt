@@ -1,0 +1,322 @@
+-- The functions of `layout.rt` by their code: the places where it reads and writes are those of the layout. No other file of laws
+-- knows these places.
+use mathlib.Core.Path.{_≡_, refl, sym, ap, ap₂, _∙_, subst}
+use mathlib.Core.Bool.{cond}
+use mathlib.Core.List.{List, [], _∷_, _++_, append-nil}
+use Prim.Native.Nat.{ℕ, zero, suc, _+_, _*_, _-_, _≤_, _<_, min, _%_, _/_}
+use native.Mathlib.Nat.{not-suc-le-zero}
+use native.Mathlib.Omega.{arith}
+use lib.ListN.{length, getD, set, take, drop, length-drop, length-take, length-append, drop-of-length-le, List·getD-eq-default}
+use lib.Seq.{take-all}
+use mir.Syntax.{w64}
+use borrow.Rule.Slice.PartMut.{putMid}
+use mir.Val.{Fits}
+use borrow.Author.Needs.{needs}
+use borrow.Author.Tests.{lt-ltb, le-ltb, lt-leb, le-leb}
+use Rattle.pauli_group.specs.Phase.{Phase, PlusOne, PlusI, _·_, MinusOne, MinusI, negate, turn}
+use Rattle.pauli_group.specs.Letter.{X, Z}
+use Rattle.pauli_group.specs.PauliString.{qubits, mul, identityString}
+use Rattle.pauli.specs.Layout.{phaseByte, phaseOf, letterByte, letterOf, encodeString}
+use Rattle.pauli.specs.Rows.{phaseBytesProduct, RowTimes, copied, shorter}
+use Rattle.pauli.proofs.Records.{letter-there}
+use Rattle.pauli.proofs.Places.{from, from-is}
+use Rattle.pauli.proofs.StringProducts.{row-product, row-product-is}
+use Rattle.clifford.specs.Layout.{letterPlace, rowLength, lettersOf, encodeRow, rowOffset, recordLength, longestRecord, rowOf, widthOf, rowPart, tableauOf, rowQubit, rowLetter, readRow, letterIn, withPair}
+use Rattle.clifford.specs.Inside.Rows.{Sized, RowIndex, RowInside, OwnRow, WorkOnRow, Finished, rowTimes, rowWritten, lettersIn, stringIn, rowLetters, OwnLetter}
+use Rattle.clifford.proofs.Records.{record-small}
+use lib.Dec.{leb}
+use Rattle.pauli.specs.declared.refusal.Refusal.the-variants.{BadByte}
+use Rattle.pauli.specs.declared.refusal.Outcome.the-variants.{Done, Refused}
+use Rattle.pauli.specs.Questions.{ask, firstBad}
+use Rattle.pauli.proofs.Asking.{asked-yes, asked-no, refused, passed}
+use Rattle.clifford.specs.Questions.{rowQuestion}
+use lib.Bits.{bitXor}
+use Rattle.clifford.specs.Playing.{imageIn, readTable, tableOnRow}
+use Rattle.clifford.proofs.Rows.{place-is, row-some, letter-in-row, length-row, letters-from, row-letter, row-phase, row-inside, row-part, row-room, row-string, row-as-string, row-of-work, getD-part, capped-letter, capped-phase, read-own, read-wide, read-over, length-part, own-row, own-some, own-letter}
+use Rattle.clifford.proofs.Asking.{bytes-bad, bytes-good}
+
+-- ---- the length of a record
+pub record-sized : (w : ℕ) → w ≤ 128 → Sized (recordLength w) (1 + 2 * w * (w + 1))
+record-sized w h = let e : 1 + 2 * w * (w + 1) ≡ recordLength w = unfolded in record { is = e; small = omega (arith, record-small w h) }
+  where
+    unfolded : 1 + 2 * w * (w + 1) ≡ recordLength w
+    unfolded = unfold recordLength rowLength letterPlace in omega arith
+
+-- it is counted without overflow
+pub record-fits : (w : ℕ) → w ≤ 128 → Fits w64 (2 * w * (w + 1))
+record-fits w h = record { fits = omega (arith, record-sized w h .small) }
+
+pub record-one-fits : (w : ℕ) → w ≤ 128 → Fits w64 (1 + 2 * w * (w + 1))
+record-one-fits w h = record { fits = omega (arith, record-sized w h .small) }
+
+-- ---- where rows are
+row-end : (w r : ℕ) → RowIndex w r → 1 + r * (w + 1) + (w + 1) ≤ longestRecord
+unfolding rowOffset recordLength rowLength letterPlace
+row-end w r i = omega (arith, row-room w r (i .own), record-small w (i .narrow))
+
+pub offset-fits : (w r : ℕ) → RowIndex w r → Fits w64 (r * (w + 1))
+offset-fits w r i = record { fits = omega (arith, row-end w r i) }
+
+pub offset-one-fits : (w r : ℕ) → RowIndex w r → Fits w64 (1 + r * (w + 1))
+offset-one-fits w r i = record { fits = omega (arith, row-end w r i) }
+
+offset-is : (w r : ℕ) → 1 + r * (w + 1) ≡ rowOffset w r
+unfolding rowOffset rowLength letterPlace
+offset-is w r = omega arith
+
+pub offset-sized : (w r : ℕ) → RowIndex w r → Sized (rowOffset w r) (1 + r * (w + 1))
+offset-sized w r i = record { is = offset-is w r; small = omega (arith, row-end w r i) }
+
+pub own-inside : {b : List ℕ} {r : ℕ} → OwnRow b r → RowInside b r
+own-inside o = record { laid = record { narrow = o .tableau .narrow; long = o .tableau .long }; own = o .own }
+
+pub part-end : {b : List ℕ} {r n at : ℕ} → RowInside b r → n ≡ widthOf b → Sized (rowOffset n r) at → at + (n + 1) ≤ length b
+part-end {b} {r} {n} o e s =
+    let long : length b ≡ recordLength n = o .laid .long ∙ ap recordLength (sym e) in
+    omega (arith, s .is, row-room n r (omega (arith, o .own)), (let z : rowLength n ≡ n + 1 = unfold rowLength letterPlace in omega arith in z))
+
+pub part-is : {b : List ℕ} {r n at : ℕ} → RowInside b r → n ≡ widthOf b → Sized (rowOffset n r) at → take (at + (n + 1) - at) (drop at b) ≡ rowPart b r
+unfolding rowPart rowLength letterPlace
+part-is {b} {r} {n} {at} o e s =
+    let size : at + (n + 1) - at ≡ suc n = omega arith in
+    ap₂ (λ (i : ℕ) (j : ℕ). take i (drop j b)) (size ∙ ap suc e) (s .is ∙ ap (λ (j : ℕ). rowOffset j r) e)
+
+-- a row of b, and its part
+pub inside-index : {b : List ℕ} {r n : ℕ} → RowInside b r → n ≡ widthOf b → RowIndex n r
+inside-index o e = record { narrow = omega (arith, o .laid .narrow); own = omega (arith, o .own) }
+
+pub inside-some : {b p : List ℕ} {r : ℕ} → RowInside b r → p ≡ rowPart b r → 0 < length p
+unfolding rowLength letterPlace
+inside-some {b} {p} {r} o e = omega (arith, ap length e, length-part b (widthOf b) r refl (o .laid .long) (o .own))
+
+-- ---- the phase and the letters of a row
+pub letters-read : (b : List ℕ) {p : List ℕ} (r : ℕ) → p ≡ rowPart b r → from 1 p ≡ rowLetters b r
+unfolding rowLetters
+letters-read b {p} r e = letters-from p ∙ ap lettersOf e
+
+pub ruleset row-reads = (own-some, letters-read, own-inside, needs)
+
+-- ---- one letter of a row
+pub letter-row : {b : List ℕ} {r q : ℕ} → OwnLetter b r q → OwnRow b r
+letter-row o = o .row
+
+pub letter-inside : {b p : List ℕ} {r q : ℕ} → OwnLetter b r q → p ≡ rowPart b r → q + 1 < length p
+letter-inside {b} {p} {r} {q} o e = omega (arith, place-is q, letter-in-row (widthOf b) q (o .qubit), ap length e, own-row (o .row) .long)
+
+pub letter-read : {b p : List ℕ} {r q : ℕ} → OwnLetter b r q → p ≡ rowPart b r → getD p (q + 1) 0 ≡ letterByte (rowOf (tableauOf b) r .letters q)
+letter-read {b} {p} {r} {q} o e = ap₂ (λ (l : List ℕ) (j : ℕ). getD l j 0) e (sym (place-is q)) ∙ own-letter (o .row) q (o .qubit)
+
+pub ruleset letter-reads = (letter-row, letter-inside, letter-read, own-inside, needs)
+
+-- ---- question 3, put to a row
+module _ (b : List ℕ) (r : ℕ) {n start : ℕ} (en : n ≡ widthOf b) (s : Sized (rowOffset n r) start) {p : List ℕ} (ep : p ≡ rowPart b r) where
+  question-is : rowQuestion start p ≡ rowQuestion (rowOffset (widthOf b) r) (rowPart b r)
+  question-is = ap₂ rowQuestion (s .is ∙ ap (λ (j : ℕ). rowOffset j r) en) ep
+
+  pub row-bad-phase : 3 < getD p 0 0 → Refused (BadByte start) ≡ rowQuestion (rowOffset (widthOf b) r) (rowPart b r)
+  unfolding rowQuestion
+  row-bad-phase h = refused _ (asked-no (BadByte start) (lt-leb (getD p 0 0) 3 h)) refl ∙ question-is
+
+  module _ (h : getD p 0 0 ≤ 3) {k : ℕ} (ek : k ≡ firstBad (from 1 p)) where
+    place : k ≡ firstBad (lettersOf p)
+    place = ek ∙ ap firstBad (letters-from p)
+
+    phase-good : Done ≡ ask (leb (getD p 0 0) 3) (BadByte start)
+    phase-good = asked-yes (BadByte start) (le-leb (getD p 0 0) 3 h)
+
+    pub row-bad-letter : k < length (from 1 p) → Refused (BadByte (start + 1 + k)) ≡ rowQuestion (rowOffset (widthOf b) r) (rowPart b r)
+    unfolding rowQuestion letterPlace
+    row-bad-letter l =
+        ap (λ (j : ℕ). Refused (BadByte (start + 1 + j))) place
+        ∙ passed phase-good refl (bytes-bad (start + 1) (lettersOf p) (omega (arith, place, ap length (letters-from p)))) ∙ question-is
+
+    pub row-good : length (from 1 p) ≤ k → Done ≡ rowQuestion (rowOffset (widthOf b) r) (rowPart b r)
+    unfolding rowQuestion letterPlace
+    row-good l = passed phase-good refl (bytes-good (start + 1) (lettersOf p) (omega (arith, place, ap length (letters-from p)))) ∙ question-is
+
+pub ruleset row-questions = (row-bad-phase, row-bad-letter, row-good, inside-index, inside-some, needs)
+
+-- ---- a row of any bytes, read by letter
+module _ (b : List ℕ) (r : ℕ) {n : ℕ} (e : n ≡ widthOf b) where
+  pub phase-wide : 128 < n → 0 ≡ phaseByte (readRow b r .phase)
+  unfolding identityString phaseByte
+  phase-wide h = ap (λ s. phaseByte (s .phase)) (sym (read-wide b r (omega arith)))
+
+  pub phase-over : n ≤ 128 → 2 * n ≤ r → 0 ≡ phaseByte (readRow b r .phase)
+  unfolding identityString phaseByte
+  phase-over k h = ap (λ s. phaseByte (s .phase)) (sym (read-over b r (omega arith) (omega arith)))
+
+  pub phase-own : n ≤ 128 → r < 2 * n → {at p : ℕ} → Sized (rowOffset n r) at → p ≡ min (getD b at 0) 3 → p ≡ phaseByte (readRow b r .phase)
+  phase-own k h {at} s ep =
+      let place : at ≡ rowOffset (widthOf b) r + 0 = s .is ∙ ap (λ (j : ℕ). rowOffset j r) e ∙ omega arith in
+      ep ∙ ap (λ (j : ℕ). min (getD b j 0) 3) place ∙ ap (λ (j : ℕ). min j 3) (sym (getD-part b r 0 (row-some (widthOf b))))
+      ∙ capped-phase (getD (rowPart b r) 0 0) ∙ ap phaseByte (sym (row-phase b r) ∙ ap (λ x. x .phase) (sym (read-own b r (omega arith) (omega arith))))
+
+  module _ (q : ℕ) where
+    pub letter-wide : 128 < n → 0 ≡ letterByte (readRow b r .letters q)
+    unfolding identityString letterByte
+    letter-wide h = ap (λ s. letterByte (s .letters q)) (sym (read-wide b r (omega arith)))
+
+    pub letter-over : n ≤ 128 → 2 * n ≤ r → 0 ≡ letterByte (readRow b r .letters q)
+    unfolding identityString letterByte
+    letter-over k h = ap (λ s. letterByte (s .letters q)) (sym (read-over b r (omega arith) (omega arith)))
+
+    pub letter-beyond : n ≤ 128 → r < 2 * n → n ≤ q → 0 ≡ letterByte (readRow b r .letters q)
+    unfolding letterByte
+    letter-beyond k h l =
+        sym (ap letterByte (ap (λ s. s .letters q) (read-own b r (omega arith) (omega arith)) ∙ row-inside b r q (omega arith)))
+
+    pub letter-own : n ≤ 128 → r < 2 * n → q < n → {at x : ℕ} → Sized (rowOffset n r) at → x ≡ min (getD b (at + 1 + q) 0) 3
+        → x ≡ letterByte (readRow b r .letters q)
+    unfolding letterIn
+    letter-own k h l {at} s ex =
+        let place : at + 1 + q ≡ rowOffset (widthOf b) r + letterPlace q = omega (arith, s .is ∙ ap (λ (j : ℕ). rowOffset j r) e, place-is q) in
+        ex ∙ ap (λ (j : ℕ). min (getD b j 0) 3) place ∙ ap (λ (j : ℕ). min j 3) (sym (getD-part b r (letterPlace q) (letter-in-row (widthOf b) q (omega arith))))
+        ∙ capped-letter (getD (rowPart b r) (letterPlace q) 0)
+        ∙ ap letterByte (sym (row-letter b r q (omega arith)) ∙ ap (λ x. x .letters q) (sym (read-own b r (omega arith) (omega arith))))
+
+pub read-none : (b : List ℕ) (k : ℕ) → length b ≤ k → 0 ≡ min (getD b k 0) 3
+read-none b k h = omega (arith, List·getD-eq-default b 0 {n = k} h)
+
+pub ruleset row-reading = (read-none, phase-wide, phase-over, phase-own, letter-wide, letter-over, letter-beyond, letter-own, needs)
+
+-- ---- a work row multiplied by a row of a record
+pub work-on : {b d : List ℕ} {r : ℕ} → WorkOnRow b d r → OwnRow b r
+work-on o = record { tableau = o .work .tableau; own = o .own }
+
+pub times-row : {b d f ys : List ℕ} {r p x : ℕ} → WorkOnRow b d r → f ≡ rowPart b r → p ≡ phaseBytesProduct (getD d 0 0) (getD f 0 0)
+    → RowTimes (from 1 d) (from 1 f) p ys x → set (putMid 1 (length d - 1) d ys) 0 x ≡ rowTimes d (rowOf (tableauOf b) r)
+unfolding rowTimes qubits
+times-row {b} {d} {f} {ys} {r} {p} {x} o ef ep m =
+    let t : List ℕ = getD (rowPart b r) 0 0 ∷ lettersOf (rowPart b r) in
+    let lettered : from 1 f ≡ from 1 t = letters-from f ∙ ap lettersOf ef ∙ sym (from-is 1 t) in
+    row-product d t (some (o .work .wide)) (λ e. absurd (some-more e)) (ep ∙ ap (λ (l : List ℕ). phaseBytesProduct (getD d 0 0) (getD l 0 0)) ef)
+    (subst (λ (z : List ℕ). RowTimes (from 1 d) z p ys x) lettered m)
+    ∙ row-product-is (omega (arith, o .work .wide, o .work .row .long)) (omega (arith, o .work .narrow)) (o .work .row) (row-string (o .work .tableau .rows r (o .own)))
+    ∙ ap (λ s. encodeString (lettersIn d) (mul (stringIn d) s)) (sym (row-part b r (o .own) ∙ row-as-string (widthOf b) (rowPart b r)))
+  where
+    some : {n : ℕ} → n < length d → length d ≡ 0 → ⊥
+    some h e = omega arith
+
+    some-more : {n : ℕ} → suc n ≡ 0 → ⊥
+    some-more e = omega arith
+
+pub work-some : {b d : List ℕ} {r : ℕ} → WorkOnRow b d r → 0 < length d
+work-some o = omega (arith, o .work .wide)
+
+pub work-some-more : {b d : List ℕ} {r : ℕ} (ys : List ℕ) → WorkOnRow b d r → length ys ≡ length (from 1 d) → 0 < length (putMid 1 (length d - 1) d ys)
+work-some-more {b} {d} ys o e = omega (arith, length-append (take 1 d) (ys ++ drop (length d - 1) (drop 1 d)), length-take 1 d, o .work .wide)
+
+-- ---- a finished row written
+pub finished-some : {d out : List ℕ} → Finished d out → 0 < length d
+finished-some f = omega (arith, f .row .long)
+
+pub finished-room : {d out : List ℕ} → Finished d out → 0 < length out
+finished-room {d} f = omega (arith, f .room, row-some (lettersIn d))
+
+-- what comes back of `&mut d[1..]`
+put-rest : (x : ℕ) (d ys : List ℕ) → putMid 1 (length (x ∷ d) - 1) (x ∷ d) ys ≡ x ∷ ys
+put-rest x d ys = rw (drop-of-length-le d {i = length (x ∷ d) - 1} (omega arith), append-nil)
+
+pub row-written : (d out : List ℕ) {ys : List ℕ} → Finished d out → ys ≡ copied (from 1 d) (from 1 (set out 0 (getD d 0 0)))
+    → putMid 1 (length (set out 0 (getD d 0 0)) - 1) (set out 0 (getD d 0 0)) ys ≡ rowWritten (lettersIn d) (stringIn d) out
+unfolding rowWritten rowLength letterPlace copied
+row-written d [] f h = absurd (not-suc-le-zero (f .room))
+row-written d (y ∷ out) {ys} f h =
+    let x : ℕ = getD d 0 0 in
+    let w : ℕ = lettersIn d in
+    let long : length (drop 1 d) ≡ w = length-drop 1 d in
+    let short : shorter (drop 1 d) out ≡ w = omega (arith, f .room) in
+    put-rest x out ys
+    ∙ ap (λ (l : List ℕ). x ∷ l)
+    (h ∙ ap₂ (λ (a b : List ℕ). take (shorter a b) a ++ drop (shorter a b) b) (from-is 1 d) (from-is 1 (x ∷ out))
+    ∙ ap (λ (j : ℕ). take j (drop 1 d) ++ drop j out) short ∙ ap (λ (l : List ℕ). l ++ drop w out) (take-all w (drop 1 d) (omega arith)))
+    ∙ ap (λ (l : List ℕ). l ++ drop w out) (sym (row-of-work (f .row)))
+
+pub written-length : {d out ys : List ℕ} → Finished d out → ys ≡ copied (from 1 d) (from 1 (set out 0 (getD d 0 0)))
+    → length (putMid 1 (length (set out 0 (getD d 0 0)) - 1) (set out 0 (getD d 0 0)) ys) ≡ length out
+unfolding rowWritten
+written-length {d} {out} f h =
+    ap length (row-written d out f h) ∙ length-append (encodeRow (lettersIn d) (stringIn d)) (drop (rowLength (lettersIn d)) out)
+    ∙ omega (arith, length-row (lettersIn d) (stringIn d), length-drop (rowLength (lettersIn d)) out, f .room)
+
+-- ---- the generator of a row
+pub qubit-x : (w r : ℕ) → r < w → r ≡ rowQubit w r
+unfolding rowQubit
+qubit-x w r h = sym (ap (λ b. cond b r (r - w)) (lt-ltb r w h))
+
+pub qubit-z : (w r : ℕ) → w ≤ r → r - w ≡ rowQubit w r
+unfolding rowQubit
+qubit-z w r h = sym (ap (λ b. cond b r (r - w)) (le-ltb r w h))
+
+pub letter-x : (w r : ℕ) → r < w → 1 ≡ letterByte (rowLetter w r)
+unfolding rowLetter letterByte
+letter-x w r h = sym (ap (λ b. letterByte (cond b X Z)) (lt-ltb r w h))
+
+pub letter-z : (w r : ℕ) → w ≤ r → 2 ≡ letterByte (rowLetter w r)
+unfolding rowLetter letterByte
+letter-z w r h = sym (ap (λ b. letterByte (cond b X Z)) (le-ltb r w h))
+
+pub ruleset row-access = (
+  record-fits,
+  record-one-fits,
+  record-sized,
+  offset-fits,
+  offset-one-fits,
+  offset-sized,
+  inside-index,
+  own-inside,
+  part-end,
+  part-is,
+  qubit-x,
+  qubit-z,
+  letter-x,
+  letter-z,
+  work-on,
+  own-some,
+  work-some,
+  work-some-more,
+  times-row,
+  finished-some,
+  finished-room,
+  row-written,
+  written-length,
+  needs,
+)
+
+-- ---- a row changed by a gate's table
+-- a sign is put into a phase byte by the lowest bit
+sign-bit : (p : Phase) (k : ℕ) → k < 2 → bitXor (phaseByte p) k ≡ phaseByte (p · phaseOf k)
+unfolding phaseByte phaseOf _·_ negate turn
+sign-bit PlusOne zero h = refl
+sign-bit MinusOne zero h = refl
+sign-bit PlusI zero h = refl
+sign-bit MinusI zero h = refl
+sign-bit PlusOne (suc zero) h = refl
+sign-bit MinusOne (suc zero) h = refl
+sign-bit PlusI (suc zero) h = refl
+sign-bit MinusI (suc zero) h = refl
+sign-bit PlusOne (suc (suc k)) h = absurd (omega arith)
+sign-bit MinusOne (suc (suc k)) h = absurd (omega arith)
+sign-bit PlusI (suc (suc k)) h = absurd (omega arith)
+sign-bit MinusI (suc (suc k)) h = absurd (omega arith)
+
+pub row-changed : (e : List ℕ) (q s : ℕ) (b : List ℕ) {x y z : ℕ} → x ≡ min (getD b (q + 1) 0) 3 → y ≡ min (getD b (s + 1) 0) 3 → z ≡ min (getD b 0 0) 3
+    → set (set (set b 0 (bitXor z (getD e (4 * x + y) 0 / 16 % 2))) (q + 1) (getD e (4 * x + y) 0 / 4 % 4)) (s + 1) (getD e (4 * x + y) 0 % 4) ≡ tableOnRow e q s b
+unfolding tableOnRow withPair readTable imageIn letterIn
+row-changed e q s b {x} {y} {z} ex ey ez =
+    let v : ℕ = getD e (4 * x + y) 0 in
+    let same : v ≡ getD e (4 * letterByte (letterOf (getD b (letterPlace q) 0)) + letterByte (letterOf (getD b (letterPlace s) 0))) 0 =
+    ap₂ (λ (i j : ℕ). getD e (4 * i + j) 0)
+    (ex ∙ ap (λ (k : ℕ). min (getD b k 0) 3) (sym (place-is q)) ∙ capped-letter (getD b (letterPlace q) 0))
+    (ey ∙ ap (λ (k : ℕ). min (getD b k 0) 3) (sym (place-is s)) ∙ capped-letter (getD b (letterPlace s) 0)) in
+    let sign : bitXor z (v / 16 % 2) ≡ phaseByte (phaseOf (getD b 0 0) · phaseOf (v / 16 % 2)) =
+    ap (λ (k : ℕ). bitXor k (v / 16 % 2)) (ez ∙ capped-phase (getD b 0 0)) ∙ sign-bit (phaseOf (getD b 0 0)) (v / 16 % 2) (omega arith) in
+    let first : v / 4 % 4 ≡ letterByte (letterOf (v / 4 % 4)) = sym (letter-there (v / 4 % 4) (omega arith)) in
+    let second : v % 4 ≡ letterByte (letterOf (v % 4)) = sym (letter-there (v % 4) (omega arith)) in
+    ap₂ (λ (j k : ℕ). set (set (set b 0 (bitXor z (v / 16 % 2))) j (v / 4 % 4)) k (v % 4)) (sym (place-is q)) (sym (place-is s))
+    ∙ ap (λ (k : ℕ). set (set (set b 0 k) (letterPlace q) (v / 4 % 4)) (letterPlace s) (v % 4)) sign
+    ∙ ap₂ (λ (j k : ℕ). set (set (set b 0 (phaseByte (phaseOf (getD b 0 0) · phaseOf (v / 16 % 2)))) (letterPlace q) j) (letterPlace s) k) first second
+    ∙ ap (λ (u : ℕ). set (set (set b 0 (phaseByte (phaseOf (getD b 0 0) · phaseOf (u / 16 % 2)))) (letterPlace q) (letterByte (letterOf (u / 4 % 4)))) (letterPlace s) (letterByte (letterOf (u % 4)))) same
+
+pub ruleset row-changes = (row-changed, needs)
