@@ -1,13 +1,10 @@
 // Tableaux written row by row: each row is made in the part of the destination that starts at its offset.
 ghost use mathlib.Core.Path.{_≡_};
 ghost use Rattle.pauli.specs.declared.refusal.Outcome.the-variants.{Done};
-ghost use Rattle.pauli.specs.Answers.{written, Written};
-ghost use Rattle.pauli.specs.Questions.{roomQuestion};
-ghost use lib.ListN.{length};
-ghost use Rattle.clifford_group.specs.Tableau.{apply};
-ghost use Rattle.clifford.specs.Layout.{recordLength, rowOf, tableauOf, tableauRecord};
-ghost use Rattle.clifford.specs.Inside.Rows.{AppliesRow, rowWritten, lettersIn, stringIn};
-ghost use Rattle.clifford.specs.Inside.Made.{madeTableau, Makes, MakesAll, MakesRow, MakesBy};
+ghost use Rattle.pauli.specs.Answers.{written};
+ghost use Rattle.clifford.specs.Layout.{rowOf, tableauRecord};
+ghost use Rattle.clifford.specs.Inside.Rows.{AppliesRow, imageWritten, rowWritten};
+ghost use Rattle.clifford.specs.Inside.Made.{madeTableau, Makes, MakesAll, MakesRow, MakesBy, MadeWritten};
 use crate::applying::apply_letter;
 use crate::applying::apply_string;
 use crate::gates::gate_image;
@@ -40,7 +37,7 @@ pub(crate) enum Made {
 // The apply routine for rows: the image of the string s, as the row at the front of dst.
 fn apply_to_row(t: &[u8], s: &[u8], work: &mut [u8], dst: &mut [u8])
     requires { ⌜ AppliesRow (now t) (now s) (now work) (now dst) ⌝ }
-    ensures { λ _. ⌜ now (dst .exit) ≡ rowWritten (lettersIn (now (work .entry))) (apply (tableauOf (now (t .entry))) (stringIn (now (s .entry)))) (now (dst .entry)) ⌝ }
+    ensures { λ _. ⌜ now (dst .exit) ≡ imageWritten (now (t .entry)) (now (s .entry)) (now (work .entry)) (now (dst .entry)) ⌝ }
 {
     apply_string(t, s, work);
     write_row(work, dst);
@@ -126,7 +123,7 @@ fn write_rows(made: Made, a: &[u8], b: &[u8], width: usize, dst: &mut [u8])
 // The record of the tableau, where there is room for it.
 pub(crate) fn write_made(made: Made, a: &[u8], b: &[u8], width: usize, dst: &mut [u8]) -> Outcome
     requires { ⌜ Makes made (now a) (now b) width ⌝ }
-    ensures { λ r. ⌜ Written (roomQuestion (recordLength width) (length (now (dst .entry)))) (tableauRecord (madeTableau made (now (a .entry)) (now (b .entry)) width)) (now (dst .entry)) (now (dst .exit)) r ⌝ }
+    ensures { λ r. ⌜ MadeWritten made (now (a .entry)) (now (b .entry)) width (now (dst .entry)) (now (dst .exit)) r ⌝ }
 {
     let answer = check_room(record_length(width), dst.len());
     if let Outcome::Done = answer {

@@ -5,10 +5,13 @@ use mathlib.Core.List.{List}
 use lib.ListN.{length}
 use Rattle.clifford_group.specs.Tableau.{Tableau, widen, compose, inverse}
 use Rattle.clifford_gates.specs.GateNumbers.{gateTableau}
+use Rattle.pauli.specs.declared.refusal.Outcome.{Outcome}
+use Rattle.pauli.specs.Answers.{Written}
+use Rattle.pauli.specs.Questions.{roomQuestion}
 use Rattle.pauli.specs.Layout.{stringOf, WellFormed}
 use Rattle.clifford.specs.declared.writing.Made.{Made}
 use Rattle.clifford.specs.declared.writing.Made.the-variants.{Widened, Composite, Inverse, OfPauli, OfGate}
-use Rattle.clifford.specs.Layout.{rowLength, recordLength, widthOf, tableauOf, FormedTableau}
+use Rattle.clifford.specs.Layout.{rowLength, recordLength, widthOf, tableauOf, tableauRecord, FormedTableau}
 use Rattle.clifford.specs.Images.{pauliTableau}
 use Rattle.clifford.specs.GateQuestions.{gateWidth}
 use Rattle.clifford.specs.Inside.Writing.{Span}
@@ -69,3 +72,7 @@ pub record MakesBy (m : Made) (a b : List ℕ) (w r : ℕ) (s k out : List ℕ) 
   pub row : MakesRow m a b w r out
   pub source : length s ≡ w + 1
   pub work : length k ≡ w + 1
+
+-- its record over the front of what was d and is e, where there is room for it; r is the answer
+abbrev pub MadeWritten : (m : Made) (a b : List ℕ) (w : ℕ) (d e : List ℕ) (r : Outcome) → Type 0
+MadeWritten m a b w d e r = Written (roomQuestion (recordLength w) (length d)) (tableauRecord (madeTableau m a b w)) d e r

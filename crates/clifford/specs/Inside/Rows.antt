@@ -8,9 +8,9 @@ use lib.ListN.{length, drop}
 use Rattle.pauli_group.specs.Phase.{sign}
 use Rattle.pauli_group.specs.Letter.{anticommute}
 use Rattle.pauli_group.specs.PauliString.{PauliString, mul, scale, identityString}
-use Rattle.clifford_group.specs.Tableau.{Tableau}
+use Rattle.clifford_group.specs.Tableau.{Tableau, apply}
 use Rattle.pauli.specs.Layout.{phaseByte, phaseOf, letterOf, encodeString, decodeString, WellFormed}
-use Rattle.clifford.specs.Layout.{rowLength, encodeRow, lettersOf, rowPart, recordLength, longestRecord, widthOf, FormedTableau}
+use Rattle.clifford.specs.Layout.{rowLength, encodeRow, lettersOf, rowPart, recordLength, longestRecord, widthOf, tableauOf, FormedTableau}
 
 -- r is the size or offset n in a record
 pub record Sized (n r : ℕ) : Type 0 where
@@ -39,6 +39,10 @@ clearedRow n p = encodeString (n - 1) (scale (phaseOf p) identityString)
 -- a finished row over the front of d
 unfoldable pub rowWritten : ℕ → PauliString → List ℕ → List ℕ
 rowWritten w s d = encodeRow w s ++ drop (rowLength w) d
+
+-- the image of the string in s through the record b, as a row of as many letters as the work row k has, over the front of d
+abbrev pub imageWritten : (b s k d : List ℕ) → List ℕ
+imageWritten b s k d = rowWritten (lettersIn k) (apply (tableauOf b) (stringIn s)) d
 
 -- a tableau with row r replaced
 unfoldable pub withRow : Tableau → ℕ → PauliString → Tableau
