@@ -12,12 +12,11 @@ use Rattle.pauli.specs.declared.refusal.Outcome.{Outcome}
 use Rattle.pauli.specs.declared.refusal.Outcome.the-variants.{Done, Refused}
 use Rattle.pauli.specs.Questions.{_andThen_}
 use Rattle.pauli.proofs.Asking.{done-first, done-second}
-use Rattle.clifford.specs.Answers.{partAnswer, CountAnswered}
+use Rattle.clifford.specs.Answers.{partAnswer}
 use Rattle.clifford.specs.Layout.{rowOffset, encodeRow, rowOf, widthOf, rowPart, tableauOf}
-use Rattle.pauli.specs.declared.refusal.CountAnswer.{CountAnswer}
-use Rattle.pauli.specs.declared.refusal.CountAnswer.the-variants.{Count, NoCount}
-use Rattle.pauli.specs.Answers.{countAnswer, countReply}
-use Rattle.pauli.proofs.Answers.{count-told}
+use Rattle.pauli.specs.declared.refusal.CountAnswer.the-variants.{Count}
+use Rattle.pauli.specs.Answers.{CountAnswered}
+use Rattle.pauli.proofs.Answers.{counted-done, counted-not}
 use Rattle.clifford.specs.Questions.{tableauQuestions, slotQuestion, imageQuestions}
 use Rattle.clifford.specs.Inside.Rows.{OwnRow, RowIndex, Sized}
 use Rattle.clifford.specs.Tableaux.{xImagePart, zImagePart}
@@ -89,9 +88,6 @@ part-some : {t : List ℕ} {r : ℕ} → OwnRow t r → rowPart t r ≡ [] → �
 part-some o e = omega (arith, ap length e, own-some o refl)
 
 -- ---- where it starts
-offset-answered : {q : Outcome} {n : ℕ} {r : CountAnswer} → r ≡ countAnswer q n → CountAnswered q n r
-offset-answered {q} {n} e = record { answer = e; told = ap countReply e ∙ count-told q n }
-
 module _ (t : List ℕ) (slot : ℕ) {r : Outcome} (p : r ≡ imageQuestions t slot) where
   pub x-index : {n : ℕ} → r ≡ Done → n ≡ widthOf t → RowIndex n slot
   x-index h e = record { narrow = omega (arith, e, own-x t slot p h .tableau .narrow); own = omega (arith, e, own-x t slot p h .own) }
@@ -99,23 +95,15 @@ module _ (t : List ℕ) (slot : ℕ) {r : Outcome} (p : r ≡ imageQuestions t s
   pub z-index : {n : ℕ} → r ≡ Done → n ≡ widthOf t → RowIndex n (n + slot)
   z-index {n} h e = record { narrow = omega (arith, e, own-z t slot p h e .tableau .narrow); own = omega (arith, e, own-z t slot p h e .own) }
 
-  at-offset : (k : ℕ) {at : ℕ} → r ≡ Done → at ≡ k → CountAnswered (imageQuestions t slot) k (Count at)
-  unfolding countAnswer
-  at-offset k h e = offset-answered (ap Count e ∙ ap (λ x. countAnswer x k) (sym h ∙ p))
-
   pub x-offset : {n at : ℕ} → r ≡ Done → n ≡ widthOf t → Sized (rowOffset n slot) at
       → CountAnswered (imageQuestions t slot) (rowOffset (widthOf t) slot) (Count at)
-  x-offset h e s = at-offset _ h (s .is ∙ ap (λ (j : ℕ). rowOffset j slot) e)
+  x-offset h e s = counted-done p h (s .is ∙ ap (λ (j : ℕ). rowOffset j slot) e)
 
   pub z-offset : {n at : ℕ} → r ≡ Done → n ≡ widthOf t → Sized (rowOffset n (n + slot)) at
       → CountAnswered (imageQuestions t slot) (rowOffset (widthOf t) (widthOf t + slot)) (Count at)
-  z-offset h e s = at-offset _ h (s .is ∙ ap (λ (j : ℕ). rowOffset j (j + slot)) e)
+  z-offset h e s = counted-done p h (s .is ∙ ap (λ (j : ℕ). rowOffset j (j + slot)) e)
 
-  pub no-offset : {x : Refusal} (k : ℕ) → r ≡ Refused x → CountAnswered (imageQuestions t slot) k (NoCount x)
-  unfolding countAnswer
-  no-offset k h = offset-answered (ap (λ y. countAnswer y k) (sym h ∙ p))
-
-pub ruleset image-offsets = (x-index, z-index, image-fits, x-offset, z-offset, no-offset, needs)
+pub ruleset image-offsets = (x-index, z-index, image-fits, x-offset, z-offset, counted-not, needs)
 
 pub x-empty : (t : List ℕ) (slot : ℕ) → xImagePart t slot ≡ [] → imageQuestions t slot ≡ Done → ⊥
 x-empty t slot e h = part-some (own-x t slot refl h) (x-handed t slot refl h refl ∙ e)

@@ -7,9 +7,8 @@ use Rattle.clifford_gates.specs.GateNumbers.{composeGate, inverseGate}
 use Rattle.pauli.specs.declared.refusal.Outcome.{Outcome}
 use Rattle.pauli.specs.declared.refusal.Flag.{Flag}
 use Rattle.pauli.specs.declared.refusal.CountAnswer.{CountAnswer}
-use Rattle.pauli.specs.Answers.{FlagAnswered, Written, CountWritten}
+use Rattle.pauli.specs.Answers.{FlagAnswered, CountAnswered, Written, CountWritten}
 use Rattle.clifford.specs.declared.clifford.GateAnswer.{GateAnswer}
-use Rattle.clifford.specs.Answers.{CountAnswered}
 use Rattle.clifford.specs.Layout.{widthOf, rowOffset}
 use Rattle.clifford.specs.Questions.{tableauQuestions, imageQuestions, setQuestions, identityAnswer, applyAnswer, composeAnswer, extendAnswer, inverseAnswer, pauliAnswer, supportAnswer}
 use Rattle.clifford.specs.Tableaux.{recordValid, setXRecord, setZRecord, identityRecord, applyRecord, composeRecord, extendRecord, inverseRecord, pauliRecord, supportBytes}

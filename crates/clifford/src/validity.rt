@@ -8,14 +8,14 @@ ghost use Rattle.clifford.specs.Inside.Rows.{OwnRows, OwnQubit, OwnQubit
 use crate::layout::phase_at;
 use crate::layout::row_letters;
 use crate::layout::width;
-use pauli::rows::anticommuting_places;
+use pauli::rows::count_anticommuting;
 
 // Whether two rows commute: the places at which they anticommute are even in number.
 fn rows_commute(t: &[u8], r: usize, p: usize) -> bool
     requires { ⌜ OwnRows (now t) r p ⌝ }
     ensures { λ b. ⌜ b ≡ commute (rowOf (tableauOf (now (t .entry))) r) (rowOf (tableauOf (now (t .entry))) p) ⌝ }
 {
-    let places = anticommuting_places(row_letters(t, r), row_letters(t, p));
+    let places = count_anticommuting(row_letters(t, r), row_letters(t, p));
     places % 2 == 0
 }
 

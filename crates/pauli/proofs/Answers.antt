@@ -13,12 +13,13 @@ use Rattle.pauli.specs.declared.refusal.ByteAnswer.{ByteAnswer}
 use Rattle.pauli.specs.declared.refusal.ByteAnswer.the-variants.{Byte, NoByte}
 use Rattle.pauli.specs.declared.refusal.Flag.{Flag}
 use Rattle.pauli.specs.declared.refusal.Flag.the-variants.{NoFlag}
+use Rattle.pauli.specs.declared.refusal.CountAnswer.{CountAnswer}
 use Rattle.pauli.specs.declared.refusal.CountAnswer.the-variants.{Count, NoCount}
 use Rattle.pauli.specs.declared.refusal.LetterAnswer.{LetterAnswer}
 use Rattle.pauli.specs.declared.refusal.LetterAnswer.the-variants.{Phased, NoLetter}
 use Rattle.pauli.specs.Rows.{letterBytesProduct, productPhaseByte, productLetterByte}
 use Rattle.pauli.specs.Answers.{refusalNumber, refusalDetail, reply, refusalReply, replyTo, outcomeReply, productReply, byteReply, flagReply, countReply, letterReply}
-use Rattle.pauli.specs.Answers.{productAnswer, byteAnswer, yesOrNo, oneOrZero, flagAnswer, countAnswer, letterAnswer, written, CountWritten, ByteAnswered, FlagAnswered, LetterAnswered, Written, ProductWritten}
+use Rattle.pauli.specs.Answers.{productAnswer, byteAnswer, yesOrNo, oneOrZero, flagAnswer, countAnswer, letterAnswer, written, CountWritten, ByteAnswered, FlagAnswered, CountAnswered, LetterAnswered, Written, ProductWritten}
 
 pub reply-is : (r : Refusal) {n d : ℕ} → n ≡ refusalNumber r → d ≡ refusalDetail r → reply n d ≡ refusalReply r
 unfolding refusalReply
@@ -41,6 +42,14 @@ flag-told (Refused r) f = refl
 
 pub flag-answered : {q : Outcome} {f : Bool} {r : Flag} → r ≡ flagAnswer q f → FlagAnswered q f r
 flag-answered {q} {f} e = record { answer = e; told = ap flagReply e ∙ flag-told q f }
+
+pub count-told : (q : Outcome) (n : ℕ) → countReply (countAnswer q n) ≡ replyTo q n
+unfolding countReply countAnswer replyTo
+count-told Done n = refl
+count-told (Refused r) n = refl
+
+count-answered : {q : Outcome} {n : ℕ} {r : CountAnswer} → r ≡ countAnswer q n → CountAnswered q n r
+count-answered {q} {n} e = record { answer = e; told = ap countReply e ∙ count-told q n }
 
 letter-told : (q : Outcome) (p l : ℕ) → letterReply (letterAnswer q p l) ≡ replyTo q (4 * p + l)
 unfolding letterReply letterAnswer replyTo
@@ -92,11 +101,6 @@ product-not {q} {r} out d p h = record {
   bytes = ap (λ x. written x out d) (sym h ∙ p);
 }
 
-pub count-told : (q : Outcome) (n : ℕ) → countReply (countAnswer q n) ≡ replyTo q n
-unfolding countReply countAnswer replyTo
-count-told Done n = refl
-count-told (Refused r) n = refl
-
 pub count-done : {q r : Outcome} {out d e : List ℕ} {n : ℕ} → r ≡ q → r ≡ Done → n ≡ length out → e ≡ written Done out d → CountWritten q out d e (Count n)
 unfolding countAnswer
 count-done {q} {r} {out} {d} p h c w =
@@ -126,6 +130,14 @@ pub flag-not : {q r : Outcome} {x : Refusal} (f : Bool) → r ≡ q → r ≡ Re
 unfolding flagAnswer
 flag-not f p h = flag-answered (ap (λ x. flagAnswer x f) (sym h ∙ p))
 
+pub counted-done : {q r : Outcome} {n m : ℕ} → r ≡ q → r ≡ Done → m ≡ n → CountAnswered q n (Count m)
+unfolding countAnswer
+counted-done {q} {r} {n} p h e = count-answered (ap Count e ∙ ap (λ x. countAnswer x n) (sym h ∙ p))
+
+pub counted-not : {q r : Outcome} {x : Refusal} (n : ℕ) → r ≡ q → r ≡ Refused x → CountAnswered q n (NoCount x)
+unfolding countAnswer
+counted-not n p h = count-answered (ap (λ x. countAnswer x n) (sym h ∙ p))
+
 pub letter-done : {q r : Outcome} {p l v w : ℕ} → r ≡ q → r ≡ Done → v ≡ p → w ≡ l → LetterAnswered q p l (Phased v w)
 unfolding letterAnswer
 letter-done {q} {r} {p} {l} e h ep el = letter-answered (ap₂ Phased ep el ∙ ap (λ x. letterAnswer x p l) (sym h ∙ e))
@@ -151,6 +163,8 @@ pub ruleset answers = (
   flag-not,
   count-done,
   count-not,
+  counted-done,
+  counted-not,
   letter-done,
   phased-done,
   letter-not,

@@ -1,27 +1,22 @@
 -- What the functions that read string records find.
 use mathlib.Core.Path.{_≡_, sym, ap, ap₂, _∙_}
 use mathlib.Core.List.{List}
-use Prim.Native.Nat.{ℕ, suc, _+_, _%_, _<_}
+use Prim.Native.Nat.{ℕ, suc, _+_, _%_, _≤_, _<_}
 use native.Mathlib.Numerals.{add-one}
 use native.Mathlib.Omega.{arith}
-use lib.Dec.{eqb}
 use lib.ListN.{length, getD}
 use mir.Syntax.{w64}
 use mir.Val.{Fits}
 use borrow.Author.Needs.{needs}
-use borrow.Author.Tests.{eq-eqb, ne-eqb}
 use Rattle.pauli_group.specs.Letter.{anticommute}
-use Rattle.pauli_group.specs.PauliString.{qubits, anticommutingPlaces, commute}
+use Rattle.pauli_group.specs.PauliString.{qubits, anticommutingPlaces}
 use Rattle.pauli_group.proofs.Products.{countTo-ext}
 use Rattle.pauli.specs.declared.refusal.Outcome.{Outcome}
 use Rattle.pauli.specs.declared.refusal.Outcome.the-variants.{Done}
-use Rattle.pauli.specs.declared.refusal.Flag.the-variants.{Yes, No}
-use Rattle.pauli.specs.Answers.{yesOrNo}
-use Rattle.pauli.specs.Layout.{letterByte, letterOf, decodeString, stringOf}
+use Rattle.pauli.specs.Layout.{letterByte, letterOf, decodeString, stringOf, WellFormed}
 use Rattle.pauli.specs.Questions.{_andThen_, stringQuestions, qubitQuestion, stringsQuestions, getQuestions}
 use Rattle.pauli.specs.Rows.{letterAt, placesOf, shorter}
-use Rattle.pauli.specs.Strings.{phaseOfRecord, letterOfRecord, recordsCommute}
-use Rattle.pauli.specs.Inside.Writing.{Pair}
+use Rattle.pauli.specs.Strings.{phaseOfRecord, letterOfRecord, placesOfRecords}
 use Rattle.pauli.proofs.Answers.{answers}
 use Rattle.pauli.proofs.Asking.{then-asked, done-first, done-second, string-formed, qubit-below}
 use Rattle.pauli.proofs.Places.{from, from-at, length-from}
@@ -56,27 +51,28 @@ letter-place s q p h = omega (arith, string-formed s (done-first _ _ (sym p ∙ 
 pub letter-index : (q : ℕ) (a : Outcome) {b r : Outcome} → b ≡ qubitQuestion q → r ≡ a andThen b → r ≡ Done → Fits w64 (q + 1)
 letter-index q a {b} p e h = record { fits = omega (arith, qubit-below q (sym p ∙ done-second a b (sym e ∙ h))) }
 
--- ---- commutation
-pub a-pair : {s t : List ℕ} {r : Outcome} → r ≡ stringsQuestions s t → r ≡ Done → Pair s t
-unfolding stringsQuestions
-a-pair {s} {t} p h = record { first = string-formed s (done-first _ _ (sym p ∙ h)); second = string-formed t (done-second (stringQuestions s) _ (sym p ∙ h)) }
+-- ---- the places at which two strings anticommute
+module _ (s t : List ℕ) {r : Outcome} (p : r ≡ stringsQuestions s t) (h : r ≡ Done) where
+  first-formed : WellFormed 128 s
+  unfolding stringsQuestions
+  first-formed = string-formed s (done-first _ _ (sym p ∙ h))
 
-places-are : {s t : List ℕ} {r : ℕ} → Pair s t → r ≡ placesOf (shorter (from 1 s) (from 1 t)) (from 1 s) (from 1 t) % 256
-    → r ≡ anticommutingPlaces (stringOf s) (stringOf t)
-unfolding anticommutingPlaces placesOf stringOf letterAt qubits
-places-are {s} {t} {r} f e =
-    let short : shorter (from 1 s) (from 1 t) ≡ 128 = omega (arith, f .first .long, f .second .long, length-from 1 s, length-from 1 t) in
-    e ∙ ap (λ (j : ℕ). placesOf j (from 1 s) (from 1 t) % 256) short ∙ count-exact 128 (from 1 s) (from 1 t) (omega arith)
-    ∙ countTo-ext 128 _ _ (λ q l. ap₂ (λ x y. anticommute (letterOf x) (letterOf y)) (from-at s q) (from-at t q) ∙ sym (ap₂ anticommute (decode-letter 128 s q l) (decode-letter 128 t q l)))
+  second-formed : WellFormed 128 t
+  unfolding stringsQuestions
+  second-formed = string-formed t (done-second (stringQuestions s) _ (sym p ∙ h))
 
-pub even-yes : {s t : List ℕ} {r : ℕ} → Pair s t → r ≡ placesOf (shorter (from 1 s) (from 1 t)) (from 1 s) (from 1 t) % 256 → r % 2 ≡ 0
-    → Yes ≡ yesOrNo (recordsCommute s t)
-unfolding recordsCommute commute
-even-yes f e h = sym (ap yesOrNo (ap (λ (n : ℕ). eqb (n % 2) 0) (sym (places-are f e)) ∙ eq-eqb _ 0 h))
+  pub first-place : 1 ≤ length s
+  first-place = omega (arith, first-formed .long)
 
-pub odd-no : {s t : List ℕ} {r : ℕ} → Pair s t → r ≡ placesOf (shorter (from 1 s) (from 1 t)) (from 1 s) (from 1 t) % 256 → (r % 2 ≡ 0 → ⊥)
-    → No ≡ yesOrNo (recordsCommute s t)
-unfolding recordsCommute commute
-odd-no f e h = sym (ap yesOrNo (ap (λ (n : ℕ). eqb (n % 2) 0) (sym (places-are f e)) ∙ ne-eqb _ 0 h))
+  pub second-place : 1 ≤ length t
+  second-place = omega (arith, second-formed .long)
 
-pub ruleset string-reads = (get-asked, phase-read, phase-place, letter-read, letter-place, letter-index, a-pair, even-yes, odd-no, answers, needs)
+  -- 128 places are counted, which is below 256
+  pub places-are : {n : ℕ} → n ≡ placesOf (shorter (from 1 s) (from 1 t)) (from 1 s) (from 1 t) % 256 → n ≡ placesOfRecords s t
+  unfolding placesOfRecords anticommutingPlaces placesOf stringOf letterAt qubits
+  places-are e =
+      let short : shorter (from 1 s) (from 1 t) ≡ 128 = omega (arith, first-formed .long, second-formed .long, length-from 1 s, length-from 1 t) in
+      e ∙ ap (λ (j : ℕ). placesOf j (from 1 s) (from 1 t) % 256) short ∙ count-exact 128 (from 1 s) (from 1 t) (omega arith)
+      ∙ countTo-ext 128 _ _ (λ q l. ap₂ (λ x y. anticommute (letterOf x) (letterOf y)) (from-at s q) (from-at t q) ∙ sym (ap₂ anticommute (decode-letter 128 s q l) (decode-letter 128 t q l)))
+
+pub ruleset string-reads = (get-asked, phase-read, phase-place, letter-read, letter-place, letter-index, first-place, second-place, places-are, answers, needs)

@@ -153,6 +153,11 @@ pub record FlagAnswered (q : Outcome) (f : Bool) (r : Flag) : Type 0 where
   pub answer : r ≡ flagAnswer q f
   pub told : flagReply r ≡ replyTo q (oneOrZero f)
 
+-- a count, or an offset
+pub record CountAnswered (q : Outcome) (n : ℕ) (r : CountAnswer) : Type 0 where
+  pub answer : r ≡ countAnswer q n
+  pub told : countReply r ≡ replyTo q n
+
 pub record LetterAnswered (q : Outcome) (p l : ℕ) (r : LetterAnswer) : Type 0 where
   pub answer : r ≡ letterAnswer q p l
   pub told : letterReply r ≡ replyTo q (4 * p + l)

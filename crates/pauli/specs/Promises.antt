@@ -10,11 +10,11 @@ use Rattle.pauli.specs.declared.refusal.ByteAnswer.{ByteAnswer}
 use Rattle.pauli.specs.declared.refusal.Flag.{Flag}
 use Rattle.pauli.specs.declared.refusal.CountAnswer.{CountAnswer}
 use Rattle.pauli.specs.declared.refusal.LetterAnswer.{LetterAnswer}
-use Rattle.pauli.specs.Answers.{ByteAnswered, FlagAnswered, LetterAnswered, Written, ProductWritten, CountWritten}
+use Rattle.pauli.specs.Answers.{ByteAnswered, FlagAnswered, CountAnswered, LetterAnswered, Written, ProductWritten, CountWritten}
 use Rattle.pauli.specs.Layout.{phaseOf}
 use Rattle.pauli.specs.Rows.{phaseBytesProduct, conjugateByte, productPhaseByte, productLetterByte}
 use Rattle.pauli.specs.Questions.{byteQuestion, pairQuestions, stringQuestions, getQuestions, stringsQuestions, mulQuestions, withPhaseQuestions}
-use Rattle.pauli.specs.Strings.{phaseOfRecord, letterOfRecord, recordsCommute, productRecord, entriesRecord}
+use Rattle.pauli.specs.Strings.{phaseOfRecord, letterOfRecord, placesOfRecords, productRecord, entriesRecord}
 use Rattle.pauli.specs.Text.{fromSparseQuestions, fromDenseQuestions, fromStrQuestions, sparseRecord, denseRecord, textRecord}
 use Rattle.pauli.specs.SparseText.{toSparseQuestions, textOfRecord}
 
@@ -40,8 +40,8 @@ PhaseOfString s r = ByteAnswered (stringQuestions s) (phaseOfRecord s) r
 abbrev pub LetterOfString : (s : List ℕ) (q : ℕ) (r : ByteAnswer) → Type 0
 LetterOfString s q r = ByteAnswered (getQuestions s q) (letterOfRecord s q) r
 
-abbrev pub StringsCommute : (s t : List ℕ) (r : Flag) → Type 0
-StringsCommute s t r = FlagAnswered (stringsQuestions s t) (recordsCommute s t) r
+abbrev pub PlacesCounted : (s t : List ℕ) (r : CountAnswer) → Type 0
+PlacesCounted s t r = CountAnswered (stringsQuestions s t) (placesOfRecords s t) r
 
 abbrev pub StringsMultiplied : (s t d e : List ℕ) (r : Product) → Type 0
 StringsMultiplied s t d e r = ProductWritten (mulQuestions s t (length d)) (productRecord s t) d e r

@@ -1,8 +1,7 @@
 -- What the public functions on string records give: the field's objects between decoding and encoding.
 use Prim.Native.Nat.{ℕ}
-use mathlib.Core.Bool.{Bool}
 use mathlib.Core.List.{List}
-use Rattle.pauli_group.specs.PauliString.{mul, commute}
+use Rattle.pauli_group.specs.PauliString.{mul, anticommutingPlaces}
 use Rattle.pauli.specs.Layout.{phaseByte, letterByte, stringOf, stringRecord}
 use Rattle.pauli.specs.Entries.{entriesString}
 
@@ -12,8 +11,8 @@ phaseOfRecord s = phaseByte (stringOf s .phase)
 unfoldable pub letterOfRecord : List ℕ → ℕ → ℕ
 letterOfRecord s q = letterByte (stringOf s .letters q)
 
-unfoldable pub recordsCommute : List ℕ → List ℕ → Bool
-recordsCommute s t = commute (stringOf s) (stringOf t)
+unfoldable pub placesOfRecords : List ℕ → List ℕ → ℕ
+placesOfRecords s t = anticommutingPlaces (stringOf s) (stringOf t)
 
 unfoldable pub productRecord : List ℕ → List ℕ → List ℕ
 productRecord s t = stringRecord (mul (stringOf s) (stringOf t))

@@ -1,12 +1,9 @@
 // String records: reading them, comparing them, making them from entries, writing them as text. Ports pauli_string.rs of PECOS, changed:
 // Copyright 2024 The PECOS Developers, Apache License, Version 2.0.
 ghost use mathlib.Core.Path.{_≡_};
-ghost use Rattle.pauli.specs.Answers.{yesOrNo};
 ghost use Rattle.pauli.specs.Inside.Marks.{Blank};
 ghost use Rattle.pauli.specs.SparseText.{toSparseQuestions};
-ghost use Rattle.pauli.specs.Strings.{recordsCommute};
-ghost use Rattle.pauli.specs.Inside.Writing.{Pair};
-ghost use Rattle.pauli.specs.Promises.{PhaseOfString, LetterOfString, StringsCommute, FromEntries, FromSparseText, FromDenseText, FromText, SparseTextWritten};
+ghost use Rattle.pauli.specs.Promises.{PhaseOfString, LetterOfString, PlacesCounted, FromEntries, FromSparseText, FromDenseText, FromText, SparseTextWritten};
 use crate::QUBITS;
 use crate::dense_reader::dense_string;
 use crate::entries::read_entries;
@@ -18,9 +15,8 @@ use crate::questions::check_string;
 use crate::questions::check_strings;
 use crate::refusal::ByteAnswer;
 use crate::refusal::CountAnswer;
-use crate::refusal::Flag;
 use crate::refusal::Outcome;
-use crate::rows::anticommuting_places;
+use crate::rows::count_anticommuting;
 use crate::sparse_reader::sparse_string;
 use crate::sparse_text::sparse_length;
 use crate::sparse_text::write_sparse;
@@ -48,23 +44,15 @@ pub fn get(s: &[u8], qubit: usize) -> ByteAnswer
     }
 }
 
-// Whether two well-formed records commute: the places at which they anticommute are even in number.
-fn even_places(s: &[u8], t: &[u8]) -> Flag
-    requires { ⌜ Pair (now s) (now t) ⌝ }
-    ensures { λ r. ⌜ r ≡ yesOrNo (recordsCommute (now (s .entry)) (now (t .entry))) ⌝ }
-{
-    let places = anticommuting_places(&s[1..], &t[1..]);
-    if places % 2 == 0 { Flag::Yes } else { Flag::No }
-}
-
-// Whether two string records commute.
-pub fn commutes_with(s: &[u8], t: &[u8]) -> Flag
-    ensures { λ r. ⌜ StringsCommute (now (s .entry)) (now (t .entry)) r ⌝ }
+// At how many qubits two string records anticommute; they commute where that is even. The kernel counts modulo 256, which the 128
+// places of a record never reach.
+pub fn anticommuting_places(s: &[u8], t: &[u8]) -> CountAnswer
+    ensures { λ r. ⌜ PlacesCounted (now (s .entry)) (now (t .entry)) r ⌝ }
 {
     let answer = check_strings(s, t);
     match answer {
-        Outcome::Done => even_places(s, t),
-        Outcome::Refused(why) => Flag::NoFlag(why),
+        Outcome::Done => CountAnswer::Count(count_anticommuting(&s[1..], &t[1..]) as usize),
+        Outcome::Refused(why) => CountAnswer::NoCount(why),
     }
 }
 

@@ -52,7 +52,7 @@ pub enum Flag {
     NoFlag(Refusal),
 }
 
-// A count or a length.
+// A count, a length or an offset.
 pub enum CountAnswer {
     Count(usize),
     NoCount(Refusal),

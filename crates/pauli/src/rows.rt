@@ -119,7 +119,7 @@ fn letters_anticommute(a: u8, b: u8) -> u8
 }
 
 // The number of places, of those that both rows have, at which the letters anticommute, modulo 256.
-pub fn anticommuting_places(a: &[u8], b: &[u8]) -> u8
+pub fn count_anticommuting(a: &[u8], b: &[u8]) -> u8
     ensures { λ r. ⌜ r ≡ placesOf (shorter (now (a .entry)) (now (b .entry))) (now (a .entry)) (now (b .entry)) % 256 ⌝ }
 {
     let n = smaller(a.len(), b.len());

@@ -4,4 +4,5 @@ pub mod Products
 pub mod Strings
 pub mod PaperForms
 pub mod Operators
+pub mod Places
 pub mod GaussianNumbers

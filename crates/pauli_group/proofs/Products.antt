@@ -1,14 +1,15 @@
 -- Products of phases over the places 0 to n - 1, and counts over them.
 use mathlib.Core.Path.{_≡_, refl, sym, ap, ap₂, _∙_, subst}
-use mathlib.Core.Bool.{Bool, true, false, cond}
+use mathlib.Core.Bool.{Bool, true, false, not, cond}
 use mathlib.Core.Logic.{_≢_}
 use Prim.Native.Nat.{ℕ, zero, suc, _+_, _%_, _≤_, _<_}
 use native.Mathlib.Nat.{not-suc-le-zero, lt-irrefl}
 use native.Mathlib.Omega.{arith}
 use native.Mathlib.Decide.{ℕ-discrete}
 use lib.Dec.{eqb}
-use Rattle.pauli_group.specs.Phase.{Phase, PlusOne, MinusOne, negate, turn, _·_, sign}
+use Rattle.pauli_group.specs.Phase.{Phase, PlusOne, MinusOne, negate, turn, _·_, sign, minusOneTo}
 use Rattle.pauli_group.specs.PauliString.{productTo, countTo}
+use Rattle.pauli_group.proofs.Finite.{phases, law1}
 use Rattle.pauli_group.proofs.Laws.{·-assoc, ·-comm, ·-left, one-·, ·-one}
 
 pub productTo-mul : (n : ℕ) (f g : ℕ → Phase) → productTo n (λ q. f q · g q) ≡ productTo n f · productTo n g
@@ -59,23 +60,29 @@ unfolding countTo
 countTo-ext zero f g h = refl
 countTo-ext (suc n) f g h = ap₂ (λ c b. c + cond b 1 0) (countTo-ext n f g (λ q l. h q (omega arith))) (h n (omega arith))
 
--- the sign of a count: -1 exactly if it is odd
-abbrev pub parity : ℕ → Bool
-parity n = eqb (n % 2) 1
+-- -1 to the power of a count is the product of the places' signs
+times-minus : (p : Phase) → negate p ≡ p · MinusOne
+unfolding _·_ negate turn
+times-minus = law1 phases phases negate (λ p. p · MinusOne) tt
 
-sign-more : (c : ℕ) (b : Bool) → sign (parity (c + cond b 1 0)) ≡ sign (parity c) · sign b
-unfolding sign _·_ negate turn
-sign-more c false = let e : c + 0 ≡ c = omega arith in ap (λ n. sign (parity n)) e ∙ sym (·-one (sign (parity c)))
-sign-more c true = elim (ℕ-discrete (c % 2) 1) [
-  | yes e ↦ let z : (c + 1) % 2 ≡ 0 = omega arith in flip c 1 0 e z refl
-  | no d ↦ let e : c % 2 ≡ 0 = omega arith in let z : (c + 1) % 2 ≡ 1 = omega arith in flip c 0 1 e z refl
+minus-more : (c : ℕ) (b : Bool) → minusOneTo (c + cond b 1 0) ≡ minusOneTo c · sign b
+unfolding minusOneTo sign
+minus-more c false = let e : c + 0 ≡ c = omega arith in ap minusOneTo e ∙ sym (·-one (minusOneTo c))
+minus-more c true = let e : c + 1 ≡ suc c = omega arith in ap minusOneTo e ∙ times-minus (minusOneTo c)
+
+pub signs-count : (n : ℕ) (f : ℕ → Bool) → productTo n (λ q. sign (f q)) ≡ minusOneTo (countTo n f)
+unfolding productTo countTo minusOneTo
+signs-count zero f = refl
+signs-count (suc n) f = ap (λ p. p · sign (f n)) (signs-count n f) ∙ sym (minus-more (countTo n f) (f n))
+
+-- it is +1 exactly if the number is even
+pub minus-even : (n : ℕ) → minusOneTo n ≡ sign (not (eqb (n % 2) 0))
+unfolding minusOneTo negate sign
+minus-even zero = refl
+minus-even (suc n) = ap negate (minus-even n) ∙ elim (ℕ-discrete (n % 2) 0) [
+  | yes e ↦ let f : suc n % 2 ≡ 1 = omega arith in next 0 1 e f refl
+  | no d ↦ let e : n % 2 ≡ 1 = omega arith in let f : suc n % 2 ≡ 0 = omega arith in next 1 0 e f refl
 ]
   where
-    flip : (c a b : ℕ) → c % 2 ≡ a → (c + 1) % 2 ≡ b → sign (eqb b 1) ≡ sign (eqb a 1) · MinusOne → sign (parity (c + 1)) ≡ sign (parity c) · MinusOne
-    flip c a b e z h = ap (λ n. sign (eqb n 1)) z ∙ h ∙ ap (λ n. sign (eqb n 1) · MinusOne) (sym e)
-
--- the product of the signs of the places is the sign of the count's parity
-pub signs-parity : (n : ℕ) (f : ℕ → Bool) → productTo n (λ q. sign (f q)) ≡ sign (parity (countTo n f))
-unfolding productTo countTo sign
-signs-parity zero f = refl
-signs-parity (suc n) f = ap (λ p. p · sign (f n)) (signs-parity n f) ∙ sym (sign-more (countTo n f) (f n))
+    next : (a b : ℕ) → n % 2 ≡ a → suc n % 2 ≡ b → negate (sign (not (eqb a 0))) ≡ sign (not (eqb b 0)) → negate (sign (not (eqb (n % 2) 0))) ≡ sign (not (eqb (suc n % 2) 0))
+    next a b e f h = ap (λ m. negate (sign (not (eqb m 0)))) e ∙ h ∙ ap (λ m. sign (not (eqb m 0))) (sym f)

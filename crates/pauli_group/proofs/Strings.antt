@@ -1,4 +1,4 @@
--- Pauli strings are a group under `mul`: associative, the identity neutral, phases central, P·Q = ±Q·P by the parity of the
+-- Pauli strings are a group under `mul`: associative, the identity neutral, phases central, P·Q = (-1)^n Q·P for the number n of
 -- places at which they anticommute.
 use mathlib.Core.Path.{_≡_, refl, sym, ap, ap₂, _∙_, fun-ext}
 use mathlib.Core.Bool.{Bool, true, false, cond, not}
@@ -7,13 +7,13 @@ use native.Mathlib.Omega.{arith}
 use native.Mathlib.Decide.{ℕ-discrete}
 use lib.Dec.{eqb}
 use borrow.Author.Tests.{eq-eqb, ne-eqb}
-use Rattle.pauli_group.specs.Phase.{Phase, PlusOne, MinusOne, _·_, isReal, sign}
+use Rattle.pauli_group.specs.Phase.{Phase, PlusOne, MinusOne, _·_, isReal, sign, minusOneTo}
 use Rattle.pauli_group.specs.Letter.{Letter, I, letterPhase, letterMul, anticommute}
 use Rattle.pauli_group.specs.PauliString.{PauliString, qubits, productTo, phaseOfLetters, mul, identityString, scale, single, anticommutingPlaces, commute, commutationSign, Within}
 use Rattle.pauli_group.proofs.Laws.{·-assoc, ·-comm, ·-left, one-·, ·-one, ·-cancel, real-square, square-real}
 use Rattle.pauli_group.proofs.Laws.{letterMul-assoc, letterMul-comm, letterMul-self, letterMul-I, I-letterMul, letterPhase-self, letterPhase-I, I-letterPhase}
 use Rattle.pauli_group.proofs.Laws.{cocycle, swap, anticommute-sym, anticommute-I, sign-mul}
-use Rattle.pauli_group.proofs.Products.{productTo-mul, productTo-one, productTo-ext, productTo-at, parity, signs-parity}
+use Rattle.pauli_group.proofs.Products.{productTo-mul, productTo-one, productTo-at, countTo-ext, signs-count, minus-even}
 
 -- strings with equal phases and equal letters are equal
 pub string-ext : (s t : PauliString) → s .phase ≡ t .phase → ((q : ℕ) → s .letters q ≡ t .letters q) → s ≡ t
@@ -75,10 +75,20 @@ mul-identity s =
     (ap (λ x. s .phase · PlusOne · x) (productTo-one qubits _ (λ q l. letterPhase-I (s .letters q))) ∙ ·-one (s .phase · PlusOne) ∙ ·-one (s .phase))
     (λ q. letterMul-I (s .letters q))
 
--- ---- P·Q = ±Q·P
+-- ---- P·Q = (-1)^n Q·P
+-- the places' signs, multiplied
+abbrev signs : PauliString → PauliString → Phase
+signs s t = productTo qubits (λ q. sign (anticommute (s .letters q) (t .letters q)))
+
+sign-places : (s t : PauliString) → signs s t ≡ commutationSign s t
+unfolding commutationSign anticommutingPlaces
+sign-places s t = signs-count qubits (λ q. anticommute (s .letters q) (t .letters q))
+
 phases-swap : (s t : PauliString) → phaseOfLetters (s .letters) (t .letters) ≡ commutationSign s t · phaseOfLetters (t .letters) (s .letters)
-unfolding phaseOfLetters commutationSign
-phases-swap s t = ap (productTo qubits) (fun-ext (λ q. swap (s .letters q) (t .letters q))) ∙ productTo-mul qubits _ _
+unfolding phaseOfLetters
+phases-swap s t =
+    ap (productTo qubits) (fun-ext (λ q. swap (s .letters q) (t .letters q))) ∙ productTo-mul qubits _ _
+    ∙ ap (λ p. p · phaseOfLetters (t .letters) (s .letters)) (sign-places s t)
 
 pub mul-swap : (s t : PauliString) → mul s t ≡ scale (commutationSign s t) (mul t s)
 unfolding mul scale
@@ -91,29 +101,10 @@ mul-swap s t =
 pub sign-only : (p : Phase) (s t : PauliString) → mul s t ≡ scale p (mul t s) → p ≡ commutationSign s t
 sign-only p s t e = scale-cancel p (commutationSign s t) (mul t s) (sym e ∙ mul-swap s t)
 
--- the sign is -1 exactly if the places at which the strings anticommute are odd in number
-pub sign-parity : (s t : PauliString) → commutationSign s t ≡ sign (parity (anticommutingPlaces s t))
-unfolding commutationSign anticommutingPlaces
-sign-parity s t = signs-parity qubits (λ q. anticommute (s .letters q) (t .letters q))
-
-even-odd : (n : ℕ) → eqb (n % 2) 0 ≡ not (parity n)
-even-odd n = elim (ℕ-discrete (n % 2) 0) [
-  | yes e ↦ two 0 e refl
-  | no d ↦ let e : n % 2 ≡ 1 = omega arith in two 1 e refl
-]
-  where
-    two : (r : ℕ) → n % 2 ≡ r → eqb r 0 ≡ not (eqb r 1) → eqb (n % 2) 0 ≡ not (parity n)
-    two r e h = ap (λ m. eqb m 0) e ∙ h ∙ ap (λ m. not (eqb m 1)) (sym e)
-
 -- two strings commute exactly where exchanging them changes nothing
 pub commute-sign : (s t : PauliString) → commutationSign s t ≡ sign (not (commute s t))
-unfolding commute
-commute-sign s t =
-    sign-parity s t ∙ ap sign (sym (not-not (parity (anticommutingPlaces s t))) ∙ ap not (sym (even-odd (anticommutingPlaces s t))))
-  where
-    not-not : (b : Bool) → not (not b) ≡ b
-    not-not true = refl
-    not-not false = refl
+unfolding commute commutationSign
+commute-sign s t = minus-even (anticommutingPlaces s t)
 
 pub commute-mul : (s t : PauliString) → commute s t ≡ true → mul s t ≡ mul t s
 unfolding sign
@@ -124,29 +115,35 @@ unfolding sign
 anticommute-mul s t e = mul-swap s t ∙ ap (λ p. scale p (mul t s)) (commute-sign s t ∙ ap (λ b. sign (not b)) e)
 
 -- ---- further laws of the sign
+pub places-sym : (s t : PauliString) → anticommutingPlaces s t ≡ anticommutingPlaces t s
+unfolding anticommutingPlaces
+places-sym s t = countTo-ext qubits _ _ (λ q l. anticommute-sym (s .letters q) (t .letters q))
+
 pub sign-sym : (s t : PauliString) → commutationSign s t ≡ commutationSign t s
 unfolding commutationSign
-sign-sym s t = ap (productTo qubits) (fun-ext (λ q. ap sign (anticommute-sym (s .letters q) (t .letters q))))
+sign-sym s t = ap minusOneTo (places-sym s t)
 
 pub sign-of-mul : (s t u : PauliString) → commutationSign (mul s t) u ≡ commutationSign s u · commutationSign t u
-unfolding commutationSign mul
-sign-of-mul s t u = ap (productTo qubits) (fun-ext (λ q. sign-mul (s .letters q) (t .letters q) (u .letters q))) ∙ productTo-mul qubits _ _
+unfolding mul
+sign-of-mul s t u =
+    sym (sign-places (mul s t) u) ∙ ap (productTo qubits) (fun-ext (λ q. sign-mul (s .letters q) (t .letters q) (u .letters q)))
+    ∙ productTo-mul qubits _ _ ∙ ap₂ _·_ (sign-places s u) (sign-places t u)
 
 pub sign-scale : (p : Phase) (s u : PauliString) → commutationSign (scale p s) u ≡ commutationSign s u
-unfolding commutationSign scale
+unfolding commutationSign anticommutingPlaces scale
 sign-scale p s u = refl
 
 pub sign-single : (s : PauliString) (l : Letter) (k : ℕ) → k < qubits → commutationSign s (single l k) ≡ sign (anticommute (s .letters k) l)
-unfolding commutationSign single sign
+unfolding single sign
 sign-single s l k h =
-    productTo-at qubits k (λ q. sign (anticommute (s .letters q) (cond (eqb q k) l I))) h
+    sym (sign-places s (single l k)) ∙ productTo-at qubits k (λ q. sign (anticommute (s .letters q) (cond (eqb q k) l I))) h
     (λ q d. ap (λ b. sign (anticommute (s .letters q) (cond b l I))) (ne-eqb q k d) ∙ ap sign (anticommute-I (s .letters q)))
     ∙ ap (λ b. sign (anticommute (s .letters k) (cond b l I))) (eq-eqb k k refl)
 
 -- only the letters below `qubits` count
 pub sign-local : (s t u : PauliString) → ((q : ℕ) → q < qubits → s .letters q ≡ t .letters q) → commutationSign s u ≡ commutationSign t u
-unfolding commutationSign
-sign-local s t u h = productTo-ext qubits _ _ (λ q l. ap (λ a. sign (anticommute a (u .letters q))) (h q l))
+unfolding commutationSign anticommutingPlaces
+sign-local s t u h = ap minusOneTo (countTo-ext qubits _ _ (λ q l. ap (λ a. anticommute a (u .letters q)) (h q l)))
 
 -- ---- squares
 pub square : (s : PauliString) → mul s s ≡ scale (s .phase · s .phase) identityString

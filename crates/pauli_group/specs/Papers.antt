@@ -1,5 +1,6 @@
 -- The papers' own forms of product and commutation. proofs/ shows that they agree with the definitions of the other files.
 use Prim.Native.Nat.{ℕ, zero, suc, _%_}
+use mathlib.Core.Path.{_≡_}
 use mathlib.Core.Bool.{Bool}
 use lib.Dec.{eqb}
 use lib.IntN.{ℤ, pos, negsuc, negℤ, natAbs, _+ℤ_, _-ℤ_, _*ℤ_}
@@ -63,6 +64,10 @@ pauliMatrix I = record { a = phaseNumber PlusOne; b = gaussian (pos 0) (pos 0); 
 pauliMatrix X = record { a = gaussian (pos 0) (pos 0); b = phaseNumber PlusOne; c = phaseNumber PlusOne; d = gaussian (pos 0) (pos 0) }
 pauliMatrix Y = record { a = gaussian (pos 0) (pos 0); b = phaseNumber MinusI; c = phaseNumber PlusI; d = gaussian (pos 0) (pos 0) }
 pauliMatrix Z = record { a = phaseNumber PlusOne; b = gaussian (pos 0) (pos 0); c = gaussian (pos 0) (pos 0); d = phaseNumber MinusOne }
+
+-- two matrices anticommute: m·n = -n·m
+abbrev pub MatricesAnticommute : Matrix → Matrix → Type 0
+MatricesAnticommute m n = matrixProduct m n ≡ scaleMatrix (phaseNumber MinusOne) (matrixProduct n m)
 
 -- ---- Aaronson and Gottesman, section III: a letter is two bits, x z = 00 I, 10 X, 01 Z, 11 Y
 

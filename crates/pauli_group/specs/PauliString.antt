@@ -3,7 +3,7 @@ use Prim.Native.Nat.{ℕ, zero, suc, _+_, _%_, _≤_}
 use mathlib.Core.Path.{_≡_}
 use mathlib.Core.Bool.{Bool, cond}
 use lib.Dec.{eqb}
-use Rattle.pauli_group.specs.Phase.{Phase, PlusOne, sign, _·_}
+use Rattle.pauli_group.specs.Phase.{Phase, PlusOne, minusOneTo, _·_}
 use Rattle.pauli_group.specs.Letter.{Letter, I, letterPhase, letterMul, anticommute}
 
 -- the number of qubits of a string record. No law below depends on which number it is.
@@ -56,9 +56,9 @@ anticommutingPlaces s t = countTo qubits (λ q. anticommute (s .letters q) (t .l
 unfoldable pub commute : PauliString → PauliString → Bool
 commute s t = eqb (anticommutingPlaces s t % 2) 0
 
--- the sign by which two strings change when they change places
+-- the sign by which two strings change when they change places: -1 to that number
 unfoldable pub commutationSign : PauliString → PauliString → Phase
-commutationSign s t = productTo qubits (λ q. sign (anticommute (s .letters q) (t .letters q)))
+commutationSign s t = minusOneTo (anticommutingPlaces s t)
 
 -- no letter at qubit w or above
 abbrev pub Within : ℕ → PauliString → Type 0

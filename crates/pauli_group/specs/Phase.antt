@@ -1,4 +1,5 @@
 -- Phases: +1, -1, +i and -i, the factors that a product of Pauli matrices picks up (Gottesman, section 2).
+use Prim.Native.Nat.{ℕ, zero, suc}
 use mathlib.Core.Bool.{Bool, true, false}
 
 pub data Phase : Type 0 where
@@ -45,3 +46,8 @@ isReal MinusI = false
 unfoldable pub sign : Bool → Phase
 sign true = MinusOne
 sign false = PlusOne
+
+-- -1 to the power n
+unfoldable pub minusOneTo : ℕ → Phase
+minusOneTo zero = PlusOne
+minusOneTo (suc n) = negate (minusOneTo n)

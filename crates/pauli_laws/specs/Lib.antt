@@ -1,3 +1,4 @@
 pub mod EntryLists
 pub mod DenseTexts
 pub mod TextReadings
+pub mod Exchange

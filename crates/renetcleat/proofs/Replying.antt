@@ -11,9 +11,8 @@ use Rattle.pauli.specs.declared.refusal.Flag.{Flag}
 use Rattle.pauli.specs.declared.refusal.CountAnswer.{CountAnswer}
 use Rattle.pauli.specs.declared.refusal.LetterAnswer.{LetterAnswer}
 use Rattle.pauli.specs.declared.refusal.Reply.{Reply}
-use Rattle.pauli.specs.Answers.{outcomeReply, productReply, byteReply, flagReply, countReply, letterReply, ByteAnswered, FlagAnswered, LetterAnswered, Written, ProductWritten, CountWritten}
+use Rattle.pauli.specs.Answers.{outcomeReply, productReply, byteReply, flagReply, countReply, letterReply, ByteAnswered, FlagAnswered, CountAnswered, LetterAnswered, Written, ProductWritten, CountWritten}
 use Rattle.clifford.specs.declared.clifford.GateAnswer.{GateAnswer}
-use Rattle.clifford.specs.Answers.{CountAnswered}
 use Rattle.clifford.specs.GateAnswers.{gateReply, GateAnswered, NameAnswered}
 use Rattle.gate_list.specs.Runs.{RunAnswered}
 use Rattle.renetcleat.specs.Replies.{Replied}
@@ -32,8 +31,8 @@ pub letter-replied : {q : Outcome} {p l : ℕ} {x : LetterAnswer} {r : Reply} �
     → Replied letterReply (LetterAnswered q p l) r
 letter-replied h e = told _ h e
 
-pub offset-replied : {q : Outcome} {n : ℕ} {x : CountAnswer} {r : Reply} → CountAnswered q n x → r ≡ countReply x → Replied countReply (CountAnswered q n) r
-offset-replied h e = told _ h e
+pub counted-replied : {q : Outcome} {n : ℕ} {x : CountAnswer} {r : Reply} → CountAnswered q n x → r ≡ countReply x → Replied countReply (CountAnswered q n) r
+counted-replied h e = told _ h e
 
 pub gate-replied : {q : Outcome} {g : ℕ} {x : GateAnswer} {r : Reply} → GateAnswered q g x → r ≡ gateReply x → Replied gateReply (GateAnswered q g) r
 gate-replied h e = told _ h e
@@ -57,4 +56,4 @@ pub run-replied : {q : Outcome} {n : ℕ} {out d e : List ℕ} {x : CountAnswer}
     → r ≡ countReply x → Replied countReply (RunAnswered q n out d e) r
 run-replied h e = told _ h e
 
-pub ruleset replies = (byte-replied, flag-replied, letter-replied, offset-replied, gate-replied, name-replied, written-replied, product-replied, count-replied, run-replied, needs)
+pub ruleset replies = (byte-replied, flag-replied, letter-replied, counted-replied, gate-replied, name-replied, written-replied, product-replied, count-replied, run-replied, needs)

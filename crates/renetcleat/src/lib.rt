@@ -2,7 +2,7 @@
 // the refusal's number and its detail. The one thing trusted: pointers are valid for their lengths, and a destination overlaps no
 // other buffer.
 ghost use Rattle.pauli.specs.Answers.{outcomeReply, productReply, byteReply, flagReply, countReply, letterReply};
-ghost use Rattle.pauli.specs.Promises.{PhasesMultiplied, PhaseConjugated, PhaseIsReal, LettersMultiplied, PhaseOfString, LetterOfString, StringsCommute, StringsMultiplied, FromEntries, FromSparseText, FromDenseText, FromText, SparseTextWritten};
+ghost use Rattle.pauli.specs.Promises.{PhasesMultiplied, PhaseConjugated, PhaseIsReal, LettersMultiplied, PhaseOfString, LetterOfString, PlacesCounted, StringsMultiplied, FromEntries, FromSparseText, FromDenseText, FromText, SparseTextWritten};
 ghost use Rattle.clifford.specs.GateAnswers.{gateReply};
 ghost use Rattle.clifford.specs.Promises.{IdentityWritten, XImageAt, ZImageAt, XImageSet, ZImageSet, Applied, Composed, Extended, Inverted, ValidityTold, SupportWritten, FromPauliString, Displayed, SingleQubitCliffordWritten, GateWritten, OneQubitGateWritten, GatesComposed, GateInverted, GateNamed};
 ghost use Rattle.gate_play.specs.Promises.{Played};
@@ -64,10 +64,10 @@ pub extern "C" fn rc_get(s: &[u8], qubit: usize) -> Reply
 }
 
 #[no_mangle]
-pub extern "C" fn rc_commutes_with(s: &[u8], t: &[u8]) -> Reply
-    ensures { λ r. ⌜ Replied flagReply (StringsCommute (now (s .entry)) (now (t .entry))) r ⌝ }
+pub extern "C" fn rc_anticommuting_places(s: &[u8], t: &[u8]) -> Reply
+    ensures { λ r. ⌜ Replied countReply (PlacesCounted (now (s .entry)) (now (t .entry))) r ⌝ }
 {
-    refusal::flag_reply(pauli_string::commutes_with(s, t))
+    refusal::count_reply(pauli_string::anticommuting_places(s, t))
 }
 
 #[no_mangle]

@@ -9,8 +9,3 @@ pub record Operands (s t d : List ℕ) : Type 0 where
   pub first : WellFormed 128 s
   pub second : WellFormed 128 t
   pub room : stringLength ≤ length d
-
--- two string records
-pub record Pair (s t : List ℕ) : Type 0 where
-  pub first : WellFormed 128 s
-  pub second : WellFormed 128 t
