@@ -136,8 +136,9 @@ struct rc_reply rc_letter_product(uint8_t a, uint8_t b);
 struct rc_reply rc_phase(const uint8_t *s, size_t s_len);
 /* The letter at a qubit. */
 struct rc_reply rc_get(const uint8_t *s, size_t s_len, size_t qubit);
-/* 1 where the two strings commute, otherwise 0. */
-struct rc_reply rc_commutes_with(const uint8_t *s, size_t s_len, const uint8_t *t, size_t t_len);
+/* The number of qubits at which the two strings have two different letters other than I, so that they anticommute there: 0 to 128.
+ * The strings commute where it is even. */
+struct rc_reply rc_anticommuting_places(const uint8_t *s, size_t s_len, const uint8_t *t, size_t t_len);
 /* Writes the product s t, 129 bytes. */
 struct rc_reply rc_mul(const uint8_t *s, size_t s_len, const uint8_t *t, size_t t_len, uint8_t *dst, size_t dst_len);
 /* Writes the string of a phase and entries, 129 bytes. */

@@ -10,7 +10,7 @@ use crate::layout::row_letters;
 use crate::layout::width;
 use pauli::rows::count_anticommuting;
 
-// Whether two rows commute: the places at which they anticommute are even in number.
+// Whether two rows commute: the places at which they anticommute, at most 128, are even in number.
 fn rows_commute(t: &[u8], r: usize, p: usize) -> bool
     requires { ⌜ OwnRows (now t) r p ⌝ }
     ensures { λ b. ⌜ b ≡ commute (rowOf (tableauOf (now (t .entry))) r) (rowOf (tableauOf (now (t .entry))) p) ⌝ }

@@ -73,6 +73,9 @@ module _ (s t : List ℕ) {r : Outcome} (p : r ≡ stringsQuestions s t) (h : r 
   places-are e =
       let short : shorter (from 1 s) (from 1 t) ≡ 128 = omega (arith, first-formed .long, second-formed .long, length-from 1 s, length-from 1 t) in
       e ∙ ap (λ (j : ℕ). placesOf j (from 1 s) (from 1 t) % 256) short ∙ count-exact 128 (from 1 s) (from 1 t) (omega arith)
-      ∙ countTo-ext 128 _ _ (λ q l. ap₂ (λ x y. anticommute (letterOf x) (letterOf y)) (from-at s q) (from-at t q) ∙ sym (ap₂ anticommute (decode-letter 128 s q l) (decode-letter 128 t q l)))
+      ∙ countTo-ext 128 _ _ (λ q l. ap₂ anticommute (letter-here s q l) (letter-here t q l))
+    where
+      letter-here : (u : List ℕ) (q : ℕ) → q < 128 → letterOf (getD (from 1 u) q 0) ≡ decodeString 128 u .letters q
+      letter-here u q l = ap letterOf (from-at u q) ∙ sym (decode-letter 128 u q l)
 
 pub ruleset string-reads = (get-asked, phase-read, phase-place, letter-read, letter-place, letter-index, first-place, second-place, places-are, answers, needs)

@@ -84,5 +84,8 @@ minus-even (suc n) = ap negate (minus-even n) ∙ elim (ℕ-discrete (n % 2) 0) 
   | no d ↦ let e : n % 2 ≡ 1 = omega arith in let f : suc n % 2 ≡ 0 = omega arith in next 1 0 e f refl
 ]
   where
-    next : (a b : ℕ) → n % 2 ≡ a → suc n % 2 ≡ b → negate (sign (not (eqb a 0))) ≡ sign (not (eqb b 0)) → negate (sign (not (eqb (n % 2) 0))) ≡ sign (not (eqb (suc n % 2) 0))
-    next a b e f h = ap (λ m. negate (sign (not (eqb m 0)))) e ∙ h ∙ ap (λ m. sign (not (eqb m 0))) (sym f)
+    odd : ℕ → Phase
+    odd r = sign (not (eqb r 0))
+
+    next : (a b : ℕ) → n % 2 ≡ a → suc n % 2 ≡ b → negate (odd a) ≡ odd b → negate (odd (n % 2)) ≡ odd (suc n % 2)
+    next a b e f h = ap (λ (r : ℕ). negate (odd r)) e ∙ h ∙ ap odd (sym f)

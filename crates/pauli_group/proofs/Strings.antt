@@ -1,10 +1,9 @@
 -- Pauli strings are a group under `mul`: associative, the identity neutral, phases central, P·Q = (-1)^n Q·P for the number n of
 -- places at which they anticommute.
 use mathlib.Core.Path.{_≡_, refl, sym, ap, ap₂, _∙_, fun-ext}
-use mathlib.Core.Bool.{Bool, true, false, cond, not}
-use Prim.Native.Nat.{ℕ, _%_, _<_}
+use mathlib.Core.Bool.{true, false, cond, not}
+use Prim.Native.Nat.{ℕ, _<_}
 use native.Mathlib.Omega.{arith}
-use native.Mathlib.Decide.{ℕ-discrete}
 use lib.Dec.{eqb}
 use borrow.Author.Tests.{eq-eqb, ne-eqb}
 use Rattle.pauli_group.specs.Phase.{Phase, PlusOne, MinusOne, _·_, isReal, sign, minusOneTo}

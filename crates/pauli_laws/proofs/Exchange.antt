@@ -1,9 +1,8 @@
 -- s·t = (-1)^n t·s on bytes, for the number n of places at which s and t anticommute.
 use mathlib.Core.Path.{_≡_, sym, ap, ap₂, _∙_}
 use mathlib.Core.List.{List}
-use mathlib.Core.Logic.{_↔_}
-use Prim.Native.Nat.{ℕ, _%_}
-use Rattle.pauli_group.specs.Phase.{Phase, _·_}
+use Prim.Native.Nat.{ℕ}
+use Rattle.pauli_group.specs.Phase.{_·_}
 use Rattle.pauli_group.specs.PauliString.{PauliString, qubits, mul, scale, commutationSign}
 use Rattle.pauli_group.proofs.Strings.{mul-swap, within-mul}
 use Rattle.pauli_group.proofs.Places.{places-most, even-commute}
@@ -24,7 +23,7 @@ module _ (s t : List ℕ) where
   -- a product's record is read back as the product
   read-back : (a b : List ℕ) → stringOf (productRecord a b) ≡ mul (stringOf a) (stringOf b)
   unfolding productRecord stringOf stringRecord
-  read-back a b = decode-encode qubits (mul (stringOf a) (stringOf b)) (within-mul qubits (stringOf a) (stringOf b) (decode-within qubits a) (decode-within qubits b))
+  read-back a b = decode-encode qubits _ (within-mul qubits (stringOf a) (stringOf b) (decode-within qubits a) (decode-within qubits b))
 
   pub exchanged : Exchanged s t
   unfolding productRecord placesOfRecords stringRecord encodeString phaseBytesProduct commutationSign scale qubits

@@ -61,8 +61,8 @@ fn call_string(line: &[u8], case: Case, a: &[u8], b: &[u8], d: &mut [u8]) -> Rep
     if vectors::is_named(line, b"get") {
         return told(refusal::byte_reply(pauli_string::get(a, case.n1 as usize)));
     }
-    if vectors::is_named(line, b"commutes_with") {
-        return told(refusal::flag_reply(pauli_string::commutes_with(a, b)));
+    if vectors::is_named(line, b"anticommuting_places") {
+        return told(refusal::count_reply(pauli_string::anticommuting_places(a, b)));
     }
     if vectors::is_named(line, b"mul") {
         return told(refusal::product_reply(algebra::mul(a, b, d)));

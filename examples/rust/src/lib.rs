@@ -73,9 +73,14 @@ pub fn get(s: &[u8], qubit: usize) -> Answer {
     answer(unsafe { raw::rc_get(s.as_ptr(), s.len(), qubit) })
 }
 
-/// 1 where the two strings commute, otherwise 0.
-pub fn commutes_with(s: &[u8], t: &[u8]) -> Answer {
-    answer(unsafe { raw::rc_commutes_with(s.as_ptr(), s.len(), t.as_ptr(), t.len()) })
+/// The number of qubits at which the two strings anticommute, 0 to 128.
+pub fn anticommuting_places(s: &[u8], t: &[u8]) -> Answer {
+    answer(unsafe { raw::rc_anticommuting_places(s.as_ptr(), s.len(), t.as_ptr(), t.len()) })
+}
+
+/// Whether the two strings commute: the number of those qubits is even.
+pub fn commutes_with(s: &[u8], t: &[u8]) -> Result<bool, Refusal> {
+    Ok(anticommuting_places(s, t)? % 2 == 0)
 }
 
 /// Writes the product s t.

@@ -18,7 +18,8 @@ unsafe extern "C" {
     pub fn rc_letter_product(a: u8, b: u8) -> Reply;
     pub fn rc_phase(s: *const u8, s_len: usize) -> Reply;
     pub fn rc_get(s: *const u8, s_len: usize, qubit: usize) -> Reply;
-    pub fn rc_commutes_with(s: *const u8, s_len: usize, t: *const u8, t_len: usize) -> Reply;
+    pub fn rc_anticommuting_places(s: *const u8, s_len: usize, t: *const u8, t_len: usize)
+    -> Reply;
     pub fn rc_mul(
         s: *const u8,
         s_len: usize,

@@ -55,7 +55,21 @@ fn strings_are_read_multiplied_and_written() {
     mul(&s, &t, &mut product).unwrap();
     let length = to_sparse_str(&product, &mut text).unwrap() as usize;
     assert_eq!(&text[..length], b"+Y0 Y1");
-    assert_eq!(commutes_with(&s, &t), Ok(1));
+}
+
+#[test]
+fn strings_anticommute_at_some_qubits() {
+    let (mut s, mut t) = ([0; STRING_LENGTH], [0; STRING_LENGTH]);
+    from_str(b"XZIXY", &mut s).unwrap();
+    from_str(b"ZXXXX", &mut t).unwrap();
+    assert_eq!(anticommuting_places(&s, &t), Ok(3));
+    assert_eq!(commutes_with(&s, &t), Ok(false));
+    t[5] = 3;
+    assert_eq!(anticommuting_places(&t, &s), Ok(2));
+    assert_eq!(commutes_with(&t, &s), Ok(true));
+    let (number, detail) = (3, 128);
+    t[128] = 4;
+    assert_eq!(commutes_with(&s, &t), Err(Refusal { number, detail }));
 }
 
 #[test]

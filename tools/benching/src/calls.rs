@@ -3,6 +3,7 @@
 use crate::page::{Figure, Goal};
 use crate::plain;
 use crate::timing::least;
+use oracle::PauliOperator;
 use oracle::clifford::Clifford;
 use oracle::driver::records::{read_string, read_tableau, write_string, write_tableau};
 use oracle::vectors::Random;
@@ -12,6 +13,9 @@ pub fn all(random: &mut Random) -> Vec<Figure> {
     let mut figures = Vec::new();
     for letters in [20, 128] {
         figures.push(product(random, letters));
+    }
+    for letters in [20, 128] {
+        figures.push(places(&mut Random::new(6), letters));
     }
     for width in [20, 128] {
         figures.push(apply(random, width));
@@ -91,6 +95,23 @@ fn product(random: &mut Random, letters: usize) -> Figure {
         rust: least(|| &left * &right),
         ours: least(|| renetcleat::mul(&s, &t, &mut ours)),
         plain: least(|| plain::mul(&s, &t, &mut theirs)),
+        goal: Goal::Faster,
+    }
+}
+
+/// The Rust says whether the number is even.
+fn places(random: &mut Random, letters: usize) -> Figure {
+    let (s, t) = (string(random, letters), string(random, letters));
+    let (left, right) = (read_string(&s).unwrap(), read_string(&t).unwrap());
+    let number = renetcleat::anticommuting_places(&s, &t).unwrap();
+    assert!(number == u64::from(plain::anticommuting_places(&s, &t)));
+    assert!(left.commutes_with(&right) == (number % 2 == 0));
+    Figure {
+        call: "anticommuting_places",
+        size: format!("{letters} letters"),
+        rust: least(|| left.commutes_with(&right)),
+        ours: least(|| renetcleat::anticommuting_places(&s, &t)),
+        plain: least(|| plain::anticommuting_places(&s, &t)),
         goal: Goal::Faster,
     }
 }

@@ -23,6 +23,13 @@ static unsigned multiply(uint8_t *restrict left, const uint8_t *restrict right, 
     return turns;
 }
 
+/* At how many of n places two rows of letters anticommute. */
+static unsigned places(const uint8_t *left, const uint8_t *right, size_t n) {
+    unsigned count = 0;
+    for (size_t q = 0; q < n; q++) count += ANTI[4u * left[q] + right[q]];
+    return count;
+}
+
 static const uint8_t *row(const uint8_t *t, size_t n, size_t place) { return t + 1 + place * (n + 1); }
 
 /* letters becomes letters times the row; the answer is the turns met. */
@@ -47,6 +54,8 @@ void plain_mul(const uint8_t *s, const uint8_t *t, uint8_t *dst) {
     memcpy(dst, s, STRING);
     dst[0] = PHASE[(PHASE[s[0]] + PHASE[t[0]] + multiply(dst + 1, t + 1, QUBITS)) & 3];
 }
+
+unsigned plain_places(const uint8_t *s, const uint8_t *t) { return places(s + 1, t + 1, QUBITS); }
 
 void plain_apply(const uint8_t *t, const uint8_t *s, uint8_t *dst) {
     size_t n = t[0];
@@ -89,9 +98,7 @@ int plain_is_valid(const uint8_t *t) {
         const uint8_t *left = row(t, n, r);
         if (left[0] > 1) return 0;
         for (size_t other = r + 1; other < 2 * n; other++) {
-            const uint8_t *right = row(t, n, other);
-            unsigned count = 0;
-            for (size_t q = 1; q <= n; q++) count += ANTI[4u * left[q] + right[q]];
+            unsigned count = places(left + 1, row(t, n, other) + 1, n);
             if ((count & 1) != (other == r + n)) return 0;
         }
     }

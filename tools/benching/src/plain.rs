@@ -2,6 +2,7 @@
 
 unsafe extern "C" {
     fn plain_mul(s: *const u8, t: *const u8, dst: *mut u8);
+    fn plain_places(s: *const u8, t: *const u8) -> u32;
     fn plain_apply(t: *const u8, s: *const u8, dst: *mut u8);
     fn plain_compose(a: *const u8, b: *const u8, dst: *mut u8);
     fn plain_inverse(t: *const u8, dst: *mut u8);
@@ -14,6 +15,10 @@ unsafe extern "C" {
 
 pub fn mul(s: &[u8], t: &[u8], dst: &mut [u8]) {
     unsafe { plain_mul(s.as_ptr(), t.as_ptr(), dst.as_mut_ptr()) }
+}
+
+pub fn anticommuting_places(s: &[u8], t: &[u8]) -> u32 {
+    unsafe { plain_places(s.as_ptr(), t.as_ptr()) }
 }
 
 pub fn apply(t: &[u8], s: &[u8], dst: &mut [u8]) {

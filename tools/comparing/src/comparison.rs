@@ -198,7 +198,9 @@ fn expected(call: &Call) -> Result<Expected, String> {
         by_rust,
     };
     match (said, model) {
-        (Answer::Value(value), Ok(0)) => Ok(accepted(value, Vec::new())),
+        (Answer::Value(value), Ok(0)) if model::value(call).is_none_or(|known| known == value) => {
+            Ok(accepted(value, Vec::new()))
+        }
         (Answer::Written(value, bytes), Ok(needs)) if needs == bytes.len() => {
             Ok(accepted(value, bytes))
         }

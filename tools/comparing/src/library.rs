@@ -101,7 +101,7 @@ fn reply(call: &Call, b1: &mut Lent, b2: &mut Lent, d: &mut Lent) -> Reply {
             "letter_product" => raw::rc_letter_product(byte(n1), byte(n2)),
             "phase" => raw::rc_phase(p1, l1),
             "get" => raw::rc_get(p1, l1, size(n1)),
-            "commutes_with" => raw::rc_commutes_with(p1, l1, p2, l2),
+            "anticommuting_places" => raw::rc_anticommuting_places(p1, l1, p2, l2),
             "mul" => raw::rc_mul(p1, l1, p2, l2, pd, ld),
             "with_phase_and_paulis" => raw::rc_with_phase_and_paulis(byte(n1), p1, l1, pd, ld),
             "from_sparse_str" => raw::rc_from_sparse_str(p1.cast(), l1, pd, ld),

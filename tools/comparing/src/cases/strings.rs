@@ -7,6 +7,7 @@ use oracle::driver::Call;
 
 pub fn all(compare: &mut Comparison) {
     letter_pairs(compare);
+    places(compare);
     bad_places(compare);
     lengths(compare);
     random_pairs(compare);
@@ -16,7 +17,7 @@ pub fn all(compare: &mut Comparison) {
 }
 
 fn pair(compare: &mut Comparison, left: &[u8], right: &[u8]) {
-    compare.case(&Call::new("commutes_with").b1(left).b2(right));
+    compare.case(&Call::new("anticommuting_places").b1(left).b2(right));
     compare.some_room(&Call::new("mul").b1(left).b2(right));
 }
 
@@ -30,6 +31,35 @@ fn letter_pairs(compare: &mut Comparison) {
                 &string(p, &[(qubit, x)]),
                 &string(q, &[(qubit, y)]),
             );
+        }
+    }
+}
+
+/// Every number of places from 0 to 128, those of each pair of different letters and of any: at the first qubits, at the last, and at
+/// qubits by chance. The rest are equal letters, I among them, or I against a letter.
+fn places(compare: &mut Comparison) {
+    const DIFFERENT: [(u8, u8); 6] = [(1, 2), (2, 1), (1, 3), (3, 1), (2, 3), (3, 2)];
+    for count in 0..=QUBITS {
+        for turn in 0..4 * (DIFFERENT.len() + 1) {
+            let random = &mut compare.random;
+            let mut qubits: Vec<usize> = (0..QUBITS).collect();
+            match turn % 4 {
+                0 => {}
+                1 => qubits.reverse(),
+                _ => random.shuffle(&mut qubits),
+            }
+            let (mut left, mut right) = (string(0, &[]), string(0, &[]));
+            for (place, qubit) in qubits.into_iter().enumerate() {
+                let letter = random.below(4) as u8;
+                let (x, y) = if place < count {
+                    let own = DIFFERENT.get(turn / 4).copied();
+                    own.unwrap_or_else(|| random.pick(&DIFFERENT))
+                } else {
+                    random.pick(&[(letter, letter), (0, letter), (letter, 0)])
+                };
+                (left[1 + qubit], right[1 + qubit]) = (x, y);
+            }
+            pair(compare, &left, &right);
         }
     }
 }
@@ -70,7 +100,7 @@ fn lengths(compare: &mut Comparison) {
                 one(compare, &good, qubit);
             }
             for (left, right) in [(&record, &good), (&good, &record), (&record, &record)] {
-                compare.case(&Call::new("commutes_with").b1(left).b2(right));
+                compare.case(&Call::new("anticommuting_places").b1(left).b2(right));
                 compare.each_room(&Call::new("mul").b1(left).b2(right));
             }
         }

@@ -1,5 +1,5 @@
 //! The scope document's questions on entry, written a second time and plainly: which refusal a call meets, or how many bytes of its
-//! destination the answer takes. It knows lengths and numbers, and nothing of products.
+//! destination the answer takes. It knows lengths and numbers, which letters differ, and nothing of products.
 
 mod list;
 mod text;
@@ -26,6 +26,16 @@ pub fn judge(call: &Call) -> Result<usize, Refusal> {
     Ok(needs)
 }
 
+/// The answer's value, where the model knows it too: the number of places with two different letters other than I.
+pub fn value(call: &Call) -> Option<u64> {
+    if call.name != "anticommuting_places" {
+        return None;
+    }
+    let letters = call.b1[1..].iter().zip(&call.b2[1..]);
+    let places = letters.filter(|(left, right)| left != right && **left > 0 && **right > 0);
+    Some(places.count() as u64)
+}
+
 fn ask(yes: bool, number: u64, detail: u64) -> Questions {
     if yes { Ok(()) } else { Err((number, detail)) }
 }
@@ -41,7 +51,7 @@ pub fn needs(call: &Call) -> Result<usize, Refusal> {
             string(&call.b1)?;
             qubit(n1).map(|()| 0)
         }
-        "commutes_with" => strings(call).map(|()| 0),
+        "anticommuting_places" => strings(call).map(|()| 0),
         "mul" => strings(call).map(|()| STRING),
         "with_phase_and_paulis" => entries(n1, &call.b1).map(|()| STRING),
         "from_sparse_str" => text::sparse(&call.b1).map(|()| STRING),

@@ -42,10 +42,16 @@ fn get(call: &Call) -> Option<Answer> {
     Some(Answer::Value(letter_byte(letter).into()))
 }
 
-fn commutes_with(call: &Call) -> Option<Answer> {
-    Some(flag(
-        read_string(&call.b1)?.commutes_with(&read_string(&call.b2)?),
-    ))
+/// The Rust says yes or no, so it is asked at each qubit by itself; of the whole strings it has to say yes where the number is even.
+fn anticommuting_places(call: &Call) -> Option<Answer> {
+    let (left, right) = (read_string(&call.b1)?, read_string(&call.b2)?);
+    let anticommute = |qubit: &usize| {
+        let alone = |string: &PauliString| PauliString::from_single(*qubit, string.get(*qubit));
+        !alone(&left).commutes_with(&alone(&right))
+    };
+    let places = (0..QUBITS).filter(anticommute).count();
+    assert_eq!(left.commutes_with(&right), places % 2 == 0);
+    Some(Answer::Value(places as u64))
 }
 
 fn mul(call: &Call) -> Option<Answer> {
@@ -90,7 +96,7 @@ pub fn answer(call: &Call) -> Option<Option<Answer>> {
         "letter_product" => letter_product(call),
         "phase" => phase(call),
         "get" => get(call),
-        "commutes_with" => commutes_with(call),
+        "anticommuting_places" => anticommuting_places(call),
         "mul" => mul(call),
         "with_phase_and_paulis" => with_phase_and_paulis(call),
         _ => return None,

@@ -69,7 +69,7 @@ fn reading_strings(book: &mut Book, random: &mut Random) {
 }
 
 fn both(book: &mut Book, left: &[u8], right: &[u8], more: usize) {
-    book.add(Call::new("commutes_with").b1(left).b2(right));
+    book.add(Call::new("anticommuting_places").b1(left).b2(right));
     book.add(
         Call::new("mul")
             .b1(left)
@@ -104,15 +104,17 @@ fn phase_pairs(book: &mut Book, random: &mut Random) {
     }
 }
 
-/// X against Z on the first `count` qubits; the rest are equal letters.
+/// X against Z on the first `count` qubits; the rest are equal letters, or I against X, which are not counted.
 fn anticommuting_places(book: &mut Book) {
-    for count in [1, 2, 3, 4, 5, 63, 64, 126, 127, 128] {
+    for count in [0, 1, 2, 3, 4, 5, 63, 64, 126, 127, 128] {
         let left: Vec<(usize, u8)> = (0..QUBITS).map(|qubit| (qubit, 1)).collect();
-        let right: Vec<(usize, u8)> = (0..QUBITS)
-            .map(|qubit| (qubit, if qubit < count { 2 } else { 1 }))
-            .collect();
-        both(book, &string(0, &left), &string(0, &right), 0);
-        both(book, &string(0, &right), &string(0, &left), 5);
+        for rest in [1, 0] {
+            let right: Vec<(usize, u8)> = (0..QUBITS)
+                .map(|qubit| (qubit, if qubit < count { 2 } else { rest }))
+                .collect();
+            both(book, &string(0, &left), &string(0, &right), 0);
+            both(book, &string(0, &right), &string(0, &left), 5);
+        }
     }
 }
 
