@@ -4,5 +4,5 @@ pub mod Products
 pub mod Strings
 pub mod PaperForms
 pub mod Operators
-pub mod Places
+pub mod AnticommutingPlaces
 pub mod GaussianNumbers

@@ -4,4 +4,4 @@ pub mod TrimmedText
 pub mod Prefixes
 pub mod DenseAsking
 pub mod TextReadings
-pub mod Exchange
+pub mod EitherOrder

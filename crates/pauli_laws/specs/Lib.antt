@@ -1,4 +1,4 @@
 pub mod EntryLists
 pub mod DenseTexts
 pub mod TextReadings
-pub mod Exchange
+pub mod EitherOrder
