@@ -1,4 +1,4 @@
-/* A Bell pair: H on qubit 0, then CX from 0 to 1. Composes the two, shows the tableau, sends a string through it, and undoes it. */
+/* A Bell pair: H on qubit 0, then CX from 0 to 1. Composes the two, shows the tableau, sends strings through it, and undoes it. */
 #include "renetcleat.h"
 
 #include <stdio.h>
@@ -54,6 +54,16 @@ static void send(const uint8_t pair[LENGTH]) {
     expect("image", length == 3 && memcmp(text, "+Z1", 3) == 0);
 }
 
+/* The pair's stabilizers X0 X1 and Z0 Z1, the images of Z0 and Z1, anticommute at both qubits: an even number, so they commute. */
+static void commute(const uint8_t pair[LENGTH]) {
+    uint8_t z[RC_STRING_LENGTH], s[RC_STRING_LENGTH], t[RC_STRING_LENGTH];
+    value("from_str", rc_from_str("Z0", 2, z, sizeof z));
+    value("apply", rc_apply(pair, LENGTH, z, sizeof z, s, sizeof s));
+    value("from_str", rc_from_str("Z1", 2, z, sizeof z));
+    value("apply", rc_apply(pair, LENGTH, z, sizeof z, t, sizeof t));
+    expect("places", value("anticommuting_places", rc_anticommuting_places(s, sizeof s, t, sizeof t)) == 2);
+}
+
 /* The inverse, composed with the pair, is the identity. */
 static void undo(const uint8_t pair[LENGTH]) {
     uint8_t back[LENGTH], both[LENGTH], one[LENGTH];
@@ -78,6 +88,7 @@ int main(void) {
     expect("valid", value("is_valid", rc_is_valid(pair, sizeof pair)) == 1);
     show(pair);
     send(pair);
+    commute(pair);
     undo(pair);
     refused(pair);
     return 0;

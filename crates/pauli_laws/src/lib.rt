@@ -1,1 +1,1 @@
-// Laws of string records and of text: what the questions admit, and the readings of text. No code runs from here.
+// Laws of string records and of text: what the questions admit, the readings of text, products in either order. No code runs from here.
