@@ -1,6 +1,6 @@
 -- Validity, read off the rows of a record.
 use mathlib.Core.Path.{_≡_, refl, sym, ap, ap₂, _∙_}
-use mathlib.Core.Bool.{Bool, true, false, cond, not, _&&_}
+use mathlib.Core.Bool.{Bool, true, false, not, _&&_}
 use mathlib.Core.List.{List}
 use Prim.Native.Nat.{ℕ, zero, suc, _+_, _%_, _≤_, _<_}
 use native.Mathlib.Nat.{not-suc-le-zero}
@@ -12,17 +12,14 @@ use lib.ListN.{length}
 use borrow.Author.Needs.{needs}
 use borrow.Author.Tests.{lt-ltb, le-ltb}
 use Rattle.pauli_group.specs.Phase.{isReal}
-use Rattle.pauli_group.specs.Letter.{anticommute}
-use Rattle.pauli_group.specs.PauliString.{PauliString, qubits, countTo, anticommutingPlaces, commute}
-use Rattle.pauli_group.proofs.Laws.{anticommute-I}
-use Rattle.pauli_group.proofs.Products.{countTo-ext}
+use Rattle.pauli_group.specs.PauliString.{PauliString, qubits, anticommutingPlaces, commute}
 use Rattle.clifford_group.specs.Tableau.{Tableau, allTo, validQubit, validPair, isValid}
 use Rattle.pauli.specs.declared.refusal.Flag.the-variants.{Yes, No}
 use Rattle.pauli.specs.Answers.{yesOrNo}
 use Rattle.pauli.specs.Layout.{phaseByte, phaseOf}
 use Rattle.pauli.specs.Rows.{letterAt, placesOf, shorter}
 use Rattle.pauli.proofs.Answers.{answers}
-use Rattle.pauli.proofs.RowProducts.{count-exact}
+use Rattle.pauli.proofs.RowProducts.{places-of-rows}
 use Rattle.clifford.specs.Layout.{rowOf, readRow, widthOf, tableauOf, FormedTableau}
 use Rattle.clifford.specs.Inside.Rows.{OwnRow, OwnRows, OwnQubit, OwnQubits, rowLetters}
 use Rattle.clifford.specs.Tableaux.{recordValid}
@@ -40,14 +37,6 @@ real-is s p e = by p ∙ ap isReal e
     by (suc (suc (suc p))) = unfold phaseOf isReal in le-ltb (suc (suc (suc p))) 2 (omega arith)
 
 -- ---- commutation of two rows
-countTo-cut : (n k : ℕ) (f : ℕ → Bool) → n ≤ k → ((q : ℕ) → n ≤ q → f q ≡ false) → countTo k f ≡ countTo n f
-unfolding countTo
-countTo-cut n zero f h e = let z : zero ≡ n = omega arith in ap (λ (j : ℕ). countTo j f) z
-countTo-cut n (suc k) f h e = elim (ℕ-discrete n (suc k)) [
-  | yes d ↦ ap (λ (j : ℕ). countTo j f) (sym d)
-  | no d ↦ ap (λ b. countTo k f + cond b 1 0) (e k (omega arith)) ∙ (let z : countTo k f + 0 ≡ countTo k f = omega arith in z) ∙ countTo-cut n k f (omega arith) e
-]
-
 module _ {b : List ℕ} {r p : ℕ} (o : OwnRows b r p) where
   abbrev T : Tableau
   T = tableauOf b
@@ -63,16 +52,14 @@ module _ {b : List ℕ} {r p : ℕ} (o : OwnRows b r p) where
 
   places-are : {a c : List ℕ} {n : ℕ} → a ≡ rowLetters b r → c ≡ rowLetters b p → n ≡ placesOf (shorter a c) a c % 256
       → n ≡ anticommutingPlaces (rowOf T r) (rowOf T p)
-  unfolding anticommutingPlaces placesOf qubits
+  unfolding qubits
   places-are {a} {c} {n} ea ec e =
       let la : length a ≡ w = ap length ea ∙ own-letters-long first-row in
       let lc : length c ≡ w = ap length ec ∙ own-letters-long second-row in
       let short : shorter a c ≡ w = omega arith in
-      e ∙ ap (λ (j : ℕ). placesOf j a c % 256) short ∙ count-exact w a c (omega (arith, o .tableau .narrow))
-      ∙ countTo-ext w _ (λ q. anticommute (rowOf T r .letters q) (rowOf T p .letters q))
-      (λ q l. ap₂ anticommute (ap (λ (x : List ℕ). letterAt x q) ea ∙ row-letters-at b r q l) (ap (λ (x : List ℕ). letterAt x q) ec ∙ row-letters-at b p q l))
-      ∙ sym (countTo-cut w 128 (λ q. anticommute (rowOf T r .letters q) (rowOf T p .letters q)) (o .tableau .narrow)
-      (λ q l. ap (anticommute (rowOf T r .letters q)) (row-inside b p q l) ∙ anticommute-I (rowOf T r .letters q)))
+      e ∙ ap (λ (j : ℕ). placesOf j a c % 256) short
+      ∙ places-of-rows (rowOf T r) (rowOf T p) w a c (o .tableau .narrow) (λ q l. ap (λ (x : List ℕ). letterAt x q) ea ∙ row-letters-at b r q l)
+      (λ q l. ap (λ (x : List ℕ). letterAt x q) ec ∙ row-letters-at b p q l) (row-inside b p)
 
   pub commute-is : {a c : List ℕ} {n : ℕ} → a ≡ rowLetters b r → c ≡ rowLetters b p → n ≡ placesOf (shorter a c) a c % 256
       → eqb (n % 2) 0 ≡ commute (rowOf T r) (rowOf T p)

@@ -1,5 +1,6 @@
 -- Rows multiplied and compared place by place: what a loop has done before a place, and what a caller reads off the contracts.
 use mathlib.Core.Path.{_≡_, refl, sym, ap, ap₂, _∙_}
+use mathlib.Core.Bool.{Bool}
 use mathlib.Core.List.{List, _++_}
 use Prim.Native.Nat.{ℕ, zero, suc, _+_, _%_, _<_, _≤_, zero-le}
 use native.Mathlib.Numerals.{add-one}
@@ -8,10 +9,10 @@ use lib.ListN.{length, drop, getD, set, List·getD-append}
 use borrow.Author.Needs.{needs}
 use Rattle.pauli_group.specs.Phase.{_·_}
 use Rattle.pauli_group.specs.Letter.{letterPhase, letterMul, anticommute}
-use Rattle.pauli_group.specs.PauliString.{productTo, countTo}
+use Rattle.pauli_group.specs.PauliString.{PauliString, qubits, productTo, countTo, anticommutingPlaces, Within}
 use Rattle.pauli_group.specs.Papers.{power}
-use Rattle.pauli_group.proofs.Laws.{·-assoc, ·-one}
-use Rattle.pauli_group.proofs.Products.{countTo-le}
+use Rattle.pauli_group.proofs.Laws.{·-assoc, ·-one, anticommute-I}
+use Rattle.pauli_group.proofs.Products.{countTo-le, countTo-ext, countTo-cut}
 use Rattle.pauli.specs.Layout.{phaseByte, phaseOf, letterByte, letterOf}
 use Rattle.pauli.specs.Rows.{productPhaseByte, productLetterByte, letterBytesProduct, letterAt, productLetters, productPhase, placesOf, shorter, RowTimes}
 use Rattle.pauli.specs.Inside.Turns.{LetterTurns, PhaseTurns, anticommuting}
@@ -133,8 +134,19 @@ counted-all {a} {b} {n} {i} h k m =
     m .is ∙ ap (λ (j : ℕ). placesOf j a b % 256) (i-n ∙ h)
 
 -- up to 255 places the count is exact
-pub count-exact : (n : ℕ) (a b : List ℕ) → n ≤ 255 → placesOf n a b % 256 ≡ placesOf n a b
+count-exact : (n : ℕ) (a b : List ℕ) → n ≤ 255 → placesOf n a b % 256 ≡ placesOf n a b
 unfolding placesOf
 count-exact n a b h = omega (arith, countTo-le n (λ q. anticommute (letterAt a q) (letterAt b q)))
+
+-- so it is that of two strings whose letters stand in the rows, one of them with no letter beyond
+pub places-of-rows : (s t : PauliString) (n : ℕ) (a b : List ℕ) → n ≤ qubits → ((q : ℕ) → q < n → letterAt a q ≡ s .letters q)
+    → ((q : ℕ) → q < n → letterAt b q ≡ t .letters q) → Within n t → placesOf n a b % 256 ≡ anticommutingPlaces s t
+unfolding placesOf anticommutingPlaces qubits
+places-of-rows s t n a b h ea eb none =
+    count-exact n a b (omega (arith, h)) ∙ countTo-ext n _ together (λ q l. ap₂ anticommute (ea q l) (eb q l))
+    ∙ sym (countTo-cut n 128 together h (λ q l. ap (anticommute (s .letters q)) (none q l) ∙ anticommute-I (s .letters q)))
+  where
+    together : ℕ → Bool
+    together q = anticommute (s .letters q) (t .letters q)
 
 pub ruleset counts = (counted-none, counted-step, counted-all, needs)

@@ -1,5 +1,5 @@
 -- What the functions that read string records find.
-use mathlib.Core.Path.{_≡_, sym, ap, ap₂, _∙_}
+use mathlib.Core.Path.{_≡_, sym, ap, _∙_}
 use mathlib.Core.List.{List}
 use Prim.Native.Nat.{ℕ, suc, _+_, _%_, _≤_, _<_}
 use native.Mathlib.Numerals.{add-one}
@@ -8,9 +8,7 @@ use lib.ListN.{length, getD}
 use mir.Syntax.{w64}
 use mir.Val.{Fits}
 use borrow.Author.Needs.{needs}
-use Rattle.pauli_group.specs.Letter.{anticommute}
-use Rattle.pauli_group.specs.PauliString.{qubits, anticommutingPlaces}
-use Rattle.pauli_group.proofs.Products.{countTo-ext}
+use Rattle.pauli_group.specs.PauliString.{qubits}
 use Rattle.pauli.specs.declared.refusal.Outcome.{Outcome}
 use Rattle.pauli.specs.declared.refusal.Outcome.the-variants.{Done}
 use Rattle.pauli.specs.Layout.{letterByte, letterOf, decodeString, stringOf, WellFormed}
@@ -20,8 +18,8 @@ use Rattle.pauli.specs.Strings.{phaseOfRecord, letterOfRecord, placesOfR
 use Rattle.pauli.proofs.Answers.{answers}
 use Rattle.pauli.proofs.Asking.{then-asked, done-first, done-second, string-formed, qubit-below}
 use Rattle.pauli.proofs.Places.{from, from-at, length-from}
-use Rattle.pauli.proofs.Records.{phase-there, letter-there, decode-letter}
-use Rattle.pauli.proofs.RowProducts.{count-exact}
+use Rattle.pauli.proofs.Records.{phase-there, letter-there, decode-letter, decode-within}
+use Rattle.pauli.proofs.RowProducts.{places-of-rows}
 
 -- ---- the phase
 pub phase-read : (s : List ℕ) {r : Outcome} → r ≡ stringQuestions s → r ≡ Done → getD s 0 0 ≡ phaseOfRecord s
@@ -69,11 +67,11 @@ module _ (s t : List ℕ) {r : Outcome} (p : r ≡ stringsQuestions s t) (h : r 
 
   -- 128 places are counted, which is below 256
   pub places-are : {n : ℕ} → n ≡ placesOf (shorter (from 1 s) (from 1 t)) (from 1 s) (from 1 t) % 256 → n ≡ placesOfRecords s t
-  unfolding placesOfRecords anticommutingPlaces placesOf stringOf letterAt qubits
+  unfolding placesOfRecords stringOf letterAt qubits
   places-are e =
       let short : shorter (from 1 s) (from 1 t) ≡ 128 = omega (arith, first-formed .long, second-formed .long, length-from 1 s, length-from 1 t) in
-      e ∙ ap (λ (j : ℕ). placesOf j (from 1 s) (from 1 t) % 256) short ∙ count-exact 128 (from 1 s) (from 1 t) (omega arith)
-      ∙ countTo-ext 128 _ _ (λ q l. ap₂ anticommute (letter-here s q l) (letter-here t q l))
+      e ∙ ap (λ (j : ℕ). placesOf j (from 1 s) (from 1 t) % 256) short
+      ∙ places-of-rows (stringOf s) (stringOf t) 128 (from 1 s) (from 1 t) (omega arith) (letter-here s) (letter-here t) (decode-within 128 t)
     where
       letter-here : (u : List ℕ) (q : ℕ) → q < 128 → letterOf (getD (from 1 u) q 0) ≡ decodeString 128 u .letters q
       letter-here u q l = ap letterOf (from-at u q) ∙ sym (decode-letter 128 u q l)

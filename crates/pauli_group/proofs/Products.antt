@@ -60,6 +60,15 @@ unfolding countTo
 countTo-ext zero f g h = refl
 countTo-ext (suc n) f g h = ap₂ (λ c b. c + cond b 1 0) (countTo-ext n f g (λ q l. h q (omega arith))) (h n (omega arith))
 
+-- places at n and above that do not have f do not count
+pub countTo-cut : (n k : ℕ) (f : ℕ → Bool) → n ≤ k → ((q : ℕ) → n ≤ q → f q ≡ false) → countTo k f ≡ countTo n f
+unfolding countTo
+countTo-cut n zero f h e = let z : zero ≡ n = omega arith in ap (λ (j : ℕ). countTo j f) z
+countTo-cut n (suc k) f h e = elim (ℕ-discrete n (suc k)) [
+  | yes d ↦ ap (λ (j : ℕ). countTo j f) (sym d)
+  | no d ↦ ap (λ b. countTo k f + cond b 1 0) (e k (omega arith)) ∙ (let z : countTo k f + 0 ≡ countTo k f = omega arith in z) ∙ countTo-cut n k f (omega arith) e
+]
+
 -- -1 to the power of a count is the product of the places' signs
 times-minus : (p : Phase) → negate p ≡ p · MinusOne
 unfolding _·_ negate turn
