@@ -139,7 +139,8 @@ struct rc_reply rc_get(const uint8_t *s, size_t s_len, size_t qubit);
 /* The number of qubits at which the two strings have two different letters other than I, so that they anticommute there: 0 to 128.
  * The strings commute where it is even. */
 struct rc_reply rc_anticommuting_places(const uint8_t *s, size_t s_len, const uint8_t *t, size_t t_len);
-/* Writes the product s t, 129 bytes. */
+/* Writes the product s t, 129 bytes; the value is the number of places that it took: 1 + the last qubit at which either string has a
+ * letter other than I, and 0 where both have only I. */
 struct rc_reply rc_mul(const uint8_t *s, size_t s_len, const uint8_t *t, size_t t_len, uint8_t *dst, size_t dst_len);
 /* Writes the string of a phase and entries, 129 bytes. */
 struct rc_reply rc_with_phase_and_paulis(uint8_t phase, const uint8_t *entries, size_t entries_len, uint8_t *dst, size_t dst_len);

@@ -12,57 +12,61 @@ use mir.Syntax.{w64}
 use mir.Val.{Fits}
 use borrow.Author.Needs.{needs}
 use Rattle.pauli_group.specs.Phase.{sign}
-use Rattle.pauli_group.specs.Letter.{X, Z, anticommute}
-use Rattle.pauli_group.specs.PauliString.{PauliString, qubits, mul, scale, identityString, single, commutationSign}
+use Rattle.pauli_group.specs.Letter.{X, Z, notI, anticommute}
+use Rattle.pauli_group.specs.PauliString.{PauliString, qubits, lastTo, hasLetter, mul, scale, identityString, single, commutationSign}
 use Rattle.pauli_group.proofs.Laws.{anticommute-self}
 use Rattle.pauli_group.proofs.Strings.{scale-mul, identity-mul, sign-single, within-scale, within-single}
 use Rattle.pauli.specs.Layout.{phaseByte, phaseOf, letterByte, letterOf, encodeString, decodeString, stringOf, WellFormed}
-use Rattle.pauli.proofs.Records.{phase-back, phase-small}
+use Rattle.pauli.proofs.Records.{phase-back, phase-small, letter-of, byte-letter}
 use Rattle.clifford.specs.Layout.{rowOf, rowQubit, rowLetter}
-use Rattle.clifford.specs.Images.{notI, hasLetter, spanTo, pauliTableau}
+use Rattle.clifford.specs.Images.{pauliWidth, pauliTableau}
 use Rattle.clifford.specs.Inside.Rows.{ClearRow, WorkPlace, rowTimes, clearedRow, signByte, lettersIn}
 use Rattle.clifford.specs.Inside.Writing.{Span, IsGenerator, PauliRow, conjugated}
 use Rattle.clifford.proofs.RowWriting.{row-made}
 use Rattle.clifford_group.specs.Tableau.{Proper}
 use Rattle.clifford.proofs.WorkRows.{length-times}
 use Rattle.clifford.proofs.Apply.{length-cleared, cleared-formed, decoded-clear}
-use Rattle.clifford.proofs.SetImage.{letter-of, byte-letter}
 
 -- ---- the width
+abbrev last : List ℕ → ℕ → ℕ
+last s n = lastTo n (hasLetter (stringOf s))
+
 pub record SpanFrom (s : List ℕ) (n : ℕ) : Type 0 where
   pub within : n ≤ 128
-  pub is : spanTo 128 (stringOf s) ≡ spanTo n (stringOf s)
+  pub is : last s 128 ≡ last s n
 
 pub span-start : (s : List ℕ) → SpanFrom s 128
 span-start s = record { within = omega arith; is = refl }
 
-span-suc : (s : List ℕ) (n : ℕ) → n < 128 → getD s (suc n) 0 ≡ 0 → spanTo (suc n) (stringOf s) ≡ spanTo n (stringOf s)
-unfolding spanTo hasLetter notI letterOf
-span-suc s n h e = ap (λ b. cond b (suc n) (spanTo n (stringOf s))) (ap notI (letter-of s n h ∙ ap letterOf e))
+span-suc : (s : List ℕ) (n : ℕ) → n < 128 → getD s (suc n) 0 ≡ 0 → last s (suc n) ≡ last s n
+unfolding lastTo hasLetter notI letterOf
+span-suc s n h e = ap (λ b. cond b (suc n) (last s n)) (ap notI (letter-of s n h ∙ ap letterOf e))
 
-span-here : (s : List ℕ) (n : ℕ) → n < 128 → (getD s (suc n) 0 ≡ 0 → ⊥) → spanTo (suc n) (stringOf s) ≡ suc n
-unfolding spanTo hasLetter
-span-here s n h e = ap (λ b. cond b (suc n) (spanTo n (stringOf s))) (ap notI (letter-of s n h) ∙ byte-letter (getD s (suc n) 0) e)
+span-here : (s : List ℕ) (n : ℕ) → n < 128 → (getD s (suc n) 0 ≡ 0 → ⊥) → last s (suc n) ≡ suc n
+unfolding lastTo hasLetter
+span-here s n h e = ap (λ b. cond b (suc n) (last s n)) (ap notI (letter-of s n h) ∙ byte-letter (getD s (suc n) 0) e)
 
 pub span-less : {s : List ℕ} {n : ℕ} → SpanFrom s n → 0 < n → getD s n 0 ≡ 0 → SpanFrom s (n - 1)
 span-less {s} {n} m h e =
     let k : n ≡ suc (n - 1) = omega arith in
     record {
       within = omega (arith, m .within);
-      is = m .is ∙ ap (λ (j : ℕ). spanTo j (stringOf s)) k ∙ span-suc s (n - 1) (omega (arith, m .within)) (ap (λ (j : ℕ). getD s j 0) (sym k) ∙ e);
+      is = m .is ∙ ap (last s) k ∙ span-suc s (n - 1) (omega (arith, m .within)) (ap (λ (j : ℕ). getD s j 0) (sym k) ∙ e);
     }
 
 pub span-found : {s : List ℕ} {n : ℕ} → SpanFrom s n → 0 < n → (getD s n 0 ≡ 0 → ⊥) → Span s n
+unfolding pauliWidth qubits
 span-found {s} {n} m h e =
     let k : n ≡ suc (n - 1) = omega arith in
-    record {
-      is = k ∙ sym (span-here s (n - 1) (omega (arith, m .within)) (λ z. e (ap (λ (j : ℕ). getD s j 0) k ∙ z))) ∙ ap (λ (j : ℕ). spanTo j (stringOf s)) (sym k) ∙ sym (m .is);
-      small = m .within;
-    }
+    let here : last s 128 ≡ n = m .is ∙ ap (last s) k ∙ span-here s (n - 1) (omega (arith, m .within)) (λ z. e (ap (λ (j : ℕ). getD s j 0) k ∙ z)) ∙ sym k in
+    record { is = omega (arith, here); small = m .within }
 
 pub span-none : {s : List ℕ} {n : ℕ} → SpanFrom s n → n ≤ 0 → Span s 1
-unfolding spanTo
-span-none {s} {n} m h = let z : n ≡ 0 = omega arith in record { is = sym (m .is ∙ ap (λ (j : ℕ). spanTo j (stringOf s)) z); small = omega arith }
+unfolding pauliWidth qubits lastTo
+span-none {s} {n} m h =
+    let z : n ≡ 0 = omega arith in
+    let none : last s 128 ≡ 0 = m .is ∙ ap (last s) z in
+    record { is = omega (arith, none); small = omega arith }
 
 pub span-place : {s : List ℕ} {n : ℕ} → WellFormed 128 s → SpanFrom s n → n < length s
 span-place f m = omega (arith, f .long, m .within)
@@ -169,18 +173,18 @@ module _ {s : List ℕ} {q l : ℕ} {k : List ℕ} (o : PauliRow s q l k) where
 pub ruleset pauli-rows = (sign-letter, sign-place, sign-fits, sign-clear, sign-work, sign-made, sign-length, needs)
 
 -- ---- all rows
-pub width-pauli : (s : PauliString) → pauliTableau s .width ≡ spanTo 128 s
-unfolding pauliTableau qubits
+pub width-pauli : (s : PauliString) → pauliTableau s .width ≡ pauliWidth s
+unfolding pauliTableau
 width-pauli s = refl
 
-pub row-pauli : (s : PauliString) (w r : ℕ) → w ≡ spanTo 128 s → r < 2 * w → rowOf (pauliTableau s) r ≡ conjugated s (single (rowLetter w r) (rowQubit w r))
-unfolding pauliTableau conjugated qubits
+pub row-pauli : (s : PauliString) (w r : ℕ) → w ≡ pauliWidth s → r < 2 * w → rowOf (pauliTableau s) r ≡ conjugated s (single (rowLetter w r) (rowQubit w r))
+unfolding pauliTableau conjugated
 row-pauli s w r e h = row-made (pauliTableau s) (λ q a. scale (commutationSign s (single a q)) (single a q)) (λ q. refl) (λ q. refl) w r (sym e) h
 
-pub proper-pauli : (s : PauliString) → spanTo 128 s ≤ 128 → Proper (pauliTableau s)
+pub proper-pauli : (s : PauliString) → pauliWidth s ≤ 128 → Proper (pauliTableau s)
 unfolding pauliTableau qubits
 proper-pauli s h = record {
   narrow = h;
-  xWithin = λ q l. within-scale (spanTo 128 s) _ _ (within-single (spanTo 128 s) X q l);
-  zWithin = λ q l. within-scale (spanTo 128 s) _ _ (within-single (spanTo 128 s) Z q l);
+  xWithin = λ q l. within-scale (pauliWidth s) _ _ (within-single (pauliWidth s) X q l);
+  zWithin = λ q l. within-scale (pauliWidth s) _ _ (within-single (pauliWidth s) Z q l);
 }

@@ -2,7 +2,7 @@
 use mathlib.Core.Path.{_≡_, refl, sym, ap, ap₂, _∙_, subst}
 use mathlib.Core.Bool.{Bool, true, false, cond, _&&_}
 use mathlib.Core.List.{List, _++_, append-nil}
-use Prim.Native.Nat.{ℕ, zero, suc, _+_, _*_, _-_, _≤_, _<_}
+use Prim.Native.Nat.{ℕ, suc, _+_, _*_, _-_, _≤_, _<_}
 use native.Mathlib.Numerals.{add-one}
 use native.Mathlib.Omega.{arith}
 use native.Mathlib.Decide.{decLt, ℕ-discrete}
@@ -14,9 +14,10 @@ use mir.Val.{Fits}
 use borrow.Author.Needs.{needs}
 use borrow.Author.Tests.{lt-leb, le-leb, eq-eqb, ne-eqb, leb-true}
 use borrow.Rule.Slice.PartMut.{putMid}
-use Rattle.pauli_group.specs.Letter.{Letter, I, X, Z, Y}
-use Rattle.pauli_group.specs.PauliString.{PauliString, qubits, Within}
+use Rattle.pauli_group.specs.Letter.{I, notI}
+use Rattle.pauli_group.specs.PauliString.{PauliString, qubits, hasLetter, Within}
 use Rattle.pauli_group.proofs.Strings.{string-ext}
+use Rattle.pauli_group.proofs.PlacesTaken.{is-I}
 use Rattle.clifford_group.specs.Tableau.{Tableau, Same}
 use Rattle.pauli.specs.declared.refusal.Refusal.{Refusal}
 use Rattle.pauli.specs.declared.refusal.Refusal.the-variants.{ImageWidth}
@@ -28,9 +29,9 @@ use Rattle.pauli.specs.Questions.{_andThen_, stringQuestions}
 use Rattle.pauli.proofs.Answers.{answers}
 use Rattle.pauli.proofs.Asking.{asked-yes, asked-no, ask-done, refused, passed, done-first, done-second, string-formed}
 use Rattle.pauli.proofs.Places.{NoneBefore, none-more, none-found, none-left, first-before, from, length-from}
-use Rattle.pauli.proofs.Records.{decode-within, decode-letter, decode-phase}
+use Rattle.pauli.proofs.Records.{decode-within, decode-letter, decode-phase, letter-of, byte-letter}
 use Rattle.clifford.specs.Layout.{rowLength, encodeRow, rowOffset, recordLength, rowOf, rowPart, widthOf, tableauOf, tableauRecord, FormedTableau}
-use Rattle.clifford.specs.Images.{notI, hasLetter, withXImage, withZImage}
+use Rattle.clifford.specs.Images.{withXImage, withZImage}
 use Rattle.clifford.specs.Questions.{tableauQuestions, applyQuestions, lowestOutside, insideQuestion, slotQuestion, setQuestions}
 use Rattle.clifford.specs.Inside.Rows.{Sized, RowIndex, Finished, Beside, withRow, rowWritten, lettersIn, stringIn}
 use Rattle.clifford.specs.Tableaux.{setXRecord, setZRecord}
@@ -43,17 +44,6 @@ use Rattle.clifford.proofs.Records.{length-record, same-record}
 -- ---- the lowest qubit outside
 abbrev pub outside : ℕ → List ℕ → ℕ → Bool
 outside w s q = leb w q && hasLetter (stringOf s) q
-
-pub letter-of : (s : List ℕ) (q : ℕ) → q < 128 → stringOf s .letters q ≡ letterOf (getD s (suc q) 0)
-unfolding stringOf qubits
-letter-of s q h = decode-letter 128 s q h
-
-pub byte-letter : (n : ℕ) → (n ≡ 0 → ⊥) → notI (letterOf n) ≡ true
-unfolding notI letterOf
-byte-letter zero h = absurd (h refl)
-byte-letter (suc zero) h = refl
-byte-letter (suc (suc zero)) h = refl
-byte-letter (suc (suc (suc n))) h = refl
 
 pub outside-yes : (w : ℕ) (s : List ℕ) (q : ℕ) → w ≤ q → q < 128 → (getD s (q + 1) 0 ≡ 0 → ⊥) → outside w s q ≡ true
 unfolding hasLetter
@@ -101,13 +91,6 @@ inside-no w s e h = ap (λ (k : ℕ). Refused (ImageWidth k w)) e ∙ asked-no (
 pub inside-yes : (w : ℕ) (s : PauliString) {q : ℕ} → q ≡ lowestOutside w s → 128 ≤ q → Done ≡ insideQuestion w s
 unfolding insideQuestion qubits
 inside-yes w s e h = asked-yes (ImageWidth (lowestOutside w s) w) (le-leb 128 (lowestOutside w s) (omega arith))
-
-is-I : (l : Letter) → notI l ≡ false → l ≡ I
-unfolding notI
-is-I I e = refl
-is-I X e = cc
-is-I Z e = cc
-is-I Y e = cc
 
 none-outside : (w : ℕ) (s : PauliString) → insideQuestion w s ≡ Done → 128 ≤ lowestOutside w s
 unfolding insideQuestion qubits

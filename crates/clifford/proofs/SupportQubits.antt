@@ -12,8 +12,8 @@ use lib.ListN.{length, getD, set, drop, length-set, length-drop, length-append}
 use lib.Seq.{drop-drop}
 use borrow.Author.Needs.{needs}
 use borrow.Author.Tests.{eq-eqb, ne-eqb}
-use Rattle.pauli_group.specs.Letter.{Letter, I, X, Z, Y}
-use Rattle.pauli_group.specs.PauliString.{PauliString, single}
+use Rattle.pauli_group.specs.Letter.{Letter, I, X, Z, Y, notI}
+use Rattle.pauli_group.specs.PauliString.{PauliString, hasLetter, single}
 use Rattle.clifford_group.specs.Tableau.{Tableau, allTo}
 use Rattle.pauli.specs.declared.refusal.Refusal.{Refusal}
 use Rattle.pauli.specs.declared.refusal.Outcome.{Outcome}
@@ -29,7 +29,6 @@ use Rattle.clifford.proofs.Asking.{tableau-formed, checked}
 use Rattle.pauli.specs.Layout.{phaseByte, phaseOf, letterByte, letterOf}
 use Rattle.pauli.proofs.Records.{letter-there}
 use Rattle.clifford.specs.Layout.{rowOf, readRow, widthOf, tableauOf, FormedTableau}
-use Rattle.clifford.specs.Images.{notI, hasLetter}
 use Rattle.clifford.specs.Inside.Rows.{OwnRow, OwnQubit, OwnQubits, rowLetters}
 use Rattle.clifford.specs.Support.{isPlusOne, alikeAt, isSingle, changedQubit, touchesQubit, supportsQubit, someTo, placesWith, inSupport, supportQubits}
 use Rattle.clifford.specs.Inside.Writing.{IsGenerator, SingleRow, SupportBit, SupportCount, QubitFits, QubitWritten, SupportFits}

@@ -4,7 +4,7 @@ use mathlib.Core.Bool.{_&&_}
 use mathlib.Core.List.{List}
 use lib.Dec.{ltb, leb, eqb}
 use lib.ListN.{length, getD}
-use Rattle.pauli_group.specs.PauliString.{PauliString, qubits}
+use Rattle.pauli_group.specs.PauliString.{PauliString, qubits, hasLetter}
 use Rattle.pauli.specs.declared.refusal.Refusal.the-variants.{Width, Length, BadByte, ImageWidth, Slot}
 use Rattle.pauli.specs.declared.refusal.Outcome.{Outcome}
 use Rattle.pauli.specs.declared.refusal.Outcome.the-variants.{Done}
@@ -13,7 +13,7 @@ use Rattle.pauli.specs.Layout.{stringLength, stringOf}
 use Rattle.pauli.specs.Questions.{ask, _andThen_, bytesQuestion, stringQuestions, roomQuestion}
 use Rattle.clifford.specs.Layout.{letterPlace, lettersOf, rowOffset, rowPart, widthOf, tableauOf, recordLength}
 use Rattle.clifford.specs.Support.{supportQubits}
-use Rattle.clifford.specs.Images.{hasLetter, spanTo}
+use Rattle.clifford.specs.Images.{pauliWidth}
 
 -- "Is the width at most 128? 1"
 unfoldable pub widthQuestion : ℕ → Outcome
@@ -83,7 +83,7 @@ unfoldable pub extendAnswer : List ℕ → ℕ → ℕ → Outcome
 extendAnswer t n room = extendQuestions t n andThen roomQuestion (recordLength (max (widthOf t) n)) room
 
 unfoldable pub pauliAnswer : List ℕ → ℕ → Outcome
-pauliAnswer s room = stringQuestions s andThen roomQuestion (recordLength (spanTo qubits (stringOf s))) room
+pauliAnswer s room = stringQuestions s andThen roomQuestion (recordLength (pauliWidth (stringOf s))) room
 
 -- the room goes by the count
 unfoldable pub supportAnswer : List ℕ → ℕ → Outcome

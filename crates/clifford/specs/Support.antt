@@ -5,10 +5,9 @@ use mathlib.Core.List.{List, [], _∷_, _++_}
 use lib.Dec.{eqb}
 use Rattle.pauli_group.specs.Phase.{Phase, PlusOne, MinusOne, PlusI, MinusI}
 use Rattle.pauli_group.specs.Letter.{Letter, X, Z}
-use Rattle.pauli_group.specs.PauliString.{PauliString, single}
+use Rattle.pauli_group.specs.PauliString.{PauliString, hasLetter, single}
 use Rattle.clifford_group.specs.Tableau.{Tableau, allTo}
 use Rattle.pauli.specs.Layout.{letterByte}
-use Rattle.clifford.specs.Images.{hasLetter}
 
 unfoldable pub isPlusOne : Phase → Bool
 isPlusOne PlusOne = true

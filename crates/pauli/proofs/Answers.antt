@@ -64,10 +64,10 @@ unfolding outcomeReply replyTo
 outcome-told Done = refl
 outcome-told (Refused r) = refl
 
-product-told : (q : Outcome) → productReply (productAnswer q) ≡ replyTo q 0
+product-told : (q : Outcome) (n : ℕ) → productReply (productAnswer q n) ≡ replyTo q n
 unfolding productReply productAnswer replyTo
-product-told Done = refl
-product-told (Refused r) = refl
+product-told Done n = refl
+product-told (Refused r) n = refl
 
 -- ---- the two ways in which a function that writes ends
 pub written-done : {q r : Outcome} {out d e : List ℕ} → r ≡ q → r ≡ Done → e ≡ written Done out d → Written q out d e r
@@ -85,21 +85,18 @@ written-not {q} {r} out d p h = record {
   bytes = ap (λ x. written x out d) (sym h ∙ p);
 }
 
-pub product-done : {q r : Outcome} {out d e : List ℕ} → r ≡ q → r ≡ Done → e ≡ written Done out d → ProductWritten q out d e Multiplied
+pub product-done : {q r : Outcome} {n m : ℕ} {out d e : List ℕ} → r ≡ q → r ≡ Done → m ≡ n → e ≡ written Done out d
+    → ProductWritten q n out d e (Multiplied m)
 unfolding productAnswer
-product-done {q} {r} {out} {d} p h w = record {
-  answer = ap productAnswer (sym h ∙ p);
-  told = ap (λ x. productReply (productAnswer x)) (sym h ∙ p) ∙ product-told q;
-  bytes = w ∙ ap (λ x. written x out d) (sym h ∙ p);
-}
+product-done {q} {r} {n} {out = out} {d = d} p h c w =
+    let answer = ap Multiplied c ∙ ap (λ x. productAnswer x n) (sym h ∙ p) in
+    record { answer = answer; told = ap productReply answer ∙ product-told q n; bytes = w ∙ ap (λ x. written x out d) (sym h ∙ p) }
 
-pub product-not : {q r : Outcome} {x : Refusal} (out d : List ℕ) → r ≡ q → r ≡ Refused x → ProductWritten q out d d (NoProduct x)
+pub product-not : {q r : Outcome} {x : Refusal} (n : ℕ) (out d : List ℕ) → r ≡ q → r ≡ Refused x → ProductWritten q n out d d (NoProduct x)
 unfolding productAnswer written
-product-not {q} {r} out d p h = record {
-  answer = ap productAnswer (sym h ∙ p);
-  told = ap (λ x. productReply (productAnswer x)) (sym h ∙ p) ∙ product-told q;
-  bytes = ap (λ x. written x out d) (sym h ∙ p);
-}
+product-not {q} {r} n out d p h =
+    let answer = ap (λ x. productAnswer x n) (sym h ∙ p) in
+    record { answer = answer; told = ap productReply answer ∙ product-told q n; bytes = ap (λ x. written x out d) (sym h ∙ p) }
 
 pub count-done : {q r : Outcome} {out d e : List ℕ} {n : ℕ} → r ≡ q → r ≡ Done → n ≡ length out → e ≡ written Done out d → CountWritten q out d e (Count n)
 unfolding countAnswer

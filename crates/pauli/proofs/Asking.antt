@@ -157,7 +157,7 @@ string-formed s e = record {
   small = λ k h. ltb-false 3 (getD s k 0) (first-before (length s) (λ j. ltb 3 (getD s j 0)) k (omega (arith, string-bytes s e)));
 }
 
-formed-good : (s : List ℕ) → WellFormed 128 s → stringQuestions s ≡ Done
+pub formed-good : (s : List ℕ) → WellFormed 128 s → stringQuestions s ≡ Done
 unfolding firstBad
 formed-good s f = sym (string-good s (f .long) (first-is (length s) (λ j. ltb 3 (getD s j 0)) (length s) (omega arith) (λ k h. le-ltb 3 (getD s k 0) (f .small k h)) (λ h. absurd (never h))) (omega arith))
   where

@@ -6,9 +6,11 @@ pub mod Turns
 pub mod RowProducts
 pub mod Asking
 pub mod StringProducts
+pub mod Looking
 pub mod StringReads
 pub mod EntryMarks
 pub mod EntryStrings
+pub mod Multiplying
 pub mod TextBytes
 pub mod Numerals
 pub mod Tokens

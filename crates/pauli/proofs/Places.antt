@@ -2,7 +2,7 @@
 use mathlib.Core.Path.{_≡_, refl, sym, ap, ap₂, _∙_, subst}
 use mathlib.Core.Bool.{Bool, true, false, cond}
 use mathlib.Core.List.{List, [], _∷_, _++_}
-use Prim.Native.Nat.{ℕ, zero, suc, _+_, _-_, _≤_, _<_}
+use Prim.Native.Nat.{ℕ, zero, suc, _+_, _-_, _≤_, _<_, max}
 use native.Mathlib.Nat.{le-refl, not-suc-le-zero, le-of-suc-le-suc}
 use native.Mathlib.Numerals.{add-one}
 use native.Mathlib.Decide.{ℕ-discrete}
@@ -105,11 +105,11 @@ none-left {n} {f} {i} m h = first-is n f i (m .within) (m .none) (λ l. absurd (
 pub above-none : (s : List ℕ) (m : ℕ) → NoneAbove s 0 m
 above-none s m = record { each = λ k h. absurd (not-suc-le-zero h) }
 
-pub above-more : {s : List ℕ} {i m n : ℕ} → NoneAbove s i m → (m ≤ n) × (getD s i 0 ≤ n) → NoneAbove s (i + 1) n
+pub above-more : {s : List ℕ} {i m n : ℕ} → NoneAbove s i m → n ≡ max m (getD s i 0) → NoneAbove s (i + 1) n
 above-more {s} {i} a h = record {
   each = λ k l. elim (ℕ-discrete k i) [
-    | yes e ↦ omega (arith, ap (λ (j : ℕ). getD s j 0) e, h .1)
-    | no d ↦ omega (arith, a .each k (omega (arith, l, d)), h .0)
+    | yes e ↦ omega (arith, ap (λ (j : ℕ). getD s j 0) e, h)
+    | no d ↦ omega (arith, a .each k (omega (arith, l, d)), h)
   ];
 }
 

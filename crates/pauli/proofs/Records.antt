@@ -1,6 +1,6 @@
 -- Laws of the layout: both round trips of phase and letter bytes and of string records.
 use mathlib.Core.Path.{_≡_, refl, sym, ap, _∙_}
-use mathlib.Core.Bool.{cond}
+use mathlib.Core.Bool.{true, cond}
 use mathlib.Core.List.{List}
 use Prim.Native.Nat.{ℕ, zero, suc, _≤_, _<_}
 use native.Mathlib.Decide.{decLt}
@@ -9,10 +9,10 @@ use lib.ListN.{length, getD}
 use lib.Seq.{ext-getD}
 use borrow.Author.Tests.{lt-ltb, le-ltb}
 use Rattle.pauli_group.specs.Phase.{Phase, PlusOne, MinusOne, PlusI, MinusI}
-use Rattle.pauli_group.specs.Letter.{Letter, I, X, Z, Y}
-use Rattle.pauli_group.specs.PauliString.{PauliString, Within}
+use Rattle.pauli_group.specs.Letter.{Letter, I, X, Z, Y, notI}
+use Rattle.pauli_group.specs.PauliString.{PauliString, qubits, Within}
 use Rattle.pauli_group.proofs.Strings.{string-ext}
-use Rattle.pauli.specs.Layout.{phaseByte, phaseOf, letterByte, letterOf, encodeString, decodeString, WellFormed}
+use Rattle.pauli.specs.Layout.{phaseByte, phaseOf, letterByte, letterOf, encodeString, decodeString, stringOf, WellFormed}
 use Rattle.pauli.proofs.Places.{length-listed, getD-listed}
 
 -- ---- bytes of phases and letters
@@ -111,3 +111,19 @@ encode-decode {w} {b} f = ext-getD 0 (encodeString w (decodeString w b)) b (leng
         let l : q < w = omega (arith, length-encode w (decodeString w b)) in
         encode-letter w (decodeString w b) q l ∙ ap letterByte (decode-letter w b q l)
         ∙ letter-there (getD b (suc q) 0) (f .small (suc q) (omega (arith, f .long)))
+
+-- ---- the string of a record
+pub string-within : (s : List ℕ) → Within qubits (stringOf s)
+unfolding stringOf
+string-within s = decode-within qubits s
+
+pub letter-of : (s : List ℕ) (q : ℕ) → q < 128 → stringOf s .letters q ≡ letterOf (getD s (suc q) 0)
+unfolding stringOf qubits
+letter-of s q h = decode-letter 128 s q h
+
+pub byte-letter : (n : ℕ) → (n ≡ 0 → ⊥) → notI (letterOf n) ≡ true
+unfolding notI letterOf
+byte-letter zero h = absurd (h refl)
+byte-letter (suc zero) h = refl
+byte-letter (suc (suc zero)) h = refl
+byte-letter (suc (suc (suc n))) h = refl

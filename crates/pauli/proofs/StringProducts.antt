@@ -4,8 +4,8 @@ use mathlib.Core.List.{List, [], _∷_, _++_, append-nil}
 use Prim.Native.Nat.{ℕ, suc, _+_, _-_, _<_, _≤_}
 use native.Mathlib.Decide.{decLt}
 use native.Mathlib.Omega.{arith}
-use lib.ListN.{length, take, drop, getD, set, length-append, length-drop, drop-of-length-le, List·getD-append}
-use lib.Seq.{getD-drop, getD-append-add, take-all, take-at, drop-at}
+use lib.ListN.{length, drop, getD, set, length-append, length-drop, drop-of-length-le, List·getD-append}
+use lib.Seq.{getD-drop, getD-append-add}
 use borrow.Author.Needs.{needs}
 use borrow.Rule.Slice.PartMut.{putMid}
 use Rattle.pauli_group.specs.Phase.{Phase, _·_}
@@ -14,16 +14,8 @@ use Rattle.pauli_group.specs.PauliString.{PauliString, qubits, phaseOfLetters, 
 use Rattle.pauli_group.proofs.Laws.{letterPhase-I, letterMul-I}
 use Rattle.pauli_group.proofs.Products.{productTo-ext, productTo-cut}
 use Rattle.pauli.specs.Places.{listed}
-use Rattle.pauli.specs.Layout.{phaseByte, phaseOf, letterByte, letterOf, encodeString, decodeString, stringOf, stringRecord, WellFormed}
-use Rattle.pauli.specs.Rows.{phaseBytesProduct, letterAt, productLetters, productPhase, shorter, RowTimes, rowProduct, copied}
-use Rattle.pauli.specs.Strings.{productRecord}
-use Rattle.pauli.specs.Inside.Writing.{Operands}
-use Rattle.pauli.specs.declared.refusal.Outcome.{Outcome}
-use Rattle.pauli.specs.declared.refusal.Outcome.the-variants.{Done}
-use Rattle.pauli.specs.Answers.{written}
-use Rattle.pauli.specs.Questions.{_andThen_, stringQuestions, stringsQuestions, roomQuestion, mulQuestions}
-use Rattle.pauli.proofs.Answers.{answers}
-use Rattle.pauli.proofs.Asking.{then-asked, done-first, done-second, string-formed, room-is, record-bytes}
+use Rattle.pauli.specs.Layout.{phaseByte, phaseOf, letterByte, letterOf, encodeString, decodeString, WellFormed}
+use Rattle.pauli.specs.Rows.{phaseBytesProduct, letterAt, productLetters, productPhase, shorter, RowTimes, rowProduct}
 use Rattle.pauli.proofs.Places.{from, from-is, listed-is, getD-listed, length-listed}
 use Rattle.pauli.proofs.Records.{phase-back, letter-there, decode-letter, decode-within}
 
@@ -135,36 +127,3 @@ row-product-is {w} {n} {d} {t} h k fd ft = go d t fd ft
         empty : 0 ≡ suc n → ⊥
         empty e = omega arith
     go (x ∷ a) (y ∷ b) fd ft = product-is w n x y a b h k fd ft
-
--- ---- a string copied to the front of a destination and multiplied there
-pub product-written : {s t d e : List ℕ} {ys : List ℕ} → Operands s t d → e ≡ copied s d → ys ≡ rowProduct (take 129 (drop 0 e)) t
-    → putMid 0 129 e ys ≡ productRecord s t ++ drop 129 d
-unfolding productRecord stringRecord stringOf qubits copied
-product-written {s} {t} {d} {e} {ys} o ec em =
-    let long : length s ≡ 129 = o .first .long in
-    let short : shorter s d ≡ 129 = omega (arith, o .room) in
-    let whole : e ≡ s ++ drop 129 d = ec ∙ ap (λ (j : ℕ). take j s ++ drop j d) short ∙ ap (λ (l : List ℕ). l ++ drop 129 d) (take-all 129 s (omega arith)) in
-    let row : take 129 e ≡ s = ap (take 129) whole ∙ take-at s (drop 129 d) 129 long in
-    let rest : drop 129 e ≡ drop 129 d = ap (drop 129) whole ∙ drop-at s (drop 129 d) 129 long in
-    ap₂ _++_ (em ∙ ap (λ (l : List ℕ). rowProduct l t) row ∙ row-product-is (omega arith) (omega arith) (o .first) (o .second)) rest
-
--- ---- what the questions of the product let by
-pub mul-asked : (s t : List ℕ) (room : ℕ) {a b r : Outcome} → a ≡ stringsQuestions s t → b ≡ roomQuestion 129 room → r ≡ a andThen b → r ≡ mulQuestions s t room
-unfolding mulQuestions
-mul-asked s t room p h e = then-asked e p h
-
-pub operands : {s t d : List ℕ} {r : Outcome} → r ≡ mulQuestions s t (length d) → r ≡ Done → Operands s t d
-unfolding mulQuestions stringsQuestions
-operands {s} {t} {d} p h =
-    let both : stringsQuestions s t ≡ Done = done-first _ _ (sym p ∙ h) in
-    record {
-      first = string-formed s (done-first _ _ both);
-      second = string-formed t (done-second (stringQuestions s) _ both);
-      room = room-is 129 (length d) (done-second (stringsQuestions s t) _ (sym p ∙ h));
-    }
-
-pub product-bytes : (s t d : List ℕ) {e : List ℕ} → e ≡ productRecord s t ++ drop 129 d → e ≡ written Done (productRecord s t) d
-unfolding productRecord
-product-bytes s t d h = h ∙ record-bytes (mul (stringOf s) (stringOf t)) d
-
-pub ruleset string-products = (mul-asked, product-written, operands, product-bytes, answers, needs)

@@ -16,7 +16,8 @@ use Rattle.pauli_group.proofs.Finite.{letters, phases, law2}
 use Rattle.pauli_group.proofs.PaperForms.{power-add}
 use Rattle.pauli.specs.Layout.{phaseByte, phaseOf, letterByte, letterOf}
 use Rattle.pauli.specs.Rows.{phaseBytesProduct}
-use Rattle.pauli.specs.Inside.Turns.{LetterByte, forY, ForY, LetterTurns, PhaseTurns, anticommuting}
+use Rattle.pauli.specs.Inside.Turns.{LetterByte, LetterBytes, forY, ForY, LetterTurns, PhaseTurns, anticommuting}
+use Rattle.pauli.proofs.Records.{letter-back, letter-there, letter-small}
 
 -- ---- powers of i
 power-times : (k m : ℕ) → power m ≡ PlusOne → power (k * m) ≡ PlusOne
@@ -73,22 +74,38 @@ byte-high (suc zero) h = absurd (omega arith)
 byte-high (suc (suc zero)) h = absurd (omega arith)
 byte-high (suc (suc (suc n))) h = record { is = refl; small = omega arith }
 
-pub y-low : (k x : ℕ) → x < 3 → ForY k x 0
-unfolding forY
-y-low k zero h = record { is = refl; small = omega arith }
-y-low k (suc zero) h = record { is = refl; small = omega arith }
-y-low k (suc (suc zero)) h = record { is = refl; small = omega arith }
-y-low k (suc (suc (suc n))) h = absurd (omega arith)
+byte-letter : (x : ℕ) → x ≤ 3 → LetterByte x x
+byte-letter x h = record { is = sym (letter-there x h); small = h }
 
-pub y-high : (k x : ℕ) → 3 ≤ x → ForY k x k
+pub byte-first : {x y : ℕ} → LetterBytes x y → LetterByte x x
+byte-first {x} m = byte-letter x (m .first)
+
+pub byte-second : {x y : ℕ} → LetterBytes x y → LetterByte y y
+byte-second {x} {y} m = byte-letter y (m .second)
+
+pub both-bytes : {a b x y : ℕ} → LetterByte a x → LetterByte b y → LetterBytes x y
+both-bytes f g = record { first = f .small; second = g .small }
+
+pub y-not : (k x : ℕ) → x ≤ 3 → (x ≡ 3 → ⊥) → ForY k x 0
 unfolding forY
-y-high k zero h = absurd (omega arith)
-y-high k (suc zero) h = absurd (omega arith)
-y-high k (suc (suc zero)) h = absurd (omega arith)
-y-high k (suc (suc (suc n))) h = record { is = refl; small = omega arith }
+y-not k zero h d = record { is = refl; small = omega arith }
+y-not k (suc zero) h d = record { is = refl; small = omega arith }
+y-not k (suc (suc zero)) h d = record { is = refl; small = omega arith }
+y-not k (suc (suc (suc n))) h d = absurd (omega arith)
+
+pub y-is : (k x : ℕ) → x ≡ 3 → ForY k x k
+unfolding forY
+y-is k x e = record { is = sym (ap (forY k) e); small = omega arith }
 
 pub letter-is : {a b x y : ℕ} → LetterByte a x → LetterByte b y → bitXor x y ≡ letterByte (letterMul (letterOf a) (letterOf b))
 letter-is {a} {b} f g = rw (f .is, g .is) (letter-xor (letterOf a) (letterOf b))
+
+-- a product's letter is the sum of the bits of its factors
+pub letter-sum : {x y : ℕ} → LetterBytes x y → bitXor x y ≡ letterByte (letterMul (letterOf x) (letterOf y))
+letter-sum m = letter-is (byte-first m) (byte-second m)
+
+pub sum-small : {x y : ℕ} → LetterBytes x y → bitXor x y ≤ 3
+sum-small {x} {y} m = omega (arith, letter-sum m, letter-small (letterMul (letterOf x) (letterOf y)))
 
 pub turns-fit : {a x y z c d e k m n : ℕ} → LetterByte a x → ForY c x k → ForY d y m → ForY e z n → c + d + e ≤ 252 → Fits w8 (k + m + n + bitAnd x (y + y))
 turns-fit {x = x} {y = y} f p q r h = record { fits = omega (arith, and-le-l x (y + y), f .small, p .small, q .small, r .small) }
@@ -100,9 +117,17 @@ turns-are {a} {b} {c = c} {d = d} {e = e} f g p q r t = record {
       (law2 letters letters phases (λ a b. power (turnsOf c d e (letterByte a) (letterByte b))) letterPhase t (letterOf a) (letterOf b));
 }
 
+pub turns-read : {a b x y t : ℕ} → LetterByte a x → LetterByte b y → LetterTurns x y t → LetterTurns a b t
+turns-read {a} {b} f g m = record {
+  is = m .is ∙ ap₂ letterPhase (ap letterOf (f .is) ∙ letter-back (letterOf a)) (ap letterOf (g .is) ∙ letter-back (letterOf b));
+}
+
 pub crossing-is : {a b x y : ℕ} → LetterByte a x → LetterByte b y → crossing x y ≡ anticommuting a b
 unfolding anticommuting
 crossing-is {a} {b} f g = rw (f .is, g .is) (letter-crossing (letterOf a) (letterOf b))
+
+pub turns-added : {x y t r : ℕ} (v : ℕ) → LetterTurns x y t → r ≡ (v + t) % 256 → power r ≡ power v · letterPhase (letterOf x) (letterOf y)
+turns-added {t = t} v m e = ap power e ∙ power-sum v t ∙ ap (λ p. power v · p) (m .is)
 
 pub phase-key : {p t : ℕ} (k : ℕ) → p ≡ k → power t ≡ phaseOf k → PhaseTurns p t
 phase-key k e h = record { is = h ∙ ap phaseOf (sym e) }
@@ -119,4 +144,27 @@ pub phases-are : {a b s t u r : ℕ} → PhaseTurns a s → PhaseTurns b t → u
 unfolding phaseBytesProduct
 phases-are {s = s} {t = t} f g e h = h ∙ ap (λ (x : ℕ). phaseByte (power x)) e ∙ ap phaseByte (power-sum s t ∙ ap₂ _·_ (f .is) (g .is))
 
-pub ruleset places = (byte-low, byte-high, y-low, y-high, letter-is, turns-fit, turns-are, crossing-is, phases-are, needs)
+pub turned : {a b s t u v r : ℕ} (turns : ℕ) → PhaseTurns a s → PhaseTurns b t → u ≡ (s + t) % 256 → v ≡ (u + turns) % 256 → r ≡ phaseByte (power v)
+    → r ≡ phaseByte (phaseOf a · phaseOf b · power turns)
+turned {s = s} {t = t} {u = u} turns f g e k h =
+    h ∙ ap phaseByte (ap power k ∙ power-sum u turns ∙ ap (λ p. p · power turns) (ap power e ∙ power-sum s t ∙ ap₂ _·_ (f .is) (g .is)))
+
+pub ruleset places = (
+  byte-low,
+  byte-high,
+  byte-first,
+  byte-second,
+  both-bytes,
+  y-not,
+  y-is,
+  letter-is,
+  sum-small,
+  turns-fit,
+  turns-are,
+  turns-read,
+  turns-added,
+  crossing-is,
+  phases-are,
+  turned,
+  needs,
+)

@@ -87,7 +87,7 @@ outcomeReply Done = reply 0 0
 outcomeReply (Refused r) = refusalReply r
 
 unfoldable pub productReply : Product → Reply
-productReply Multiplied = reply 0 0
+productReply (Multiplied places) = reply 0 places
 productReply (NoProduct r) = refusalReply r
 
 unfoldable pub byteReply : ByteAnswer → Reply
@@ -109,9 +109,9 @@ letterReply (NoLetter r) = refusalReply r
 
 -- ---- the answer after the questions
 
-unfoldable pub productAnswer : Outcome → Product
-productAnswer Done = Multiplied
-productAnswer (Refused r) = NoProduct r
+unfoldable pub productAnswer : Outcome → ℕ → Product
+productAnswer Done n = Multiplied n
+productAnswer (Refused r) n = NoProduct r
 
 unfoldable pub byteAnswer : Outcome → ℕ → ByteAnswer
 byteAnswer Done b = Byte b
@@ -167,9 +167,10 @@ pub record Written (q : Outcome) (out d e : List ℕ) (r : Outcome) : Type 0 whe
   pub told : outcomeReply r ≡ replyTo q 0
   pub bytes : e ≡ written q out d
 
-pub record ProductWritten (q : Outcome) (out d e : List ℕ) (r : Product) : Type 0 where
-  pub answer : r ≡ productAnswer q
-  pub told : productReply r ≡ replyTo q 0
+-- a product, with the number n of the places that it took
+pub record ProductWritten (q : Outcome) (n : ℕ) (out d e : List ℕ) (r : Product) : Type 0 where
+  pub answer : r ≡ productAnswer q n
+  pub told : productReply r ≡ replyTo q n
   pub bytes : e ≡ written q out d
 
 -- as many bytes are written as are counted

@@ -1,5 +1,5 @@
 pub mod Turns
-pub mod Writing
+pub mod Products
 pub mod Marks
 pub mod Reading
 pub mod TextWriting

@@ -14,7 +14,7 @@ use Rattle.pauli.specs.Answers.{ByteAnswered, FlagAnswered, CountAnswere
 use Rattle.pauli.specs.Layout.{phaseOf}
 use Rattle.pauli.specs.Rows.{phaseBytesProduct, conjugateByte, productPhaseByte, productLetterByte}
 use Rattle.pauli.specs.Questions.{byteQuestion, pairQuestions, stringQuestions, getQuestions, stringsQuestions, mulQuestions, withPhaseQuestions}
-use Rattle.pauli.specs.Strings.{phaseOfRecord, letterOfRecord, placesOfRecords, productRecord, entriesRecord}
+use Rattle.pauli.specs.Strings.{phaseOfRecord, letterOfRecord, placesOfRecords, placesTakenOfRecords, productRecord, entriesRecord}
 use Rattle.pauli.specs.Text.{fromSparseQuestions, fromDenseQuestions, fromStrQuestions, sparseRecord, denseRecord, textRecord}
 use Rattle.pauli.specs.SparseText.{toSparseQuestions, textOfRecord}
 
@@ -44,7 +44,7 @@ abbrev pub PlacesCounted : (s t : List ℕ) (r : CountAnswer) → Type 0
 PlacesCounted s t r = CountAnswered (stringsQuestions s t) (placesOfRecords s t) r
 
 abbrev pub StringsMultiplied : (s t d e : List ℕ) (r : Product) → Type 0
-StringsMultiplied s t d e r = ProductWritten (mulQuestions s t (length d)) (productRecord s t) d e r
+StringsMultiplied s t d e r = ProductWritten (mulQuestions s t (length d)) (placesTakenOfRecords s t) (productRecord s t) d e r
 
 -- ---- strings from entries es and from text, and text from strings
 

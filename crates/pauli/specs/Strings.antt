@@ -1,7 +1,7 @@
 -- What the public functions on string records give: the field's objects between decoding and encoding.
 use Prim.Native.Nat.{ℕ}
 use mathlib.Core.List.{List}
-use Rattle.pauli_group.specs.PauliString.{mul, anticommutingPlaces}
+use Rattle.pauli_group.specs.PauliString.{mul, placesTaken, anticommutingPlaces}
 use Rattle.pauli.specs.Layout.{phaseByte, letterByte, stringOf, stringRecord}
 use Rattle.pauli.specs.Entries.{entriesString}
 
@@ -13,6 +13,9 @@ letterOfRecord s q = letterByte (stringOf s .letters q)
 
 unfoldable pub placesOfRecords : List ℕ → List ℕ → ℕ
 placesOfRecords s t = anticommutingPlaces (stringOf s) (stringOf t)
+
+unfoldable pub placesTakenOfRecords : List ℕ → List ℕ → ℕ
+placesTakenOfRecords s t = placesTaken (stringOf s) (stringOf t)
 
 unfoldable pub productRecord : List ℕ → List ℕ → List ℕ
 productRecord s t = stringRecord (mul (stringOf s) (stringOf t))

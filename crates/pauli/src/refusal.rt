@@ -35,9 +35,9 @@ pub enum Outcome {
     Refused(Refusal),
 }
 
-// The answer of the product of strings.
+// The answer of the product of strings: the places that it took.
 pub enum Product {
-    Multiplied,
+    Multiplied { places: usize },
     NoProduct(Refusal),
 }
 
@@ -156,9 +156,9 @@ pub fn product_reply(r: Product) -> Reply
     ensures { λ a. ⌜ a ≡ productReply r ⌝ }
 {
     match r {
-        Product::Multiplied => Reply {
+        Product::Multiplied { places } => Reply {
             number: 0,
-            value: 0,
+            value: places as u64,
         },
         Product::NoProduct(why) => refusal_reply(why),
     }

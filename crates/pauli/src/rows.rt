@@ -1,13 +1,14 @@
 // Kernels on rows of letter bytes. They stop at the shortest row and read a byte above 3 as 3, so they ask nothing of a caller.
 ghost use mathlib.Core.Path.{_≡_};
-ghost use Prim.Native.Nat.{_%_, _≤_, min};
+ghost use Prim.Native.Nat.{_%_, _≤_, min, max};
 ghost use lib.ListN.{length};
+ghost use Rattle.pauli_group.specs.Phase.{_·_};
 ghost use Rattle.pauli_group.specs.Letter.{letterMul};
 ghost use Rattle.pauli_group.specs.Papers.{power};
-ghost use Rattle.pauli.specs.Layout.{phaseByte, letterByte, letterOf};
+ghost use Rattle.pauli.specs.Layout.{phaseByte, phaseOf, letterByte, letterOf};
 ghost use Rattle.pauli.specs.Questions.{firstBad};
 ghost use Rattle.pauli.specs.Rows.{phaseBytesProduct, placesOf, shorter, RowTimes, rowProduct, copied};
-ghost use Rattle.pauli.specs.Inside.Turns.{LetterByte, ForY, LetterTurns, PhaseTurns, anticommuting, NoneAbove};
+ghost use Rattle.pauli.specs.Inside.Turns.{LetterByte, LetterBytes, ForY, LetterTurns, PhaseTurns, anticommuting, NoneAbove};
 
 pub fn smaller(a: usize, b: usize) -> usize
     ensures { λ r. ⌜ r ≡ min a b ⌝ }
@@ -24,9 +25,10 @@ fn letter_byte(x: u8) -> u8
 
 // k for the byte of Y, else 0.
 fn for_y(x: u8, k: u8) -> u8
+    requires { ⌜ x ≤ 3 ⌝ }
     ensures { λ r. ⌜ ForY k x r ⌝ }
 {
-    if x < 3 { 0 } else { k }
+    if x == 3 { k } else { 0 }
 }
 
 // The letter of a product of two letters: the bits of X and of Z are added.
@@ -37,13 +39,19 @@ fn times_letter(a: u8, b: u8) -> u8
 }
 
 // Its phase in quarter turns: one for each factor Y, three for a product Y, two for a Z that passes an X.
+pub(crate) fn letter_turns(x: u8, y: u8) -> u8
+    requires { ⌜ LetterBytes x y ⌝ }
+    ensures { λ r. ⌜ LetterTurns x y r ⌝ }
+{
+    let own = for_y(x, 1) + for_y(y, 1) + for_y(x ^ y, 3);
+    own + (x & (y + y))
+}
+
+// The same of any two bytes.
 fn times_turns(a: u8, b: u8) -> u8
     ensures { λ r. ⌜ LetterTurns a b r ⌝ }
 {
-    let x = letter_byte(a);
-    let y = letter_byte(b);
-    let own = for_y(x, 1) + for_y(y, 1) + for_y(x ^ y, 3);
-    own + (x & (y + y))
+    letter_turns(letter_byte(a), letter_byte(b))
 }
 
 fn phase_turns(p: u8) -> u8
@@ -74,6 +82,14 @@ pub fn phase_times(a: u8, b: u8) -> u8
     ensures { λ r. ⌜ r ≡ phaseBytesProduct a b ⌝ }
 {
     turns_phase(std::num::wrapping_add_u8(phase_turns(a), phase_turns(b)))
+}
+
+// The product of two phases and of quarter turns.
+pub(crate) fn turned_phase(a: u8, b: u8, turns: u8) -> u8
+    ensures { λ r. ⌜ r ≡ phaseByte (phaseOf a · phaseOf b · power turns) ⌝ }
+{
+    let own = std::num::wrapping_add_u8(phase_turns(a), phase_turns(b));
+    turns_phase(std::num::wrapping_add_u8(own, turns))
 }
 
 // The row acc multiplied by the row b on the right, as far as both reach; the answer is phase times the places' phases.
@@ -132,8 +148,8 @@ pub fn count_anticommuting(a: &[u8], b: &[u8]) -> u8
     count
 }
 
-fn larger(a: u8, b: u8) -> u8
-    ensures { λ r. ⌜ (a ≤ r) × (b ≤ r) ⌝ }
+pub(crate) fn larger(a: u8, b: u8) -> u8
+    ensures { λ r. ⌜ r ≡ max a b ⌝ }
 {
     if a < b { b } else { a }
 }

@@ -5,4 +5,5 @@ pub mod Strings
 pub mod PaperForms
 pub mod Operators
 pub mod AnticommutingPlaces
+pub mod PlacesTaken
 pub mod GaussianNumbers

@@ -1,14 +1,14 @@
--- Products of phases over the places 0 to n - 1, and counts over them.
+-- Products of phases over the places 0 to n - 1, counts over them, and the last of them that has a property.
 use mathlib.Core.Path.{_≡_, refl, sym, ap, ap₂, _∙_, subst}
 use mathlib.Core.Bool.{Bool, true, false, not, cond}
 use mathlib.Core.Logic.{_≢_}
 use Prim.Native.Nat.{ℕ, zero, suc, _+_, _%_, _≤_, _<_}
 use native.Mathlib.Nat.{not-suc-le-zero, lt-irrefl}
 use native.Mathlib.Omega.{arith}
-use native.Mathlib.Decide.{ℕ-discrete}
+use native.Mathlib.Decide.{ℕ-discrete, decLt}
 use lib.Dec.{eqb}
 use Rattle.pauli_group.specs.Phase.{Phase, PlusOne, MinusOne, negate, turn, _·_, sign, minusOneTo}
-use Rattle.pauli_group.specs.PauliString.{productTo, countTo}
+use Rattle.pauli_group.specs.PauliString.{productTo, countTo, lastTo}
 use Rattle.pauli_group.proofs.Finite.{phases, law1}
 use Rattle.pauli_group.proofs.Laws.{·-assoc, ·-comm, ·-left, one-·, ·-one}
 
@@ -98,3 +98,32 @@ minus-even (suc n) = ap negate (minus-even n) ∙ elim (ℕ-discrete (n % 2) 0) 
 
     next : (a b : ℕ) → n % 2 ≡ a → suc n % 2 ≡ b → negate (odd a) ≡ odd b → negate (odd (n % 2)) ≡ odd (suc n % 2)
     next a b e f h = ap (λ (r : ℕ). negate (odd r)) e ∙ h ∙ ap odd (sym f)
+
+-- ---- 1 + the last place
+pub lastTo-le : (n : ℕ) (f : ℕ → Bool) → lastTo n f ≤ n
+unfolding lastTo
+lastTo-le zero f = omega arith
+lastTo-le (suc n) f = step (f n) (lastTo n f) (lastTo-le n f)
+  where
+    step : (b : Bool) (m : ℕ) → m ≤ n → cond b (suc n) m ≤ suc n
+    step true m h = omega arith
+    step false m h = omega arith
+
+-- no place from there on has f, and it is the least number of which that holds
+pub lastTo-none : (n : ℕ) (f : ℕ → Bool) (q : ℕ) → lastTo n f ≤ q → q < n → f q ≡ false
+unfolding lastTo
+lastTo-none zero f q h l = absurd (not-suc-le-zero l)
+lastTo-none (suc n) f q h l = step (f n) refl h (lastTo-none n f q)
+  where
+    step : (b : Bool) → f n ≡ b → cond b (suc n) (lastTo n f) ≤ q → (lastTo n f ≤ q → q < n → f q ≡ false) → f q ≡ false
+    step true e k rest = absurd (omega arith)
+    step false e k rest = elim (ℕ-discrete q n) [ yes d ↦ ap f d ∙ e | no d ↦ rest k (omega arith) ]
+
+pub lastTo-least : (n : ℕ) (f : ℕ → Bool) (k : ℕ) → ((q : ℕ) → k ≤ q → f q ≡ false) → lastTo n f ≤ k
+unfolding lastTo
+lastTo-least zero f k h = omega arith
+lastTo-least (suc n) f k h = step (f n) refl (lastTo-least n f k h)
+  where
+    step : (b : Bool) → f n ≡ b → lastTo n f ≤ k → cond b (suc n) (lastTo n f) ≤ k
+    step true e r = elim (decLt n k) [ yes l ↦ l | no l ↦ let d : _≡_ {A = ℕ} 0 1 = ap (λ b. cond b 0 1) (sym e ∙ h n (omega arith)) in omega arith ]
+    step false e r = r

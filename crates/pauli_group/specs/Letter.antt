@@ -30,6 +30,13 @@ unfoldable pub letterMul : Letter → Letter → Letter
 unfolding letterProduct
 letterMul a b = letterProduct a b .1
 
+-- a letter other than I
+unfoldable pub notI : Letter → Bool
+notI I = false
+notI X = true
+notI Z = true
+notI Y = true
+
 -- two letters anticommute when they differ and neither is I
 unfoldable pub anticommute : Letter → Letter → Bool
 anticommute I b = false

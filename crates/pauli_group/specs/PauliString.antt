@@ -1,10 +1,10 @@
 -- Pauli strings: a phase, and a letter for each qubit.
 use Prim.Native.Nat.{ℕ, zero, suc, _+_, _%_, _≤_}
 use mathlib.Core.Path.{_≡_}
-use mathlib.Core.Bool.{Bool, cond}
+use mathlib.Core.Bool.{Bool, cond, _||_}
 use lib.Dec.{eqb}
 use Rattle.pauli_group.specs.Phase.{Phase, PlusOne, minusOneTo, _·_}
-use Rattle.pauli_group.specs.Letter.{Letter, I, letterPhase, letterMul, anticommute}
+use Rattle.pauli_group.specs.Letter.{Letter, I, notI, letterPhase, letterMul, anticommute}
 
 -- the number of qubits of a string record. No law below depends on which number it is.
 unfoldable pub qubits : ℕ
@@ -25,6 +25,11 @@ unfoldable pub countTo : ℕ → (ℕ → Bool) → ℕ
 countTo zero f = 0
 countTo (suc n) f = countTo n f + cond (f n) 1 0
 
+-- 1 + the last of the places 0 to n - 1 that has f, and 0 where none has
+unfoldable pub lastTo : ℕ → (ℕ → Bool) → ℕ
+lastTo zero f = 0
+lastTo (suc n) f = cond (f n) (suc n) (lastTo n f)
+
 -- the phase that the letters' products give, over all qubits
 unfoldable pub phaseOfLetters : (ℕ → Letter) → (ℕ → Letter) → Phase
 phaseOfLetters a b = productTo qubits (λ q. letterPhase (a q) (b q))
@@ -35,6 +40,14 @@ mul s t = record {
   phase = s .phase · t .phase · phaseOfLetters (s .letters) (t .letters);
   letters = λ q. letterMul (s .letters q) (t .letters q);
 }
+
+-- a letter other than I at qubit q
+unfoldable pub hasLetter : PauliString → ℕ → Bool
+hasLetter s q = notI (s .letters q)
+
+-- the places that a product takes: as far as the last at which either string has a letter other than I
+unfoldable pub placesTaken : PauliString → PauliString → ℕ
+placesTaken s t = lastTo qubits (λ q. hasLetter s q || hasLetter t q)
 
 -- the identity: phase +1 and I everywhere
 unfoldable pub identityString : PauliString

@@ -13,7 +13,7 @@ use Rattle.pauli.proofs.Records.{phase-back, decode-encode, decode-within}
 use Rattle.pauli_laws.specs.EitherOrder.{EitherOrder}
 
 -- a product's record is read back as the product
-read-back : (s t : List ℕ) → stringOf (productRecord s t) ≡ mul (stringOf s) (stringOf t)
+pub read-back : (s t : List ℕ) → stringOf (productRecord s t) ≡ mul (stringOf s) (stringOf t)
 unfolding productRecord stringOf stringRecord
 read-back s t = decode-encode qubits _ (within-mul qubits (stringOf s) (stringOf t) (decode-within qubits s) (decode-within qubits t))
 

@@ -5,3 +5,5 @@ pub mod Prefixes
 pub mod DenseAsking
 pub mod TextReadings
 pub mod EitherOrder
+pub mod ProductPlaces
+pub mod ProductByLetters

@@ -2,3 +2,5 @@ pub mod EntryLists
 pub mod DenseTexts
 pub mod TextReadings
 pub mod EitherOrder
+pub mod ProductPlaces
+pub mod ProductByLetters

@@ -44,8 +44,8 @@ pub written-replied : {q : Outcome} {out d e : List ℕ} {x : Outcome} {r : Repl
     → Replied outcomeReply (Written q out d e) r
 written-replied h e = told _ h e
 
-pub product-replied : {q : Outcome} {out d e : List ℕ} {x : Product} {r : Reply} → ProductWritten q out d e x → r ≡ productReply x
-    → Replied productReply (ProductWritten q out d e) r
+pub product-replied : {q : Outcome} {n : ℕ} {out d e : List ℕ} {x : Product} {r : Reply} → ProductWritten q n out d e x → r ≡ productReply x
+    → Replied productReply (ProductWritten q n out d e) r
 product-replied h e = told _ h e
 
 pub count-replied : {q : Outcome} {out d e : List ℕ} {x : CountAnswer} {r : Reply} → CountWritten q out d e x → r ≡ countReply x

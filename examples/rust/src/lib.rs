@@ -28,7 +28,7 @@ impl fmt::Display for Refusal {
 
 impl std::error::Error for Refusal {}
 
-/// The value: 0 where bytes are written, otherwise the count, length, flag, byte or gate.
+/// The value: the count, length, flag, byte or gate, and 0 where bytes are written of which nothing is counted.
 pub type Answer = Result<u64, Refusal>;
 
 fn answer(reply: raw::Reply) -> Answer {
@@ -83,7 +83,8 @@ pub fn commutes_with(s: &[u8], t: &[u8]) -> Result<bool, Refusal> {
     Ok(anticommuting_places(s, t)? % 2 == 0)
 }
 
-/// Writes the product s t.
+/// Writes the product s t; the answer is the number of places that it took: 1 + the last qubit at which either string has a letter
+/// other than I, and 0 where both have only I.
 pub fn mul(s: &[u8], t: &[u8], dst: &mut [u8]) -> Answer {
     answer(unsafe {
         raw::rc_mul(

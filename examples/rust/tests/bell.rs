@@ -52,9 +52,25 @@ fn strings_are_read_multiplied_and_written() {
     let (mut product, mut text) = ([0; STRING_LENGTH], [0; 20]);
     from_str(b"X0 Z1", &mut s).unwrap();
     from_str(b"ZX", &mut t).unwrap();
-    mul(&s, &t, &mut product).unwrap();
+    assert_eq!(mul(&s, &t, &mut product), Ok(2));
     let length = to_sparse_str(&product, &mut text).unwrap() as usize;
     assert_eq!(&text[..length], b"+Y0 Y1");
+}
+
+#[test]
+fn a_product_takes_places_as_far_as_the_last_letter() {
+    let (mut s, mut t) = ([0; STRING_LENGTH], [0; STRING_LENGTH]);
+    let mut product = [0xee; STRING_LENGTH];
+    from_str(b"X3", &mut s).unwrap();
+    from_str(b"Z9", &mut t).unwrap();
+    assert_eq!(mul(&s, &t, &mut product), Ok(10));
+    assert_eq!(product[10..], [&[2][..], &[0; 118]].concat());
+    // The places are those of the two strings: the product of one with itself has no letter.
+    assert_eq!(mul(&s, &s, &mut product), Ok(4));
+    assert_eq!(product, [0; STRING_LENGTH]);
+    with_phase_and_paulis(2, &[], &mut s).unwrap();
+    assert_eq!(mul(&s, &s, &mut product), Ok(0));
+    assert_eq!(product[0], 1);
 }
 
 #[test]

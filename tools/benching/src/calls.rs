@@ -1,6 +1,6 @@
 //! Single calls: the three sides answer alike, then each is timed.
 
-use crate::page::{Figure, Goal};
+use crate::page::{Figure, Goal, Share};
 use crate::plain;
 use crate::timing::least;
 use oracle::PauliOperator;
@@ -13,6 +13,9 @@ pub fn all(random: &mut Random) -> Vec<Figure> {
     let mut figures = Vec::new();
     for letters in [20, 128] {
         figures.push(product(random, letters));
+    }
+    for letters in [64, 127] {
+        figures.push(product(&mut Random::new(3), letters));
     }
     for letters in [20, 128] {
         figures.push(places(&mut Random::new(6), letters));
@@ -82,11 +85,33 @@ fn goal(record: &[u8]) -> Goal {
     }
 }
 
+/// Two strings, the first with a letter at the last of the qubits named.
+fn factors(random: &mut Random, letters: usize) -> (Vec<u8>, Vec<u8>) {
+    let (mut s, t) = (string(random, letters), string(random, letters));
+    s[letters] = s[letters].max(1);
+    (s, t)
+}
+
+/// What part of a product's time its questions take.
+pub fn questions(random: &mut Random) -> Vec<Share> {
+    let share = |letters| {
+        let (s, t) = factors(random, letters);
+        let mut dst = [0; STRING_LENGTH];
+        Share {
+            call: "product of strings",
+            size: format!("{letters} letters"),
+            whole: least(|| renetcleat::mul(&s, &t, &mut dst)),
+            questions: least(|| renetcleat::mul(&s, &t, &mut dst[1..])),
+        }
+    };
+    [20, 128].map(share).into()
+}
+
 fn product(random: &mut Random, letters: usize) -> Figure {
-    let (s, t) = (string(random, letters), string(random, letters));
+    let (s, t) = factors(random, letters);
     let (left, right) = (read_string(&s).unwrap(), read_string(&t).unwrap());
     let (mut ours, mut theirs) = ([0; STRING_LENGTH], [0; STRING_LENGTH]);
-    renetcleat::mul(&s, &t, &mut ours).unwrap();
+    assert_eq!(renetcleat::mul(&s, &t, &mut ours), Ok(letters as u64));
     plain::mul(&s, &t, &mut theirs);
     assert!(ours == theirs && write_string(&(&left * &right)).as_deref() == Some(&ours));
     Figure {
@@ -95,7 +120,11 @@ fn product(random: &mut Random, letters: usize) -> Figure {
         rust: least(|| &left * &right),
         ours: least(|| renetcleat::mul(&s, &t, &mut ours)),
         plain: least(|| plain::mul(&s, &t, &mut theirs)),
-        goal: Goal::Faster,
+        goal: if letters == 20 {
+            Goal::PlainTimes(3.0)
+        } else {
+            Goal::Faster
+        },
     }
 }
 

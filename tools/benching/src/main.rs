@@ -14,10 +14,11 @@ fn main() {
     let random = &mut Random::new(8);
     #[allow(unused_mut)]
     let mut figures = calls::all(random);
+    let shares = calls::questions(&mut Random::new(3));
     #[cfg(feature = "lists")]
     figures.extend(lists::all(
         random,
         std::env::args().any(|word| word == "whole"),
     ));
-    print!("{}", page::page(&figures, &load));
+    print!("{}", page::page(&figures, &shares, &load));
 }

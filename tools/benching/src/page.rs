@@ -8,6 +8,8 @@ pub enum Goal {
     None,
     /// Faster than the Rust.
     Faster,
+    /// So many times as fast as plain C.
+    PlainTimes(f64),
     /// So many times as fast as the Rust.
     #[cfg(feature = "lists")]
     Times(f64),
@@ -23,6 +25,27 @@ pub struct Figure {
     pub ours: f64,
     pub plain: f64,
     pub goal: Goal,
+}
+
+/// Seconds of a call, and of the same call with a destination one byte short, which is refused when all questions are put.
+pub struct Share {
+    pub call: &'static str,
+    pub size: String,
+    pub whole: f64,
+    pub questions: f64,
+}
+
+impl Share {
+    fn line(&self) -> String {
+        format!(
+            "- {}, {}: {} of {}, {:.0} %\n",
+            self.call,
+            self.size,
+            time(self.questions),
+            time(self.whole),
+            100.0 * self.questions / self.whole
+        )
+    }
 }
 
 /// Three digits and a unit.
@@ -60,6 +83,10 @@ impl Figure {
         let (words, met) = match self.goal {
             Goal::None => return String::new(),
             Goal::Faster => ("faster than the Rust".to_string(), times > 1.0),
+            Goal::PlainTimes(least) => (
+                format!("{} times plain C", grouped(least as u64)),
+                against_plain >= least,
+            ),
             #[cfg(feature = "lists")]
             Goal::Times(least) => (at_least(least), times >= least),
             Goal::TimesAndPlain(least) => (
@@ -135,7 +162,7 @@ are those of full ones.
 ";
 
 /// The page; `load` is the machine's load before the first figure.
-pub fn page(figures: &[Figure], load: &str) -> String {
+pub fn page(figures: &[Figure], shares: &[Share], load: &str) -> String {
     let mut text = HEAD.to_string();
     text += &format!("\nMachine: {}. Load average before: {load}.\n", processor());
     let compilers = [
@@ -148,6 +175,8 @@ pub fn page(figures: &[Figure], load: &str) -> String {
         "| call | size | Rust | this library | plain C | Rust ÷ library | C ÷ library | goal |\n";
     text += "|---|---|---|---|---|---|---|---|\n";
     text.extend(figures.iter().map(Figure::line));
+    text += "\nWhat part the questions take, by the same call with a destination one byte short, which is refused when all are put:\n\n";
+    text.extend(shares.iter().map(Share::line));
     if figures
         .iter()
         .any(|figure| figure.size.contains("extrapolated"))

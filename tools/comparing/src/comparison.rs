@@ -184,6 +184,11 @@ fn rust_says(call: &Call, model: &Result<usize, Refusal>) -> Answer {
     answer(call).expect("a known name")
 }
 
+/// Whether the model has nothing to say against the value.
+fn known(call: &Call, value: u64) -> bool {
+    model::value(call).is_none_or(|known| known == value)
+}
+
 /// The Rust's answer, or the model's where the Rust has none; or how the two disagree.
 fn expected(call: &Call) -> Result<Expected, String> {
     if call.name == "report" {
@@ -198,10 +203,10 @@ fn expected(call: &Call) -> Result<Expected, String> {
         by_rust,
     };
     match (said, model) {
-        (Answer::Value(value), Ok(0)) if model::value(call).is_none_or(|known| known == value) => {
-            Ok(accepted(value, Vec::new()))
-        }
-        (Answer::Written(value, bytes), Ok(needs)) if needs == bytes.len() => {
+        (Answer::Value(value), Ok(0)) if known(call, value) => Ok(accepted(value, Vec::new())),
+        (Answer::Written(value, bytes), Ok(needs))
+            if needs == bytes.len() && known(call, value) =>
+        {
             Ok(accepted(value, bytes))
         }
         (Answer::Refused(number, detail), Err(why)) if why == (number, detail) => {

@@ -7,7 +7,7 @@ use lib.ListN.{length, set}
 use Rattle.pauli_group.specs.PauliString.{PauliString, scale, commutationSign, Within}
 use Rattle.pauli.specs.Layout.{stringLength, stringOf, WellFormed}
 use Rattle.clifford.specs.Layout.{widthOf, tableauOf, FormedTableau}
-use Rattle.clifford.specs.Images.{spanTo}
+use Rattle.clifford.specs.Images.{pauliWidth}
 use Rattle.clifford.specs.Support.{inSupport, supportQubits}
 use Rattle.clifford.specs.Inside.Rows.{OwnRow, OwnQubit}
 
@@ -39,7 +39,7 @@ pub record Sets (t : List ℕ) (q : ℕ) (s : List ℕ) : Type 0 where
 
 -- r is the width of it
 pub record Span (s : List ℕ) (r : ℕ) : Type 0 where
-  pub is : r ≡ spanTo 128 (stringOf s)
+  pub is : r ≡ pauliWidth (stringOf s)
   pub small : r ≤ 128
 
 -- the byte of X or of Z

@@ -13,6 +13,11 @@ pub record LetterByte (x r : ℕ) : Type 0 where
   pub is : r ≡ letterByte (letterOf x)
   pub small : r ≤ 3
 
+-- x and y are bytes of letters
+pub record LetterBytes (x y : ℕ) : Type 0 where
+  pub first : x ≤ 3
+  pub second : y ≤ 3
+
 -- k for the byte of Y, else 0
 unfoldable pub forY : ℕ → ℕ → ℕ
 forY k zero = 0

@@ -8,6 +8,7 @@ use oracle::driver::Call;
 pub fn all(compare: &mut Comparison) {
     letter_pairs(compare);
     places(compare);
+    places_taken(compare);
     bad_places(compare);
     lengths(compare);
     random_pairs(compare);
@@ -60,6 +61,29 @@ fn places(compare: &mut Comparison) {
                 (left[1 + qubit], right[1 + qubit]) = (x, y);
             }
             pair(compare, &left, &right);
+        }
+    }
+}
+
+/// Every number of places that a product takes, with the last letter in the first string, in the second, and the same in both, whose
+/// product has none there; before it any letters, or I alone. In every room.
+fn places_taken(compare: &mut Comparison) {
+    for count in 0..=QUBITS {
+        for turn in 0..32 {
+            let random = &mut compare.random;
+            let below = if turn % 2 == 0 { count } else { 0 };
+            let [mut left, mut right] = [(); 2].map(|()| {
+                let letters = (0..below).map(|qubit| (qubit, random.below(4) as u8));
+                let letters: Vec<(usize, u8)> = letters.collect();
+                string(random.below(4) as u8, &letters)
+            });
+            if count > 0 {
+                let letter = 1 + random.below(3) as u8;
+                let last = [(letter, 0), (0, letter), (letter, letter)];
+                (left[count], right[count]) = last[turn / 2 % 3];
+            }
+            compare.case(&Call::new("anticommuting_places").b1(&left).b2(&right));
+            compare.each_room(&Call::new("mul").b1(&left).b2(&right));
         }
     }
 }

@@ -26,14 +26,21 @@ pub fn judge(call: &Call) -> Result<usize, Refusal> {
     Ok(needs)
 }
 
-/// The answer's value, where the model knows it too: the number of places with two different letters other than I.
+/// The answer's value, where the model knows it too: the number of places with two different letters other than I; the number of
+/// places without those at the end at which both strings have I.
 pub fn value(call: &Call) -> Option<u64> {
-    if call.name != "anticommuting_places" {
-        return None;
-    }
-    let letters = call.b1[1..].iter().zip(&call.b2[1..]);
-    let places = letters.filter(|(left, right)| left != right && **left > 0 && **right > 0);
-    Some(places.count() as u64)
+    let letters = || call.b1[1..].iter().zip(&call.b2[1..]);
+    let places = match call.name.as_str() {
+        "anticommuting_places" => letters()
+            .filter(|(left, right)| left != right && **left > 0 && **right > 0)
+            .count(),
+        "mul" => {
+            let behind = letters().rev().take_while(|both| *both == (&0, &0));
+            QUBITS - behind.count()
+        }
+        _ => return None,
+    };
+    Some(places as u64)
 }
 
 fn ask(yes: bool, number: u64, detail: u64) -> Questions {

@@ -54,9 +54,24 @@ fn anticommuting_places(call: &Call) -> Option<Answer> {
     Some(Answer::Value(places as u64))
 }
 
+/// The Rust has no count of the places that a product takes, but it says on which qubits a string acts, and whether a string fits
+/// within a width: both have to within that number, and not both within a smaller one.
+fn places_taken(left: &PauliString, right: &PauliString) -> usize {
+    let acted_on = left.qubits().into_iter().chain(right.qubits());
+    let places = acted_on.max().map_or(0, |last| last + 1);
+    let both_fit =
+        |width| left.validate_width(width).is_ok() && right.validate_width(width).is_ok();
+    assert!(both_fit(places) && (places == 0 || !both_fit(places - 1)));
+    places
+}
+
 fn mul(call: &Call) -> Option<Answer> {
-    let product = read_string(&call.b1)? * read_string(&call.b2)?;
-    Some(written(write_string(&product)?))
+    let (left, right) = (read_string(&call.b1)?, read_string(&call.b2)?);
+    let places = places_taken(&left, &right);
+    Some(Answer::Written(
+        places as u64,
+        write_string(&(left * right))?,
+    ))
 }
 
 fn read_entries(bytes: &[u8]) -> Option<Vec<(Pauli, QubitId)>> {

@@ -16,6 +16,8 @@ pub fn fill(book: &mut Book) {
     phase_pairs(book, random);
     book.comment("How many places anticommute.");
     anticommuting_places(book);
+    book.comment("How many places a product takes.");
+    places_taken(book);
     book.comment("Random strings.");
     random_pairs(book, random);
     entries_few(book);
@@ -115,6 +117,20 @@ fn anticommuting_places(book: &mut Book) {
             both(book, &string(0, &left), &string(0, &right), 0);
             both(book, &string(0, &right), &string(0, &left), 5);
         }
+    }
+}
+
+/// As far as the last place with a letter: of either string, of both, with a product that has none there, and with none at all.
+fn places_taken(book: &mut Book) {
+    let x = |qubit: usize| string(0, &[(qubit, 1)]);
+    let z = |qubit: usize| string(0, &[(qubit, 2)]);
+    both(book, &x(3), &z(9), 0);
+    both(book, &z(9), &x(3), 1);
+    both(book, &string(2, &[]), &string(2, &[]), 0);
+    for last in [0, 1, 19, 30, 31, 32, 33, 63, 64, 95, 96, 126, 127] {
+        both(book, &x(last), &x(last), 2);
+        both(book, &x(last), &z(0), 0);
+        both(book, &z(0), &x(last), 3);
     }
 }
 

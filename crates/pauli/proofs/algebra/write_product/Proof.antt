@@ -1,5 +1,5 @@
 -- `algebra::write_product` meets its contract.
-use Rattle.pauli.proofs.StringProducts.{string-products}
+use Rattle.pauli.proofs.Multiplying.{string-products}
 use Rattle.pauli.proofs.algebra.write_product.Statement.{statement}
 use Rattle.pauli.proofs.algebra.write_product.Tie as tie
 
@@ -7,5 +7,7 @@ pub write-product-spec : {M : Type 1} → statement M
 write-product-spec =
     tie.close
     (tie.spec
-    (λ c. search string-products) (λ c. search string-products) (λ c. search string-products) (λ c. search string-products)
-    (λ c. search string-products) (λ c. search string-products) (λ c. search string-products))
+    (λ c. search string-products) (λ c κs. search string-products) (λ c. search string-products) (λ c. search string-products)
+    (λ c. search string-products) (λ c. search string-products) (λ c κs. search string-products) (λ c. search string-products)
+    (λ c. search string-products) (λ c κs. search string-products) (λ c. search string-products) (λ c. search string-products)
+    (λ c. search string-products))
