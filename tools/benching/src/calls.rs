@@ -11,12 +11,11 @@ use renetcleat::{STRING_LENGTH, tableau_length};
 
 pub fn all(random: &mut Random) -> Vec<Figure> {
     let mut figures = Vec::new();
-    for letters in [20, 128] {
-        figures.push(product(random, letters));
-    }
+    figures.push(product(random, 20));
     for letters in [64, 127] {
         figures.push(product(&mut Random::new(3), letters));
     }
+    figures.push(product(random, 128));
     for letters in [20, 128] {
         figures.push(places(&mut Random::new(6), letters));
     }

@@ -152,10 +152,11 @@ answer; a figure is the least of repeated runs.
 - this library: through the C interface, questions on entry included.
 - plain C: `tools/benching/src/plain.c`, loops over bytes with tables, `gcc -O3`. It trusts its inputs.
 
-Strings have any letters on the qubits named and I on the others. Tableaux are valid, of random gates; how many of their letters are
-not I stands beside the width, and 75 % is full. A list's gates and qubits are random; in the Rust each step composes the gate's
-tableau with the record. A gate played by itself (`play`) is CX on a full tableau, which the library reads through for its
-questions. Of two strings the Rust says whether they commute (`commutes_with`), the other two at how many places they do not.
+Strings have any letters on the qubits named, the first factor of a product one other than I on the last of them, and I on the
+others. Tableaux are valid, of random gates; how many of their letters are not I stands beside the width, and 75 % is full. A list's
+gates and qubits are random; in the Rust each step composes the gate's tableau with the record. A gate played by itself (`play`) is
+CX on a full tableau, which the library reads through for its questions. Of two strings the Rust says whether they commute
+(`commutes_with`), the other two at how many places they do not. Of a product this library also tells the places that it took.
 
 The Rust's time goes by the letters that are not I, this library's much less: on sparse tableaux the ratio is smaller, and the goals
 are those of full ones.
