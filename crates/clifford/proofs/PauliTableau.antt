@@ -12,12 +12,12 @@ use mir.Syntax.{w64}
 use mir.Val.{Fits}
 use borrow.Author.Needs.{needs}
 use Rattle.pauli_group.specs.Phase.{sign}
-use Rattle.pauli_group.specs.Letter.{X, Z, notI, anticommute}
+use Rattle.pauli_group.specs.Letter.{X, Z, anticommute}
 use Rattle.pauli_group.specs.PauliString.{PauliString, qubits, lastTo, hasLetter, mul, scale, identityString, single, commutationSign}
 use Rattle.pauli_group.proofs.Laws.{anticommute-self}
 use Rattle.pauli_group.proofs.Strings.{scale-mul, identity-mul, sign-single, within-scale, within-single}
 use Rattle.pauli.specs.Layout.{phaseByte, phaseOf, letterByte, letterOf, encodeString, decodeString, stringOf, WellFormed}
-use Rattle.pauli.proofs.Records.{phase-back, phase-small, letter-of, byte-letter}
+use Rattle.pauli.proofs.Records.{phase-back, phase-small, letter-of, has-none, has-one}
 use Rattle.clifford.specs.Layout.{rowOf, rowQubit, rowLetter}
 use Rattle.clifford.specs.Images.{pauliWidth, pauliTableau}
 use Rattle.clifford.specs.Inside.Rows.{ClearRow, WorkPlace, rowTimes, clearedRow, signByte, lettersIn}
@@ -38,27 +38,22 @@ pub record SpanFrom (s : List ℕ) (n : ℕ) : Type 0 where
 pub span-start : (s : List ℕ) → SpanFrom s 128
 span-start s = record { within = omega arith; is = refl }
 
-span-suc : (s : List ℕ) (n : ℕ) → n < 128 → getD s (suc n) 0 ≡ 0 → last s (suc n) ≡ last s n
-unfolding lastTo hasLetter notI letterOf
-span-suc s n h e = ap (λ b. cond b (suc n) (last s n)) (ap notI (letter-of s n h ∙ ap letterOf e))
-
-span-here : (s : List ℕ) (n : ℕ) → n < 128 → (getD s (suc n) 0 ≡ 0 → ⊥) → last s (suc n) ≡ suc n
-unfolding lastTo hasLetter
-span-here s n h e = ap (λ b. cond b (suc n) (last s n)) (ap notI (letter-of s n h) ∙ byte-letter (getD s (suc n) 0) e)
-
 pub span-less : {s : List ℕ} {n : ℕ} → SpanFrom s n → 0 < n → getD s n 0 ≡ 0 → SpanFrom s (n - 1)
+unfolding lastTo
 span-less {s} {n} m h e =
-    let k : n ≡ suc (n - 1) = omega arith in
+    let k : n ≡ n - 1 + 1 = omega arith in
+    let none = has-none s (n - 1) (omega (arith, m .within)) (ap (λ (j : ℕ). getD s j 0) (sym k) ∙ e) in
     record {
       within = omega (arith, m .within);
-      is = m .is ∙ ap (last s) k ∙ span-suc s (n - 1) (omega (arith, m .within)) (ap (λ (j : ℕ). getD s j 0) (sym k) ∙ e);
+      is = m .is ∙ ap (last s) (k ∙ add-one (n - 1)) ∙ ap (λ b. cond b (suc (n - 1)) (last s (n - 1))) none;
     }
 
 pub span-found : {s : List ℕ} {n : ℕ} → SpanFrom s n → 0 < n → (getD s n 0 ≡ 0 → ⊥) → Span s n
-unfolding pauliWidth qubits
+unfolding pauliWidth qubits lastTo
 span-found {s} {n} m h e =
-    let k : n ≡ suc (n - 1) = omega arith in
-    let here : last s 128 ≡ n = m .is ∙ ap (last s) k ∙ span-here s (n - 1) (omega (arith, m .within)) (λ z. e (ap (λ (j : ℕ). getD s j 0) k ∙ z)) ∙ sym k in
+    let k : n ≡ n - 1 + 1 = omega arith in
+    let some = has-one s (n - 1) (omega (arith, m .within)) (λ z. e (ap (λ (j : ℕ). getD s j 0) k ∙ z)) in
+    let here : last s 128 ≡ suc (n - 1) = m .is ∙ ap (last s) (k ∙ add-one (n - 1)) ∙ ap (λ b. cond b (suc (n - 1)) (last s (n - 1))) some in
     record { is = omega (arith, here); small = m .within }
 
 pub span-none : {s : List ℕ} {n : ℕ} → SpanFrom s n → n ≤ 0 → Span s 1

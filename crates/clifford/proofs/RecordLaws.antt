@@ -15,7 +15,7 @@ use Rattle.pauli.specs.declared.refusal.Outcome.the-variants.{Done}
 use Rattle.pauli.specs.Layout.{stringOf, stringRecord}
 use Rattle.pauli.specs.Questions.{stringQuestions}
 use Rattle.pauli.proofs.Asking.{admitted-strings}
-use Rattle.pauli.proofs.Records.{decode-encode, decode-within}
+use Rattle.pauli.proofs.Records.{decode-encode, string-within}
 use Rattle.clifford.specs.Layout.{widthOf, tableauOf, tableauRecord, recordLength, FormedTableau}
 use Rattle.clifford.specs.Tableaux.{recordValid, Good, identityRecord, applyRecord, composeRecord, inverseRecord}
 use Rattle.clifford.proofs.Rows.{width-of}
@@ -132,10 +132,6 @@ inverse-right {a} g =
 string-back : (s : PauliString) → Within qubits s → stringOf (stringRecord s) ≡ s
 unfolding stringOf stringRecord
 string-back s h = decode-encode qubits s h
-
-string-within : (s : List ℕ) → Within qubits (stringOf s)
-unfolding stringOf
-string-within s = decode-within qubits s
 
 -- sent through a composition as through b and then a
 pub send-compose : {a b : List ℕ} → Good a → FormedTableau b → (s : List ℕ) → applyRecord (composeRecord a b) s ≡ applyRecord a (applyRecord b s)

@@ -3,7 +3,6 @@ use mathlib.Core.Path.{_≡_, refl, sym, ap, ap₂, _∙_, subst}
 use mathlib.Core.Bool.{Bool, true, false, cond, _&&_}
 use mathlib.Core.List.{List, _++_, append-nil}
 use Prim.Native.Nat.{ℕ, suc, _+_, _*_, _-_, _≤_, _<_}
-use native.Mathlib.Numerals.{add-one}
 use native.Mathlib.Omega.{arith}
 use native.Mathlib.Decide.{decLt, ℕ-discrete}
 use lib.Dec.{leb, eqb}
@@ -29,7 +28,7 @@ use Rattle.pauli.specs.Questions.{_andThen_, stringQuestions}
 use Rattle.pauli.proofs.Answers.{answers}
 use Rattle.pauli.proofs.Asking.{asked-yes, asked-no, ask-done, refused, passed, done-first, done-second, string-formed}
 use Rattle.pauli.proofs.Places.{NoneBefore, none-more, none-found, none-left, first-before, from, length-from}
-use Rattle.pauli.proofs.Records.{decode-within, decode-letter, decode-phase, letter-of, byte-letter}
+use Rattle.pauli.proofs.Records.{decode-within, decode-letter, decode-phase, letter-of, has-none, has-one}
 use Rattle.clifford.specs.Layout.{rowLength, encodeRow, rowOffset, recordLength, rowOf, rowPart, widthOf, tableauOf, tableauRecord, FormedTableau}
 use Rattle.clifford.specs.Images.{withXImage, withZImage}
 use Rattle.clifford.specs.Questions.{tableauQuestions, applyQuestions, lowestOutside, insideQuestion, slotQuestion, setQuestions}
@@ -46,16 +45,10 @@ abbrev pub outside : ℕ → List ℕ → ℕ → Bool
 outside w s q = leb w q && hasLetter (stringOf s) q
 
 pub outside-yes : (w : ℕ) (s : List ℕ) (q : ℕ) → w ≤ q → q < 128 → (getD s (q + 1) 0 ≡ 0 → ⊥) → outside w s q ≡ true
-unfolding hasLetter
-outside-yes w s q h l k =
-    ap (λ b. b && notI (stringOf s .letters q)) (le-leb w q h) ∙ ap notI (letter-of s q l)
-    ∙ byte-letter (getD s (suc q) 0) (λ e. k (ap (λ (j : ℕ). getD s j 0) (add-one q) ∙ e))
+outside-yes w s q h l k = ap₂ _&&_ (le-leb w q h) (has-one s q l k)
 
 pub outside-no : (w : ℕ) (s : List ℕ) (q : ℕ) → w ≤ q → q < 128 → getD s (q + 1) 0 ≡ 0 → outside w s q ≡ false
-unfolding hasLetter notI letterOf
-outside-no w s q h l k =
-    ap (λ b. b && notI (stringOf s .letters q)) (le-leb w q h)
-    ∙ ap notI (letter-of s q l ∙ ap letterOf (ap (λ (j : ℕ). getD s j 0) (sym (add-one q)) ∙ k))
+outside-no w s q h l k = ap₂ _&&_ (le-leb w q h) (has-none s q l k)
 
 -- a scan from the width on
 pub record OutsideTo (w : ℕ) (s : List ℕ) (q : ℕ) : Type 0 where

@@ -10,28 +10,18 @@ use lib.Dec.{eqb}
 use lib.ListN.{length, getD}
 use borrow.Author.Tests.{eq-eqb, ne-eqb}
 use borrow.Author.Needs.{needs}
-use Rattle.pauli_group.specs.Letter.{notI}
 use Rattle.pauli_group.specs.PauliString.{qubits, lastTo, hasLetter, placesTaken}
-use Rattle.pauli.specs.Layout.{letterOf, stringOf}
+use Rattle.pauli.specs.Layout.{stringOf}
 use Rattle.pauli.specs.Questions.{stringQuestions, stringsQuestions}
 use Rattle.pauli.specs.Strings.{placesTakenOfRecords}
 use Rattle.pauli.specs.Inside.Products.{seenWith, Looked}
 use Rattle.pauli.specs.declared.refusal.Outcome.the-variants.{Done}
 use Rattle.pauli.specs.declared.algebra.Sight.{Sight}
 use Rattle.pauli.proofs.Asking.{passed, done-first, done-second, string-length, formed-good}
-use Rattle.pauli.proofs.Records.{letter-of, byte-letter}
+use Rattle.pauli.proofs.Records.{has-none, has-one}
 
 abbrev either : List ℕ → List ℕ → ℕ → Bool
 either s t q = hasLetter (stringOf s) q || hasLetter (stringOf t) q
-
--- a place has a letter exactly if a byte of it is not 0
-has-none : (s : List ℕ) (q : ℕ) → q < 128 → getD s (q + 1) 0 ≡ 0 → hasLetter (stringOf s) q ≡ false
-unfolding hasLetter notI letterOf
-has-none s q l e = ap notI (letter-of s q l ∙ ap letterOf (ap (λ (j : ℕ). getD s j 0) (sym (add-one q)) ∙ e))
-
-has-one : (s : List ℕ) (q : ℕ) → q < 128 → (getD s (q + 1) 0 ≡ 0 → ⊥) → hasLetter (stringOf s) q ≡ true
-unfolding hasLetter
-has-one s q l d = ap notI (letter-of s q l) ∙ byte-letter (getD s (suc q) 0) (λ e. d (ap (λ (j : ℕ). getD s j 0) (add-one q) ∙ e))
 
 or-true : (b : Bool) → (b || true) ≡ true
 or-true true = refl
@@ -114,11 +104,17 @@ seen-all {s} {t} {q} i h =
 
 pub not-first : {s t : List ℕ} → (length s ≡ 129 → ⊥) → Looked s t (record { largest = 255; places = 0 })
 unfolding stringsQuestions
-not-first {s} {t} h = record { clean = λ l. absurd (omega arith); taken = λ d. absurd (h (string-length s (done-first (stringQuestions s) (stringQuestions t) d))) }
+not-first {s} {t} h = record {
+  clean = λ l. absurd (omega arith);
+  taken = λ d. absurd (h (string-length s (done-first (stringQuestions s) (stringQuestions t) d)));
+}
 
 pub not-second : {s t : List ℕ} → (length t ≡ 129 → ⊥) → Looked s t (record { largest = 255; places = 0 })
 unfolding stringsQuestions
-not-second {s} {t} h = record { clean = λ l. absurd (omega arith); taken = λ d. absurd (h (string-length t (done-second (stringQuestions s) (stringQuestions t) d))) }
+not-second {s} {t} h = record {
+  clean = λ l. absurd (omega arith);
+  taken = λ d. absurd (h (string-length t (done-second (stringQuestions s) (stringQuestions t) d)));
+}
 
 -- one more place
 module _ (r : Sight) (x y n : ℕ) {b m : ℕ} (e : b ≡ max x y) (f : m ≡ max (r .largest) b) where

@@ -1,8 +1,9 @@
 -- Laws of the layout: both round trips of phase and letter bytes and of string records.
 use mathlib.Core.Path.{_≡_, refl, sym, ap, _∙_}
-use mathlib.Core.Bool.{true, cond}
+use mathlib.Core.Bool.{true, false, cond}
 use mathlib.Core.List.{List}
-use Prim.Native.Nat.{ℕ, zero, suc, _≤_, _<_}
+use Prim.Native.Nat.{ℕ, zero, suc, _+_, _≤_, _<_}
+use native.Mathlib.Numerals.{add-one}
 use native.Mathlib.Decide.{decLt}
 use native.Mathlib.Omega.{arith}
 use lib.ListN.{length, getD}
@@ -10,7 +11,7 @@ use lib.Seq.{ext-getD}
 use borrow.Author.Tests.{lt-ltb, le-ltb}
 use Rattle.pauli_group.specs.Phase.{Phase, PlusOne, MinusOne, PlusI, MinusI}
 use Rattle.pauli_group.specs.Letter.{Letter, I, X, Z, Y, notI}
-use Rattle.pauli_group.specs.PauliString.{PauliString, qubits, Within}
+use Rattle.pauli_group.specs.PauliString.{PauliString, qubits, hasLetter, Within}
 use Rattle.pauli_group.proofs.Strings.{string-ext}
 use Rattle.pauli.specs.Layout.{phaseByte, phaseOf, letterByte, letterOf, encodeString, decodeString, stringOf, WellFormed}
 use Rattle.pauli.proofs.Places.{length-listed, getD-listed}
@@ -121,9 +122,18 @@ pub letter-of : (s : List ℕ) (q : ℕ) → q < 128 → stringOf s .letters q �
 unfolding stringOf qubits
 letter-of s q h = decode-letter 128 s q h
 
-pub byte-letter : (n : ℕ) → (n ≡ 0 → ⊥) → notI (letterOf n) ≡ true
+byte-letter : (n : ℕ) → (n ≡ 0 → ⊥) → notI (letterOf n) ≡ true
 unfolding notI letterOf
 byte-letter zero h = absurd (h refl)
 byte-letter (suc zero) h = refl
 byte-letter (suc (suc zero)) h = refl
 byte-letter (suc (suc (suc n))) h = refl
+
+-- it has a letter at a qubit exactly if the byte is not 0
+pub has-none : (s : List ℕ) (q : ℕ) → q < 128 → getD s (q + 1) 0 ≡ 0 → hasLetter (stringOf s) q ≡ false
+unfolding hasLetter notI letterOf
+has-none s q l e = ap notI (letter-of s q l ∙ ap letterOf (ap (λ (j : ℕ). getD s j 0) (sym (add-one q)) ∙ e))
+
+pub has-one : (s : List ℕ) (q : ℕ) → q < 128 → (getD s (q + 1) 0 ≡ 0 → ⊥) → hasLetter (stringOf s) q ≡ true
+unfolding hasLetter
+has-one s q l d = ap notI (letter-of s q l) ∙ byte-letter (getD s (suc q) 0) (λ e. d (ap (λ (j : ℕ). getD s j 0) (add-one q) ∙ e))

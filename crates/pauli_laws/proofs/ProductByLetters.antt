@@ -2,14 +2,14 @@
 use mathlib.Core.Path.{_≡_, sym, ap, ap₂, _∙_}
 use mathlib.Core.List.{List}
 use Prim.Native.Nat.{ℕ}
-use Rattle.pauli_group.specs.Phase.{Phase, _·_}
+use Rattle.pauli_group.specs.Phase.{_·_}
 use Rattle.pauli_group.specs.Letter.{letterPhase, letterMul}
 use Rattle.pauli_group.specs.PauliString.{PauliString, mul, placesTaken}
 use Rattle.pauli_group.proofs.Products.{productTo-ext}
 use Rattle.pauli_group.proofs.PlacesTaken.{taken-le, taken-within, phase-taken}
-use Rattle.pauli.specs.Layout.{phaseByte, letterByte, stringOf}
+use Rattle.pauli.specs.Layout.{letterByte, stringOf}
 use Rattle.pauli.specs.Rows.{productPhaseByte, productLetterByte}
-use Rattle.pauli.specs.Strings.{phaseOfRecord, letterOfRecord, placesTakenOfRecords, productRecord}
+use Rattle.pauli.specs.Strings.{phaseOfRecord, letterOfRecord, placesTakenOfRecords}
 use Rattle.pauli.proofs.Records.{phase-back, letter-back, string-within}
 use Rattle.pauli_laws.specs.ProductByLetters.{phaseAtPlace, ProductByLetters}
 use Rattle.pauli_laws.proofs.EitherOrder.{read-back}
