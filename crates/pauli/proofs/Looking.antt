@@ -72,7 +72,7 @@ module _ {s t : List ℕ} {q : ℕ} {r : Sight} (i : SeenTo s t q r) (h : q < 12
     | no d ↦ ap (λ x. cond x (r .places) (q + 1)) (ne-eqb most 0 d) ∙ add-one q ∙ sym (ap (λ x. cond x (suc q) (lastTo q (either s t))) (some-letter d))
   ]
 
-  more : SeenTo s t (q + 1) (seenWith r (getD s (q + 1) 0) (getD t (q + 1) 0) (q + 1))
+  more : SeenTo s t (q + 1) (seenWith r (getD s (q + 1) 0) (getD t (q + 1) 0) q)
   unfolding seenWith
   more = record {
     first = i .first;
@@ -82,7 +82,7 @@ module _ {s t : List ℕ} {q : ℕ} {r : Sight} (i : SeenTo s t q r) (h : q < 12
     last = last-more ∙ ap (λ (j : ℕ). lastTo j (either s t)) (sym (add-one q));
   }
 
-  pub seen-more : {n : Sight} → n ≡ seenWith r (getD s (q + 1) 0) (getD t (q + 1) 0) (q + 1) → SeenTo s t (q + 1) n
+  pub seen-more : {n : Sight} → n ≡ seenWith r (getD s (q + 1) 0) (getD t (q + 1) 0) q → SeenTo s t (q + 1) n
   seen-more e = rw e more
 
   pub seen-first : q + 1 < length s
@@ -102,34 +102,34 @@ seen-all {s} {t} {q} i h =
       taken = λ d. i .last ∙ ap (λ (j : ℕ). lastTo j (either s t)) whole;
     }
 
-pub not-first : {s t : List ℕ} → (length s ≡ 129 → ⊥) → Looked s t (record { largest = 255; places = 0 })
-unfolding stringsQuestions
-not-first {s} {t} h = record {
-  clean = λ l. absurd (omega arith);
-  taken = λ d. absurd (h (string-length s (done-first (stringQuestions s) (stringQuestions t) d)));
-}
+module _ {s t : List ℕ} where
+  not-strings : (stringsQuestions s t ≡ Done → ⊥) → Looked s t (record { largest = 255; places = 0 })
+  not-strings h = record { clean = λ l. absurd (omega arith); taken = λ d. absurd (h d) }
 
-pub not-second : {s t : List ℕ} → (length t ≡ 129 → ⊥) → Looked s t (record { largest = 255; places = 0 })
-unfolding stringsQuestions
-not-second {s} {t} h = record {
-  clean = λ l. absurd (omega arith);
-  taken = λ d. absurd (h (string-length t (done-second (stringQuestions s) (stringQuestions t) d)));
-}
+  pub not-first : (length s ≡ 129 → ⊥) → Looked s t (record { largest = 255; places = 0 })
+  unfolding stringsQuestions
+  not-first h = not-strings (λ d. h (string-length s (done-first (stringQuestions s) (stringQuestions t) d)))
+
+  pub not-second : (length t ≡ 129 → ⊥) → Looked s t (record { largest = 255; places = 0 })
+  unfolding stringsQuestions
+  not-second h = not-strings (λ d. h (string-length t (done-second (stringQuestions s) (stringQuestions t) d)))
+
+pub ruleset looks = (seen-none, seen-more, seen-all, not-first, not-second, seen-first, seen-second, needs)
 
 -- one more place
-module _ (r : Sight) (x y n : ℕ) {b m : ℕ} (e : b ≡ max x y) (f : m ≡ max (r .largest) b) where
-  sight-is : {p : ℕ} → p ≡ cond (eqb b 0) (r .places) n → record { largest = m; places = p } ≡ seenWith r x y n
+module _ (r : Sight) (x y q : ℕ) {b m : ℕ} (e : b ≡ max x y) (f : m ≡ max (r .largest) b) where
+  sight-is : {p : ℕ} → p ≡ cond (eqb b 0) (r .places) (q + 1) → record { largest = m; places = p } ≡ seenWith r x y q
   unfolding seenWith
   sight-is g =
-      ap₂ (λ (l : ℕ) (p : ℕ). record { largest = l; places = p }) (f ∙ ap (max (r .largest)) e) (g ∙ ap (λ (j : ℕ). cond (eqb j 0) (r .places) n) e)
+      ap₂ (λ (l : ℕ) (p : ℕ). record { largest = l; places = p }) (f ∙ ap (max (r .largest)) e) (g ∙ ap (λ (j : ℕ). cond (eqb j 0) (r .places) (q + 1)) e)
 
-  pub see-I : b ≡ 0 → record { largest = m; places = r .places } ≡ seenWith r x y n
-  see-I z = sight-is (sym (ap (λ c. cond c (r .places) n) (eq-eqb b 0 z)))
+  pub see-I : b ≡ 0 → record { largest = m; places = r .places } ≡ seenWith r x y q
+  see-I z = sight-is (sym (ap (λ c. cond c (r .places) (q + 1)) (eq-eqb b 0 z)))
 
-  pub see-letter : (b ≡ 0 → ⊥) → record { largest = m; places = n } ≡ seenWith r x y n
-  see-letter d = sight-is (sym (ap (λ c. cond c (r .places) n) (ne-eqb b 0 d)))
+  pub see-letter : {p : ℕ} → (b ≡ 0 → ⊥) → p ≡ q + 1 → record { largest = m; places = p } ≡ seenWith r x y q
+  see-letter d g = sight-is (g ∙ sym (ap (λ c. cond c (r .places) (q + 1)) (ne-eqb b 0 d)))
 
-pub ruleset looks = (seen-none, seen-more, seen-all, not-first, not-second, seen-first, seen-second, see-I, see-letter, needs)
+pub ruleset sees = (see-I, see-letter, needs)
 
 -- the questions are put again where a bad byte was seen
 pub seen-clean : (s t : List ℕ) {m : ℕ} → (m < 4 → stringsQuestions s t ≡ Done) → m < 4 → Done ≡ stringsQuestions s t

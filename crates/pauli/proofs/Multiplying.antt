@@ -59,40 +59,31 @@ unfolding phaseTo productTo
 phase-more s t q = rw (add-one q)
 
 -- ---- one step, before place q of it
-pub record StepTo (s t : List ℕ) (i q : ℕ) (row : List ℕ) (turns : ℕ) : Type 0 where
-  pub first : WellFormed 128 s
-  pub second : WellFormed 128 t
-  pub room : i + 32 ≤ 128
+pub record StepTo (s t : List ℕ) (i : ℕ) (row₀ : List ℕ) (q : ℕ) (row : List ℕ) (turns : ℕ) : Type 0 where
+  pub begun : Stepping s t i row₀
   pub within : q ≤ i + 32
   pub out : RowTo s t q row
   pub turned : phaseTo i s t · power turns ≡ phaseTo q s t
 
-pub step-none : {s t : List ℕ} {i : ℕ} {row : List ℕ} → Stepping s t i row → StepTo s t i i row 0
+pub step-none : {s t : List ℕ} {i : ℕ} {row : List ℕ} → Stepping s t i row → StepTo s t i row i row 0
 unfolding power
-step-none {s} {t} {i} m = record {
-  first = m .first;
-  second = m .second;
-  room = m .room;
-  within = omega arith;
-  out = m .before;
-  turned = ·-one (phaseTo i s t);
-}
+step-none {s} {t} {i} m = record { begun = m; within = omega arith; out = m .before; turned = ·-one (phaseTo i s t) }
 
-module _ {s t : List ℕ} {i q : ℕ} {row : List ℕ} {turns : ℕ} (m : StepTo s t i q row turns) (h : q < i + 32) where
+module _ {s t : List ℕ} {i q : ℕ} {row₀ row : List ℕ} {turns : ℕ} (m : StepTo s t i row₀ q row turns) (h : q < i + 32) where
   below : q < 128
-  below = omega (arith, m .room)
+  below = omega (arith, m .begun .room)
 
   pub step-first : q + 1 < length s
-  step-first = omega (arith, below, m .first .long)
+  step-first = omega (arith, below, m .begun .first .long)
 
   pub step-second : q + 1 < length t
-  step-second = omega (arith, below, m .second .long)
+  step-second = omega (arith, below, m .begun .second .long)
 
   pub step-place : q < length row
   step-place = omega (arith, below, length-row-to (m .out))
 
   pub step-letters : LetterBytes (getD s (q + 1) 0) (getD t (q + 1) 0)
-  step-letters = record { first = m .first .small (q + 1) step-first; second = m .second .small (q + 1) step-second }
+  step-letters = record { first = m .begun .first .small (q + 1) step-first; second = m .begun .second .small (q + 1) step-second }
 
   letter-here : (u : List ℕ) → letterOf (getD u (q + 1) 0) ≡ stringOf u .letters q
   letter-here u = ap (λ (j : ℕ). letterOf (getD u j 0)) (add-one q) ∙ sym (letter-of u q below)
@@ -102,11 +93,9 @@ module _ {s t : List ℕ} {i q : ℕ} {row : List ℕ} {turns : ℕ} (m : StepTo
   letter-is = letter-sum step-letters ∙ ap letterByte (ap₂ letterMul (letter-here s) (letter-here t)) ∙ sym (row-at s t q below)
 
   pub step-more : {u : ℕ} → power u ≡ power turns · letterPhase (letterOf (getD s (q + 1) 0)) (letterOf (getD t (q + 1) 0))
-      → StepTo s t i (q + 1) (set row q (bitXor (getD s (q + 1) 0) (getD t (q + 1) 0))) u
+      → StepTo s t i row₀ (q + 1) (set row q (bitXor (getD s (q + 1) 0) (getD t (q + 1) 0))) u
   step-more e = record {
-    first = m .first;
-    second = m .second;
-    room = m .room;
+    begun = m .begun;
     within = omega arith;
     out = record {
       within = omega (arith, below);
@@ -117,26 +106,26 @@ module _ {s t : List ℕ} {i q : ℕ} {row : List ℕ} {turns : ℕ} (m : StepTo
         ∙ ap₂ _·_ (m .turned) (ap₂ letterPhase (letter-here s) (letter-here t)) ∙ sym (phase-more s t q);
   }
 
-pub step-all : {s t : List ℕ} {i q : ℕ} {row : List ℕ} {turns : ℕ} → StepTo s t i q row turns → i + 32 ≤ q → Stepped s t i row turns
-step-all {s} {t} {i} {q} {row} m h =
+pub step-all : {s t : List ℕ} {i q : ℕ} {row₀ row : List ℕ} {turns : ℕ} → StepTo s t i row₀ q row turns → i + 32 ≤ q → Stepped s t i row turns
+step-all {s} {t} {i} {q} m h =
     let whole : q ≡ i + 32 = omega (arith, m .within) in
     record { after = rw whole at (m .out); turns = m .turned ∙ ap (λ (j : ℕ). phaseTo j s t) whole }
 
-pub step-length : {s t : List ℕ} {i q : ℕ} {row row₀ : List ℕ} {turns : ℕ} → Stepping s t i row₀ → StepTo s t i q row turns → length row ≡ length row₀
-step-length p m = length-row-to (m .out) ∙ sym (length-row-to (p .before))
+pub step-length : {s t : List ℕ} {i q : ℕ} {row₀ row : List ℕ} {turns : ℕ} → StepTo s t i row₀ q row turns → length row ≡ length row₀
+step-length m = length-row-to (m .out) ∙ sym (length-row-to (m .begun .before))
 
 pub ruleset steps = (step-none, step-first, step-second, step-place, step-letters, step-more, step-all, step-length, needs)
 
 -- ---- the steps before place i
-pub record PlacesTo (s t : List ℕ) (places i : ℕ) (row : List ℕ) (turns : ℕ) : Type 0 where
-  pub factors : Factors s t places
+pub record PlacesTo (s t : List ℕ) (places : ℕ) (row₀ : List ℕ) (i : ℕ) (row : List ℕ) (turns : ℕ) : Type 0 where
+  pub begun : Beginning s t places row₀
   pub whole : i % 32 ≡ 0
   pub out : RowTo s t i row
   pub turned : power turns ≡ phaseTo i s t
 
-pub places-none : {s t : List ℕ} {places : ℕ} {row : List ℕ} → Beginning s t places row → PlacesTo s t places 0 row 0
+pub places-none : {s t : List ℕ} {places : ℕ} {row : List ℕ} → Beginning s t places row → PlacesTo s t places row 0 row 0
 unfolding phaseTo productTo power
-places-none h = record { factors = h .factors; whole = refl; out = record { within = zero-le; out = h .blank }; turned = refl }
+places-none h = record { begun = h; whole = refl; out = record { within = zero-le; out = h .blank }; turned = refl }
 
 module _ {s t : List ℕ} {places : ℕ} (f : Factors s t places) where
   most : places ≤ 128
@@ -155,42 +144,38 @@ module _ {s t : List ℕ} {places : ℕ} (f : Factors s t places) where
     unfolding letterByte
     row-behind q l b = row-at s t q b ∙ ap letterByte (within-mul i (stringOf s) (stringOf t) (both-within .0) (both-within .1) q l)
 
-pub places-step : {s t : List ℕ} {places i : ℕ} {row : List ℕ} {turns : ℕ} → PlacesTo s t places i row turns → i < places → Stepping s t i row
-places-step m h = record {
-  first = m .factors .first;
-  second = m .factors .second;
-  room = omega (arith, m .whole, most (m .factors));
-  before = m .out;
-}
+pub places-step : {s t : List ℕ} {places i : ℕ} {row₀ row : List ℕ} {turns : ℕ} → PlacesTo s t places row₀ i row turns → i < places → Stepping s t i row
+places-step m h =
+    let f = m .begun .factors in
+    record { first = f .first; second = f .second; room = omega (arith, m .whole, most f); before = m .out }
 
-pub places-more : {s t : List ℕ} {places i : ℕ} {row next : List ℕ} {turns v u : ℕ} → PlacesTo s t places i row turns → Stepped s t i next v
-    → u ≡ (turns + v) % 256 → PlacesTo s t places (i + 32) next u
-places-more {s} {t} {i = i} {turns = turns} {v = v} m n e = record {
-  factors = m .factors;
+pub places-more : {s t : List ℕ} {places i : ℕ} {row₀ row next : List ℕ} {turns v u : ℕ} → PlacesTo s t places row₀ i row turns → Stepped s t i next v
+    → u ≡ (turns + v) % 256 → PlacesTo s t places row₀ (i + 32) next u
+places-more {turns = turns} {v = v} m n e = record {
+  begun = m .begun;
   whole = omega (arith, m .whole);
   out = n .after;
   turned = ap power e ∙ power-sum turns v ∙ ap (λ p. p · power v) (m .turned) ∙ n .turns;
 }
 
-module _ {s t : List ℕ} {places i : ℕ} {row : List ℕ} {turns : ℕ} (m : PlacesTo s t places i row turns) (h : places ≤ i) where
+module _ {s t : List ℕ} {places i : ℕ} {row₀ row : List ℕ} {turns : ℕ} (m : PlacesTo s t places row₀ i row turns) (h : places ≤ i) where
   rest : drop i blankRow ≡ drop i (productRow s t)
   rest = ext-getD 0 _ _ (omega (arith, length-drop i blankRow, length-drop i (productRow s t), length-blank, length-row s t)) at
     where
       at : (k : ℕ) → k < length (drop i blankRow) → getD (drop i blankRow) k 0 ≡ getD (drop i (productRow s t)) k 0
       at k l =
           let b : i + k < 128 = omega (arith, l, length-drop i blankRow, length-blank) in
-          getD-drop i blankRow k 0 ∙ blank-at (i + k) b ∙ sym (row-behind (m .factors) i h (i + k) (omega arith) b) ∙ sym (getD-drop i (productRow s t) k 0)
+          getD-drop i blankRow k 0 ∙ blank-at (i + k) b ∙ sym (row-behind (m .begun .factors) i h (i + k) (omega arith) b) ∙ sym (getD-drop i (productRow s t) k 0)
 
   pub places-all : RowMultiplied s t row turns
   unfolding qubits phaseTo
   places-all = record {
     letters = m .out .out ∙ ap (λ (l : List ℕ). take i (productRow s t) ++ l) rest ∙ take-append-drop i (productRow s t);
-    turns = m .turned ∙ sym (phase-taken (stringOf s) (stringOf t) i (m .out .within) (both-within (m .factors) i h .0));
+    turns = m .turned ∙ sym (phase-taken (stringOf s) (stringOf t) i (m .out .within) (both-within (m .begun .factors) i h .0));
   }
 
-pub places-length : {s t : List ℕ} {places i : ℕ} {row row₀ : List ℕ} {turns : ℕ} → Beginning s t places row₀ → PlacesTo s t places i row turns
-    → length row ≡ length row₀
-places-length p m = length-row-to (m .out) ∙ sym (ap length (p .blank) ∙ length-blank)
+pub places-length : {s t : List ℕ} {places i : ℕ} {row₀ row : List ℕ} {turns : ℕ} → PlacesTo s t places row₀ i row turns → length row ≡ length row₀
+places-length m = length-row-to (m .out) ∙ sym (ap length (m .begun .blank) ∙ length-blank)
 
 pub ruleset taking = (places-none, places-step, places-more, places-all, places-length, needs)
 
@@ -215,13 +200,14 @@ pub begins : {s t d : List ℕ} {places : ℕ} → Operands s t places d → Beg
 unfolding blankRow
 begins f = record { factors = f .factors; blank = refl }
 
-pub product-written : {s t d row ys : List ℕ} {places turns p : ℕ} → Operands s t places d → RowMultiplied s t row turns
-    → p ≡ phaseByte (phaseOf (getD s 0 0) · phaseOf (getD t 0 0) · power turns) → ys ≡ copied row (take 128 (drop 1 d))
-    → set (putMid 1 128 d ys) 0 p ≡ productRecord s t ++ drop 129 d
-product-written {s} {t} {d} {row} {ys} {turns = turns} {p = p} f m ep ey =
+pub product-written : {s t d row ys : List ℕ} {places turns p n : ℕ} → Operands s t places d → RowMultiplied s t row turns
+    → p ≡ phaseByte (phaseOf (getD s 0 0) · phaseOf (getD t 0 0) · power turns) → ys ≡ copied row (take n (drop 1 d)) → n ≡ 128
+    → set (putMid 1 n d ys) 0 p ≡ productRecord s t ++ drop 129 d
+product-written {s} {t} {d} {row} {ys} {turns = turns} {p = p} {n = n} f m ep ey whole =
     let long : length row ≡ 128 = ap length (m .letters) ∙ length-row s t in
-    let same : length row ≡ length (take 128 (drop 1 d)) = omega (arith, f .room, length-take 128 (drop 1 d), length-drop 1 d) in
-    put-record d ys p (f .room) ∙ ap₂ (λ (x : ℕ) (l : List ℕ). x ∷ l ++ drop 129 d) (ep ∙ phase-is) (ey ∙ copied-whole row _ same ∙ m .letters)
+    let same : length row ≡ length (take n (drop 1 d)) = omega (arith, whole, f .room, length-take n (drop 1 d), length-drop 1 d) in
+    ap (λ (k : ℕ). set (putMid 1 k d ys) 0 p) whole ∙ put-record d ys p (f .room)
+    ∙ ap₂ (λ (x : ℕ) (l : List ℕ). x ∷ l ++ drop 129 d) (ep ∙ phase-is) (ey ∙ copied-whole row _ same ∙ m .letters)
     ∙ ap (λ (l : List ℕ). l ++ drop 129 d) (sym (record-is s t))
   where
     phase-is : phaseByte (phaseOf (getD s 0 0) · phaseOf (getD t 0 0) · power turns) ≡ phaseByte (mul (stringOf s) (stringOf t) .phase)

@@ -88,14 +88,19 @@ struct Sight {
     places: u8,
 }
 
-// What is seen with the bytes of one more place, which makes `here` of them.
-fn see(sight: Sight, x: u8, y: u8, here: u8) -> Sight
-    ensures { λ r. ⌜ r ≡ seenWith sight x y here ⌝ }
+// What is seen with the bytes of one more place, q.
+fn see(sight: Sight, x: u8, y: u8, q: usize) -> Sight
+    requires { ⌜ q < 128 ⌝ }
+    ensures { λ r. ⌜ r ≡ seenWith sight x y q ⌝ }
 {
     let letter = larger(x, y);
     Sight {
         largest: larger(sight.largest, letter),
-        places: if letter == 0 { sight.places } else { here },
+        places: if letter == 0 {
+            sight.places
+        } else {
+            (q + 1) as u8
+        },
     }
 }
 
@@ -121,7 +126,7 @@ fn look(s: &[u8], t: &[u8]) -> Sight
     };
     let mut q = 0;
     while q < QUBITS {
-        sight = see(sight, s[q + 1], t[q + 1], (q + 1) as u8);
+        sight = see(sight, s[q + 1], t[q + 1], q);
         q += 1;
     }
     sight

@@ -27,13 +27,13 @@ neither false b e = (refl, e)
 -- it is 0 to `qubits`
 pub taken-le : (s t : PauliString) → placesTaken s t ≤ qubits
 unfolding placesTaken
-taken-le s t = lastTo-le qubits (λ q. hasLetter s q || hasLetter t q)
+taken-le s t = lastTo-le qubits _
 
 module _ (s t : PauliString) (hs : Within qubits s) (ht : Within qubits t) where
   none : (q : ℕ) → placesTaken s t ≤ q → (hasLetter s q || hasLetter t q) ≡ false
   unfolding placesTaken
   none q h = elim (decLt q qubits) [
-    | yes l ↦ lastTo-none qubits (λ q. hasLetter s q || hasLetter t q) q h l
+    | yes l ↦ lastTo-none qubits _ q h l
     | no l ↦ ap₂ _||_ (no-letter s q (hs q (omega arith))) (no-letter t q (ht q (omega arith)))
   ]
 
@@ -48,8 +48,7 @@ module _ (s t : PauliString) (hs : Within qubits s) (ht : Within qubits t) where
 -- and from no smaller number on
 pub taken-least : (s t : PauliString) (k : ℕ) → Within k s → Within k t → placesTaken s t ≤ k
 unfolding placesTaken
-taken-least s t k hs ht =
-    lastTo-least qubits (λ q. hasLetter s q || hasLetter t q) k (λ q h. ap₂ _||_ (no-letter s q (hs q h)) (no-letter t q (ht q h)))
+taken-least s t k hs ht = lastTo-least qubits _ k (λ q h. ap₂ _||_ (no-letter s q (hs q h)) (no-letter t q (ht q h)))
 
 -- places from there on give no phase
 pub phase-taken : (s t : PauliString) (k : ℕ) → k ≤ qubits → Within k s

@@ -16,9 +16,9 @@ use Rattle.pauli.specs.Strings.{placesTakenOfRecords}
 use Rattle.pauli.specs.declared.refusal.Outcome.the-variants.{Done}
 use Rattle.pauli.specs.declared.algebra.Sight.{Sight}
 
--- with the bytes x and y of one more place, the first n of them
+-- with the bytes x and y of one more place, q
 unfoldable pub seenWith : Sight → ℕ → ℕ → ℕ → Sight
-seenWith r x y n = record { largest = max (r .largest) (max x y); places = cond (eqb (max x y) 0) (r .places) n }
+seenWith r x y q = record { largest = max (r .largest) (max x y); places = cond (eqb (max x y) 0) (r .places) (q + 1) }
 
 -- what one pass over two byte sequences sees: no byte above 3 only where the questions let both by, and then the product's places
 pub record Looked (s t : List ℕ) (r : Sight) : Type 0 where

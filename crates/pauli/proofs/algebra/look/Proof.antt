@@ -17,6 +17,5 @@ look-spec =
     Inv-loop μ-loop
     (λ c. search looks) (λ c. search looks) (λ c. search looks) (λ c. search looks)
     (λ c κs. search looks) (λ c. search looks) (λ c. search looks) (λ c. search looks)
-    (λ c. search looks) (λ c. search looks) (λ c. search looks) (λ c. search looks)
-    (λ c κs. search looks) (λ c. search looks) (λ c. search looks) (λ c. search looks)
-    (λ c. search looks))
+    (λ c. search looks) (λ c. search looks) (λ c κs. search looks) (λ c. search looks)
+    (λ c. search looks) (λ c. search looks) (λ c. search looks))

@@ -5,7 +5,7 @@ use Rattle.pauli.proofs.algebra.multiply_places.Statement.{statement}
 use Rattle.pauli.proofs.algebra.multiply_places.Tie as tie
 
 abbrev Inv-loop : tie.InvT-loop
-Inv-loop s t places row₀ turns₀ at₀ row turns at = PlacesTo s t places at row turns
+Inv-loop s t places row₀ turns₀ at₀ row turns at = PlacesTo s t places row₀ at row turns
 
 abbrev μ-loop : tie.MeasureT-loop
 μ-loop s t places row₀ turns₀ at₀ row turns at = places - at

@@ -5,7 +5,7 @@ use Rattle.pauli.proofs.algebra.multiply_step.Statement.{statement}
 use Rattle.pauli.proofs.algebra.multiply_step.Tie as tie
 
 abbrev Inv-loop : tie.InvT-loop
-Inv-loop s t at row₀ turns₀ q₀ row turns q = StepTo s t at q row turns
+Inv-loop s t at row₀ turns₀ q₀ row turns q = StepTo s t at row₀ q row turns
 
 abbrev μ-loop : tie.MeasureT-loop
 μ-loop s t at row₀ turns₀ q₀ row turns q = at + 32 - q
