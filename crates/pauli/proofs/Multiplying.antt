@@ -16,7 +16,7 @@ use Rattle.pauli_group.specs.Papers.{power}
 use Rattle.pauli_group.proofs.Laws.{·-assoc, ·-one}
 use Rattle.pauli_group.proofs.Strings.{within-mul}
 use Rattle.pauli_group.proofs.PlacesTaken.{taken-le, taken-within, phase-taken}
-use Rattle.pauli.specs.Layout.{phaseByte, phaseOf, letterByte, letterOf, encodeString, decodeString, stringOf, stringRecord, WellFormed}
+use Rattle.pauli.specs.Layout.{phaseByte, phaseOf, letterByte, letterOf, encodeString, decodeString, stringOf, stringRecord}
 use Rattle.pauli.specs.Rows.{shorter, copied}
 use Rattle.pauli.specs.Questions.{_andThen_, stringQuestions, stringsQuestions, roomQuestion, mulQuestions}
 use Rattle.pauli.specs.Strings.{placesTakenOfRecords, productRecord}
@@ -52,7 +52,8 @@ row-at s t q h = getD-listed 128 _ q 0 h
 
 length-row-to : {s t : List ℕ} {i : ℕ} {row : List ℕ} → RowTo s t i row → length row ≡ 128
 length-row-to {s} {t} {i} m =
-    ap length (m .out) ∙ length-fill (productRow s t) blankRow i (omega (arith, m .within, length-row s t)) (omega (arith, m .within, length-blank)) ∙ length-blank
+    ap length (m .out) ∙ length-fill (productRow s t) blankRow i (omega (arith, m .within, length-row s t)) (omega (arith, m .within, length-blank))
+    ∙ length-blank
 
 phase-more : (s t : List ℕ) (q : ℕ) → phaseTo (q + 1) s t ≡ phaseTo q s t · letterPhase (stringOf s .letters q) (stringOf t .letters q)
 unfolding phaseTo productTo
@@ -165,7 +166,8 @@ module _ {s t : List ℕ} {places i : ℕ} {row₀ row : List ℕ} {turns : ℕ}
       at : (k : ℕ) → k < length (drop i blankRow) → getD (drop i blankRow) k 0 ≡ getD (drop i (productRow s t)) k 0
       at k l =
           let b : i + k < 128 = omega (arith, l, length-drop i blankRow, length-blank) in
-          getD-drop i blankRow k 0 ∙ blank-at (i + k) b ∙ sym (row-behind (m .begun .factors) i h (i + k) (omega arith) b) ∙ sym (getD-drop i (productRow s t) k 0)
+          getD-drop i blankRow k 0 ∙ blank-at (i + k) b ∙ sym (row-behind (m .begun .factors) i h (i + k) (omega arith) b)
+          ∙ sym (getD-drop i (productRow s t) k 0)
 
   pub places-all : RowMultiplied s t row turns
   unfolding qubits phaseTo
@@ -184,7 +186,8 @@ copied-whole : (a d : List ℕ) → length a ≡ length d → copied a d ≡ a
 unfolding copied
 copied-whole a d e =
     let short : shorter a d ≡ length a = omega arith in
-    ap (λ (j : ℕ). take j a ++ drop j d) short ∙ ap₂ _++_ (take-all (length a) a (omega arith)) (drop-of-length-le d {i = length a} (omega arith)) ∙ append-nil a
+    ap (λ (j : ℕ). take j a ++ drop j d) short ∙ ap₂ _++_ (take-all (length a) a (omega arith)) (drop-of-length-le d {i = length a} (omega arith))
+    ∙ append-nil a
 
 phase-of : (s t : List ℕ) → mul (stringOf s) (stringOf t) .phase
     ≡ phaseOf (getD s 0 0) · phaseOf (getD t 0 0) · phaseOfLetters (stringOf s .letters) (stringOf t .letters)
