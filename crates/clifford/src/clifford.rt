@@ -12,7 +12,6 @@ use crate::gates::inverse_number;
 use crate::gates::letter_image;
 use crate::gates::product_number;
 use crate::gates::sent_image;
-use crate::gates::signed_images;
 use crate::layout::letter_at;
 use crate::layout::phase_at;
 use crate::layout::width;
@@ -23,7 +22,6 @@ use crate::questions::check_width;
 use crate::writing::Made;
 use crate::writing::write_made;
 use pauli::QUBITS;
-use pauli::algebra::PhasedLetter;
 use pauli::questions::and_then;
 use pauli::questions::check_qubit;
 use pauli::refusal::Outcome;
@@ -174,12 +172,10 @@ fn name_of(t: &[u8]) -> usize
     if width(t) != 1 {
         return 24;
     }
-    let x = PhasedLetter(phase_at(t, 0), letter_at(t, 0, 0));
-    let z = PhasedLetter(phase_at(t, 1), letter_at(t, 1, 0));
-    first_gate(signed_images(x, z))
+    first_gate([phase_at(t, 0), letter_at(t, 0, 0), phase_at(t, 1), letter_at(t, 1, 0)])
 }
 
-// The first of the 24 gates, by number, whose images a tableau has.
+// The first of the 24 gates, by number, whose tableau on qubit 0 this is. None, unless it has width 1 and is valid.
 pub fn from_clifford_rep(t: &[u8]) -> GateAnswer
     ensures { λ r. ⌜ GateNamed (now (t .entry)) r ⌝ }
 {
@@ -206,7 +202,7 @@ fn composed(g: usize, h: usize) -> usize
 {
     let x = sent_image(g, letter_image(h, 1));
     let z = sent_image(g, letter_image(h, 2));
-    first_gate(signed_images(x, z))
+    first_gate([x.0, x.1, z.0, z.1])
 }
 
 // g composed with h: h acts first.

@@ -11,7 +11,7 @@ ghost use Rattle.pauli.specs.Layout.{letterOf, encodeString};
 ghost use Rattle.clifford.specs.Inside.Rows.{lettersIn};
 ghost use Rattle.clifford.specs.GateQuestions.{gateWidth};
 ghost use Rattle.clifford.specs.GateRows.{imageBytes, yBytes, ImageOf};
-ghost use Rattle.clifford.specs.Inside.GateRows.{pairBytes, imageHeld, minusByte, signedBytes, sameEntry, firstEntry, NameIs, TakesTwo, EntryPlace, entryPair, OneRow, ImageAsked, RowImageOf, rowImageString, PutsImage};
+ghost use Rattle.clifford.specs.Inside.GateRows.{pairBytes, imageHeld, sameEntry, firstEntry, NameIs, TakesTwo, EntryPlace, entryPair, OneRow, ImageAsked, RowImageOf, rowImageString, PutsImage};
 use crate::applying::clear_row;
 use crate::applying::multiply_letter;
 use crate::layout::wide;
@@ -196,36 +196,23 @@ pub(crate) fn sent_image(gate: usize, image: PhasedLetter) -> PhasedLetter
     PhasedLetter(phase_times(image.0, i.0), i.1)
 }
 
-// 1 for the phase -1; any other counts as plus.
-fn sign_of(phase: u8) -> u8
-    ensures { λ r. ⌜ r ≡ minusByte phase ⌝ }
-{
-    if phase == 1 { 1 } else { 0 }
-}
-
-// The images of X and of Z, as in the table.
-pub(crate) fn signed_images(x: PhasedLetter, z: PhasedLetter) -> [u8; 4]
-    ensures { λ r. ⌜ r ≡ signedBytes x z ⌝ }
-{
-    [sign_of(x.0), x.1, sign_of(z.0), z.1]
-}
-
+// Letters first, then phases.
 fn same_images(a: [u8; 4], b: [u8; 4]) -> bool
     ensures { λ r. ⌜ r ≡ sameEntry a b ⌝ }
 {
-    if a[0] != b[0] {
-        return false;
-    }
     if a[1] != b[1] {
         return false;
     }
-    if a[2] != b[2] {
+    if a[3] != b[3] {
         return false;
     }
-    a[3] == b[3]
+    if a[0] != b[0] {
+        return false;
+    }
+    a[2] == b[2]
 }
 
-// The first gate, by number, whose images are these, or 24.
+// The first gate, by number, whose images of X and of Z, phase and letter, are these, or 24.
 pub(crate) fn first_gate(images: [u8; 4]) -> usize
     ensures { λ r. ⌜ NameIs (firstEntry images) r ⌝ }
 {

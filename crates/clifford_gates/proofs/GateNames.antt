@@ -1,6 +1,6 @@
 -- Gates by number: the tableau of a gate, the name of a tableau, the name of a composition.
 use mathlib.Core.Path.{_≡_, refl, sym, ap, ap₂, _∙_, subst, fun-ext}
-use mathlib.Core.Bool.{Bool, true, false, cond, _&&_}
+use mathlib.Core.Bool.{Bool, true, false, cond, not, _&&_, and-true, Bool·not-not}
 use mathlib.Core.List.{List, [], _∷_}
 use mathlib.Core.Logic.{_≢_}
 use Prim.Native.Nat.{ℕ, zero, suc, _-_, _≤_, _<_}
@@ -9,30 +9,29 @@ use native.Mathlib.Omega.{arith}
 use native.Mathlib.Decide.{ℕ-discrete, decLt}
 use lib.Dec.{T, eqb, ltb}
 use lib.ListN.{length, getD}
-use borrow.Author.Tests.{lt-ltb, le-ltb, ltb-true, eqb-true}
-use Rattle.pauli_group.specs.Phase.{Phase, PlusOne, MinusOne, PlusI, MinusI, _·_, negate, turn, isReal, sign}
-use Rattle.pauli_group.specs.Letter.{Letter, letterProduct, letterPhase, letterMul, anticommute}
-use Rattle.pauli_group.specs.PauliString.{PauliString, qubits, scale, single}
-use Rattle.pauli_group.proofs.Finite.{letters, phases, law1}
-use Rattle.pauli_group.proofs.Laws.{·-one}
-use Rattle.pauli_group.proofs.Strings.{scale-scale}
-use Rattle.pauli_group.proofs.PaperForms.{both}
-use Rattle.clifford_group.specs.Tableau.{Tableau, imageOf, apply, compose, allTo, hasX, hasZ, letterOfBits, Clifford, Same}
+use borrow.Author.Tests.{lt-ltb, le-ltb, ltb-true, eqb-true, eq-eqb, ne-eqb}
+use Rattle.pauli_group.specs.Phase.{_·_, negate, turn, isReal}
+use Rattle.pauli_group.specs.Letter.{letterProduct, letterPhase, letterMul, anticommute}
+use Rattle.pauli_group.specs.PauliString.{PauliString, qubits, scale, single, Within}
+use Rattle.pauli_group.proofs.Finite.{letters, phases, bools, law2}
+use Rattle.pauli_group.proofs.Strings.{string-ext, scale-scale}
+use Rattle.clifford_group.specs.Tableau.{Tableau, imageOf, apply, compose, allTo, validQubit, isValid, hasX, hasZ, Proper, Clifford, Same}
 use Rattle.clifford_group.specs.Conjugation.{Generator, ofX, ofZ, generator, row}
 use Rattle.clifford_group.proofs.Rows.{rows-same}
 use Rattle.clifford_group.proofs.Images.{image-row}
 use Rattle.clifford_group.proofs.Apply.{apply-scale, apply-single}
 use Rattle.clifford_group.proofs.Compose.{width-compose, row-compose}
+use Rattle.clifford_group.proofs.Same.{isValid-same}
 use Rattle.clifford_group.proofs.Valid.{all-each}
 use Rattle.clifford_gates.specs.Gates.{Image, OneQubit, oneQubit, oneQubitGates, ValidImages, TwoQubit, twoQubitGates, ValidPairImages, All}
 use Rattle.clifford_gates.specs.GateTableaux.{imageString, gateOnEach, unchanged, onQubit, onQubits}
 use Rattle.clifford_gates.specs.GateNumbers.{pairUnchanged, oneQubitGate, twoQubitGate, gateTableau}
-use Rattle.clifford_gates.specs.GateNumbers.{sameBit, sameLetter, isMinus, matchesImage, matches, firstWith, nameOf, sameImage, sameImages, composeGate}
+use Rattle.clifford_gates.specs.GateNumbers.{sameBit, sameLetter, hasMinus, samePhase, matchesImage, matches, firstWith, nameOf, composeGate}
 use Rattle.clifford_gates.specs.Updates.{timesI, letterImage, scaled, sentImage, composeImages}
-use Rattle.clifford_gates.proofs.GateTables.{is-true, one-qubit-valid, two-qubit-valid, valid-test, valid-is}
-use Rattle.clifford_gates.proofs.GateTableaux.{image, clifford-on-qubit}
+use Rattle.clifford_gates.proofs.GateTables.{one-qubit-valid, two-qubit-valid, valid-test, same-image, same-entry, entry-equal}
+use Rattle.clifford_gates.proofs.GateTableaux.{image, image-phase, images-together, clifford-on-qubit}
 use Rattle.clifford_gates.proofs.PairTableaux.{clifford-on-qubits}
-use Rattle.clifford_gates.proofs.OneQubitUpdates.{width-on-qubit, row-at, row-off, other-on-qubit, image-on-qubit}
+use Rattle.clifford_gates.proofs.OneQubitUpdates.{image-at, image-off, width-on-qubit, row-at, row-off, other-on-qubit, image-on-qubit}
 
 -- ---- entries by number
 pub entry : {A : Type 0} (P : A → Type 0) (l : List A) → All P l → (n : ℕ) → n < length l → (d : A) → P (getD l n d)
@@ -114,67 +113,70 @@ unfolding firstWith
 first-has f [] d h = absurd (not-suc-le-zero h)
 first-has f (a ∷ rest) d h = found f a rest d (f a) refl (first-has f rest d) h
 
--- a name is read off the rows of qubit 0
-abbrev read : ℕ → PauliString → PauliString → ℕ
-read w x z = cond (eqb w 1) (firstWith (λ g. matchesImage (g .x) x && matchesImage (g .z) z) oneQubitGates) 24
+pub some-qubit : 0 < qubits
+unfolding qubits
+some-qubit = omega arith
+
+-- the images of X and of Z on qubit 0
+abbrev imageIn : PauliString → Image
+imageIn s = record { phase = s .phase; letter = s .letters 0 }
+
+abbrev pub imagesOf : Tableau → OneQubit
+imagesOf t = oneQubit (imageIn (t .xImage 0)) (imageIn (t .zImage 0))
+
+-- the number of the gate with these images, or 24
+abbrev pub numberOf : OneQubit → ℕ
+numberOf k = firstWith (λ g. same-entry g k) oneQubitGates
+
+matches-image : (i : Image) (s : PauliString) → matchesImage i s ≡ same-image i (imageIn s)
+unfolding matchesImage samePhase sameLetter sameBit isReal hasMinus hasX hasZ
+matches-image i s =
+    ap₂ _&&_ (law2 phases phases bools samePhase (phases .same) tt (i .phase) (s .phase))
+    (law2 letters letters bools sameLetter (letters .same) tt (i .letter) (s .letters 0))
+
+pub name-one : (t : Tableau) → t .width ≡ 1 → nameOf t ≡ numberOf (imagesOf t)
+unfolding nameOf matches
+name-one t e =
+    ap (λ b. cond b (firstWith (matches t) oneQubitGates) 24) (eq-eqb (t .width) 1 e)
+    ∙ ap (λ f. firstWith f oneQubitGates) (fun-ext (λ g. ap₂ _&&_ (matches-image (g .x) (t .xImage 0)) (matches-image (g .z) (t .zImage 0))))
+
+pub name-none : (t : Tableau) → t .width ≢ 1 → nameOf t ≡ 24
+unfolding nameOf
+name-none t d = ap (λ b. cond b (firstWith (matches t) oneQubitGates) 24) (ne-eqb (t .width) 1 d)
 
 pub name-same : (t u : Tableau) → Same t u → 0 < t .width → nameOf t ≡ nameOf u
 unfolding nameOf matches
 name-same t u e h =
     ap (λ w. read w (t .xImage 0) (t .zImage 0)) (e .width) ∙ ap₂ (read (u .width)) (e .xImage 0 h) (e .zImage 0 h)
+  where
+    read : ℕ → PauliString → PauliString → ℕ
+    read w x z = cond (eqb w 1) (firstWith (λ g. matchesImage (g .x) x && matchesImage (g .z) z) oneQubitGates) 24
 
-matches-image : (i j : Image) → matchesImage i (imageString j 0) ≡ sameImage i j
-unfolding matchesImage sameImage imageString scale single
-matches-image i j = ap (λ p. sameBit (isMinus (i .phase)) (isMinus p) && sameLetter (i .letter) (j .letter)) (·-one (j .phase))
-
-pub name-on-qubit : (k : OneQubit) → nameOf (onQubit k 0) ≡ firstWith (sameImages k) oneQubitGates
-unfolding nameOf matches onQubit gateOnEach sameImages
-name-on-qubit k = ap (λ f. firstWith f oneQubitGates) (fun-ext (λ g. ap₂ _&&_ (matches-image (g .x) (k .x)) (matches-image (g .z) (k .z))))
-
--- ---- gates with the same images are equal
-same-bits : (a b : Bool) → T (sameBit a b) → a ≡ b
-unfolding sameBit
-same-bits true true t = refl
-same-bits true false t = absurd t
-same-bits false true t = absurd t
-same-bits false false t = refl
-
-letter-of-bits : (a : Letter) → a ≡ letterOfBits (hasX a) (hasZ a)
-unfolding letterOfBits hasX hasZ
-letter-of-bits = law1 letters letters (λ a. a) (λ a. letterOfBits (hasX a) (hasZ a)) tt
-
-same-letters : (a b : Letter) → T (sameLetter a b) → a ≡ b
-unfolding sameLetter
-same-letters a b t =
-    let parts = both (sameBit (hasX a) (hasX b)) (sameBit (hasZ a) (hasZ b)) t in
-    letter-of-bits a ∙ ap₂ letterOfBits (same-bits _ _ (parts .0)) (same-bits _ _ (parts .1)) ∙ sym (letter-of-bits b)
-
-real-sign : (p : Phase) → isReal p ≡ true → p ≡ sign (isMinus p)
-unfolding isReal sign isMinus
-real-sign PlusOne e = refl
-real-sign MinusOne e = refl
-real-sign PlusI e = cc
-real-sign MinusI e = cc
-
-same-image-is : (i j : Image) → isReal (i .phase) ≡ true → isReal (j .phase) ≡ true → T (sameImage i j) → i ≡ j
-unfolding sameImage
-same-image-is i j e f t =
-    let parts = both (sameBit (isMinus (i .phase)) (isMinus (j .phase))) (sameLetter (i .letter) (j .letter)) t in
-    let phase : i .phase ≡ j .phase =
-    real-sign (i .phase) e ∙ ap sign (same-bits _ _ (parts .0)) ∙ sym (real-sign (j .phase) f) in
-    let letter : i .letter ≡ j .letter = same-letters (i .letter) (j .letter) (parts .1) in
+image-back : (i : Image) → imageIn (imageString i 0) ≡ i
+image-back i =
+    let phase : imageString i 0 .phase ≡ i .phase = image-phase i 0 in
+    let letter : imageString i 0 .letters 0 ≡ i .letter = image-at 0 i 0 refl in
     λ n. record { phase = phase n; letter = letter n }
 
-pub same-images-is : (k g : OneQubit) → ValidImages k → ValidImages g → T (sameImages k g) → g ≡ k
-unfolding sameImages
-same-images-is k g v w t =
-    let parts = both (sameImage (g .x) (k .x)) (sameImage (g .z) (k .z)) t in
-    let x : g .x ≡ k .x = same-image-is (g .x) (k .x) (w .xReal) (v .xReal) (parts .0) in
-    let z : g .z ≡ k .z = same-image-is (g .z) (k .z) (w .zReal) (v .zReal) (parts .1) in
-    λ n. oneQubit (x n) (z n)
+pub name-on-qubit : (k : OneQubit) → nameOf (onQubit k 0) ≡ numberOf k
+name-on-qubit k = name-one (onQubit k 0) (width-on-qubit k 0) ∙ ap numberOf back
+  where
+    back : imagesOf (onQubit k 0) ≡ k
+    back = unfold onQubit gateOnEach in ap₂ oneQubit (image-back (k .x)) (image-back (k .z))
 
--- ---- every valid gate is in the table
--- a test of all images, and of all gates
+pub on-qubit-names : (g : ℕ) → g < 24 → nameOf (onQubit (oneQubitGate g) 0) ≡ g
+unfolding firstWith oneQubitGate oneQubitGates allTo
+on-qubit-names g h = name-on-qubit (oneQubitGate g) ∙ eqb-true _ g (all-each 24 (λ g. eqb (numberOf (oneQubitGate g)) g) refl g h)
+
+-- the gate of that number has the images
+pub number-entry : (k : OneQubit) → numberOf k < 24 → oneQubitGate (numberOf k) ≡ k
+number-entry k h = unfold oneQubitGate in
+    entry-equal _ k (subst T (sym (first-has (λ g. same-entry g k) oneQubitGates unchanged (omega (arith, length-24)))) tt)
+  where
+    length-24 : length oneQubitGates ≡ 24
+    length-24 = unfold oneQubitGates in refl
+
+-- ---- a gate is named exactly when the tableau has width 1 and is valid
 abbrev all-images : (Image → Bool) → Bool
 all-images f = phases .all (λ p. letters .all (λ a. f (record { phase = p; letter = a })))
 
@@ -183,71 +185,75 @@ every-image f t i =
     letters .each (λ a. f (record { phase = i .phase; letter = a }))
     (phases .each (λ p. letters .all (λ a. f (record { phase = p; letter = a }))) t (i .phase)) (i .letter)
 
-every-gate : (f : OneQubit → Bool) → T (all-images (λ x. all-images (λ z. f (oneQubit x z)))) → (k : OneQubit) → T (f k)
-every-gate f t k =
-    every-image (λ z. f (oneQubit (k .x) z)) (every-image (λ x. all-images (λ z. f (oneQubit x z))) t (k .x)) (k .z)
-
-abbrev numbered : OneQubit → Bool
-numbered k = cond (valid-test k) (ltb (firstWith (sameImages k) oneQubitGates) 24) true
-
-all-numbered : (k : OneQubit) → T (numbered k)
-unfolding isReal anticommute firstWith sameImages sameImage sameBit sameLetter isMinus hasX hasZ oneQubitGates
-all-numbered = every-gate numbered tt
-
-valid-passes : (k : OneQubit) → ValidImages k → valid-test k ≡ true
-valid-passes k v = ap₂ _&&_ (ap₂ _&&_ (v .xReal) (v .zReal)) (v .anticommuting)
-
-pub name-small : (k : OneQubit) → ValidImages k → nameOf (onQubit k 0) < 24
-name-small k v =
-    let t : T (ltb (firstWith (sameImages k) oneQubitGates) 24) =
-    subst (λ b. T (cond b (ltb (firstWith (sameImages k) oneQubitGates) 24) true)) (valid-passes k v) (all-numbered k) in
-    subst (λ n. n < 24) (sym (name-on-qubit k)) (ltb-true _ 24 (is-true _ t))
-
--- the entry that a valid gate's name stands for is the gate
-pub name-entry : (k : OneQubit) → ValidImages k → oneQubitGate (nameOf (onQubit k 0)) ≡ k
-name-entry k v =
-    let n : nameOf (onQubit k 0) < 24 = name-small k v in
-    same-images-is k (oneQubitGate (nameOf (onQubit k 0))) v (gate-valid (nameOf (onQubit k 0)) n)
-    (subst (λ j. T (sameImages k (oneQubitGate j))) (sym (name-on-qubit k)) (passes (subst (λ j. j < 24) (name-on-qubit k) n)))
+-- by one test of all 256 pairs of images
+pub number-valid : (k : OneQubit) → ltb (numberOf k) 24 ≡ valid-test k
+unfolding isReal anticommute firstWith oneQubitGates
+number-valid k =
+    bools .equal _ _ (every-image (λ z. agrees (oneQubit (k .x) z)) (every-image (λ x. all-images (λ z. agrees (oneQubit x z))) tt (k .x)) (k .z))
   where
-    length-24 : length oneQubitGates ≡ 24
-    length-24 = unfold oneQubitGates in refl
+    agrees : OneQubit → Bool
+    agrees k = bools .same (ltb (numberOf k) 24) (valid-test k)
 
-    passes : firstWith (sameImages k) oneQubitGates < 24 → T (sameImages k (oneQubitGate (firstWith (sameImages k) oneQubitGates)))
-    passes n = subst T (sym first) tt
-      where
-        first : sameImages k (oneQubitGate (firstWith (sameImages k) oneQubitGates)) ≡ true
-        first = unfold oneQubitGate in
-            first-has (sameImages k) oneQubitGates unchanged (subst (λ j. firstWith (sameImages k) oneQubitGates < j) (sym length-24) n)
+valid-on-qubit : (k : OneQubit) → isValid (onQubit k 0) ≡ valid-test k
+unfolding isValid allTo validQubit onQubit gateOnEach
+valid-on-qubit k =
+    and-true _
+    ∙ ap₂ _&&_ (ap₂ _&&_ (ap isReal (image-phase (k .x) 0)) (ap isReal (image-phase (k .z) 0)))
+    (ap not (images-together (k .x) (k .z) 0 some-qubit) ∙ Bool·not-not (anticommute (k .x .letter) (k .z .letter)))
 
-pub on-qubit-names : (g : ℕ) → g < 24 → nameOf (onQubit (oneQubitGate g) 0) ≡ g
-unfolding nameOf matches matchesImage sameBit sameLetter isMinus hasX hasZ firstWith onQubit gateOnEach imageString scale single oneQubitGate oneQubitGates allTo _·_ negate turn
-on-qubit-names g h = eqb-true _ g (all-each 24 (λ g. eqb (nameOf (onQubit (oneQubitGate g) 0)) g) refl g h)
+-- a tableau of width 1 is that of its images
+module _ (t : Tableau) (p : Proper t) (e : t .width ≡ 1) where
+  of-image : (s : PauliString) → Within (t .width) s → s ≡ imageString (imageIn s) 0
+  of-image s w = string-ext s (imageString (imageIn s) 0) (sym (image-phase (imageIn s) 0)) each
+    where
+      each : (q : ℕ) → s .letters q ≡ imageString (imageIn s) 0 .letters q
+      each q = elim (ℕ-discrete q 0) [
+        | yes z ↦ ap (s .letters) z ∙ sym (image-at 0 (imageIn s) q z)
+        | no d ↦ w q (omega arith) ∙ sym (image-off 0 (imageIn s) q d)
+      ]
+
+  of-images : Same t (onQubit (imagesOf t) 0)
+  of-images = record {
+    width = e ∙ sym (width-on-qubit (imagesOf t) 0);
+    xImage = λ q h. at (t .xImage) (onQubit (imagesOf t) 0 .xImage) q h (of-image _ (p .xWithin 0 (omega arith)) ∙ sym (row-at (imagesOf t) 0 ofX));
+    zImage = λ q h. at (t .zImage) (onQubit (imagesOf t) 0 .zImage) q h (of-image _ (p .zWithin 0 (omega arith)) ∙ sym (row-at (imagesOf t) 0 ofZ));
+  }
+    where
+      at : (f g : ℕ → PauliString) (q : ℕ) → q < t .width → f 0 ≡ g 0 → f q ≡ g q
+      at f g q h same = let z : 0 ≡ q = omega arith in subst (λ k. f k ≡ g k) z same
+
+pub named-valid : (t : Tableau) → Proper t → ltb (nameOf t) 24 ≡ eqb (t .width) 1 && isValid t
+named-valid t p = elim (ℕ-discrete (t .width) 1) [
+  | yes e ↦ ap (λ n. ltb n 24) (name-one t e) ∙ number-valid (imagesOf t)
+      ∙ sym (ap₂ _&&_ (eq-eqb (t .width) 1 e) (isValid-same t (onQubit (imagesOf t) 0) (of-images t p e) ∙ valid-on-qubit (imagesOf t)))
+  | no d ↦ ap (λ n. ltb n 24) (name-none t d) ∙ sym (ap (λ b. b && isValid t) (ne-eqb (t .width) 1 d))
+]
+
+-- and it is the gate whose tableau on qubit 0 this is
+pub named-same : (t : Tableau) → Proper t → nameOf t < 24 → Same t (onQubit (oneQubitGate (nameOf t)) 0)
+named-same t p h = elim (ℕ-discrete (t .width) 1) [
+  | yes e ↦ let own : oneQubitGate (nameOf t) ≡ imagesOf t = ap oneQubitGate (name-one t e) ∙ number-entry (imagesOf t) (omega (arith, name-one t e)) in
+      subst (λ k. Same t (onQubit k 0)) (sym own) (of-images t p e)
+  | no d ↦ absurd (omega (arith, name-none t d))
+]
 
 -- ---- the name of a composition
-pub compose-valid : (g h : ℕ) → g < 24 → h < 24 → ValidImages (composeImages (oneQubitGate g) (oneQubitGate h))
+compose-valid : (g h : ℕ) → g < 24 → h < 24 → valid-test (composeImages (oneQubitGate g) (oneQubitGate h)) ≡ true
 unfolding allTo oneQubitGate oneQubitGates composeImages sentImage scaled letterImage timesI letterPhase letterMul letterProduct _·_ negate turn isReal anticommute
 compose-valid g h l m =
-    valid-is _ (subst T (sym (all-each 24 (λ h. valid-test (composeImages (oneQubitGate g) (oneQubitGate h)))
-    (all-each 24 (λ g. allTo 24 (λ h. valid-test (composeImages (oneQubitGate g) (oneQubitGate h)))) refl g l) h m)) tt)
-
-pub some-qubit : 0 < qubits
-unfolding qubits
-some-qubit = omega arith
+    all-each 24 (λ h. valid-test (composeImages (oneQubitGate g) (oneQubitGate h)))
+    (all-each 24 (λ g. allTo 24 (λ h. valid-test (composeImages (oneQubitGate g) (oneQubitGate h)))) refl g l) h m
 
 module _ (g h : ℕ) (hg : g < 24) (hh : h < 24) where
-  named : composeGate g h ≡ nameOf (onQubit (composeImages (oneQubitGate g) (oneQubitGate h)) 0)
+  pub compose-name : composeGate g h ≡ numberOf (composeImages (oneQubitGate g) (oneQubitGate h))
   unfolding composeGate
-  named =
+  compose-name =
       name-same (compose (onQubit (oneQubitGate g) 0) (onQubit (oneQubitGate h) 0)) (onQubit (composeImages (oneQubitGate g) (oneQubitGate h)) 0)
       (compose-on-qubit (oneQubitGate g) (oneQubitGate h) 0 some-qubit) (omega (arith, width-both (oneQubitGate g) (oneQubitGate h) 0 some-qubit))
-
-  -- the first entry with the images that the two gates make
-  pub compose-name : composeGate g h ≡ firstWith (sameImages (composeImages (oneQubitGate g) (oneQubitGate h))) oneQubitGates
-  compose-name = named ∙ name-on-qubit (composeImages (oneQubitGate g) (oneQubitGate h))
+      ∙ name-on-qubit (composeImages (oneQubitGate g) (oneQubitGate h))
 
   pub compose-entry : oneQubitGate (composeGate g h) ≡ composeImages (oneQubitGate g) (oneQubitGate h)
-  compose-entry = ap oneQubitGate named ∙ name-entry (composeImages (oneQubitGate g) (oneQubitGate h)) (compose-valid g h hg hh)
+  compose-entry = ap oneQubitGate compose-name ∙ number-entry _ (ltb-true _ 24 (number-valid _ ∙ compose-valid g h hg hh))
 
   -- and so on every qubit
   pub compose-gates : (q : ℕ) → q < qubits

@@ -1,6 +1,6 @@
 -- The tableau of a one-qubit gate is valid on every qubit.
 use mathlib.Core.Path.{_≡_, refl, sym, ap, subst, _∙_}
-use mathlib.Core.Bool.{Bool, true, false, not, cond}
+use mathlib.Core.Bool.{Bool, true, false, not, cond, Bool·not-not}
 use mathlib.Core.Logic.{_≢_}
 use Prim.Native.Nat.{ℕ, suc, _<_, _≤_}
 use native.Mathlib.Omega.{arith}
@@ -39,10 +39,10 @@ module _ (i j : Image) (q r : ℕ) (h : r < qubits) where
       commute-by (imageString i q) (imageString j r) true
       (sign-images ∙ ap (λ l. sign (anticommute l (j .letter))) (single-off (i .letter) q r (λ e. d (sym e))))
 
-images-together : (i j : Image) (q : ℕ) → q < qubits → anticommute (i .letter) (j .letter) ≡ true → commute (imageString i q) (imageString j q) ≡ false
-images-together i j q h e =
-    commute-by (imageString i q) (imageString j q) false
-    (sign-images i j q q h ∙ ap (λ l. sign (anticommute l (j .letter))) (single-at (i .letter) q) ∙ ap sign e)
+pub images-together : (i j : Image) (q : ℕ) → q < qubits → commute (imageString i q) (imageString j q) ≡ not (anticommute (i .letter) (j .letter))
+images-together i j q h =
+    commute-by (imageString i q) (imageString j q) (not (anticommute (i .letter) (j .letter)))
+    (sign-images i j q q h ∙ ap (λ l. sign (anticommute l (j .letter))) (single-at (i .letter) q) ∙ ap sign (sym (Bool·not-not (anticommute (i .letter) (j .letter)))))
 
 pub image-phase : (i : Image) (q : ℕ) → imageString i q .phase ≡ i .phase
 unfolding imageString scale single
@@ -71,7 +71,7 @@ module _ (w : ℕ) (f : ℕ → OneQubit) (h : w ≤ qubits) (v : (q : ℕ) → 
   unfolding gateOnEach
   valid-each = record {
     real = λ g q l. ap (λ s. isReal (s .phase)) (row-image g q) ∙ ap isReal (image-phase (image g (f q)) q) ∙ image-real g q;
-    anticommuting = λ q l. images-together (f q .x) (f q .z) q (omega arith) (v q .anticommuting);
+    anticommuting = λ q l. images-together (f q .x) (f q .z) q (omega arith) ∙ ap not (v q .anticommuting);
     commuting = λ g k q r l m d.
         ap (λ s. commute s (row (gateOnEach w f) k r)) (row-image g q) ∙ ap (commute (imageString (image g (f q)) q)) (row-image k r)
         ∙ images-apart (image g (f q)) (image k (f r)) q r (omega arith) d;

@@ -59,7 +59,7 @@ module _ (q : ℕ) where
   unfolding imageString scale
   image-at i k e = ap (single (i .letter) q .letters) e ∙ single-at (i .letter) q
 
-  image-off : (i : Image) (k : ℕ) → k ≢ q → imageString i q .letters k ≡ I
+  pub image-off : (i : Image) (k : ℕ) → k ≢ q → imageString i q .letters k ≡ I
   unfolding imageString scale
   image-off i k d = single-off (i .letter) q k d
 

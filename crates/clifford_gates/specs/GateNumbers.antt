@@ -4,7 +4,7 @@ use mathlib.Core.Bool.{Bool, true, false, cond, not, _&&_}
 use mathlib.Core.List.{List, [], _∷_}
 use lib.Dec.{eqb, ltb}
 use lib.ListN.{getD}
-use Rattle.pauli_group.specs.Phase.{Phase, PlusOne, MinusOne, PlusI, MinusI}
+use Rattle.pauli_group.specs.Phase.{Phase, PlusOne, MinusOne, PlusI, MinusI, isReal}
 use Rattle.pauli_group.specs.Letter.{Letter, I, X, Z}
 use Rattle.pauli_group.specs.PauliString.{PauliString}
 use Rattle.clifford_group.specs.Tableau.{Tableau, identityTableau, compose, inverse, hasX, hasZ}
@@ -30,23 +30,26 @@ gateTableau g q r = cond (ltb g 24) (onQubit (oneQubitGate g) q) (onQubits (twoQ
 
 -- ---- the name of a tableau
 
+-- equality by two bits: of letters x and z, of phases whether it is real and whether it has a minus
 unfoldable pub sameBit : Bool → Bool → Bool
 sameBit a b = cond a b (not b)
 
 unfoldable pub sameLetter : Letter → Letter → Bool
 sameLetter a b = sameBit (hasX a) (hasX b) && sameBit (hasZ a) (hasZ b)
 
--- "a phase other than −1 counts as plus"
-unfoldable pub isMinus : Phase → Bool
-isMinus PlusOne = false
-isMinus MinusOne = true
-isMinus PlusI = false
-isMinus MinusI = false
+unfoldable pub hasMinus : Phase → Bool
+hasMinus PlusOne = false
+hasMinus MinusOne = true
+hasMinus PlusI = false
+hasMinus MinusI = true
+
+unfoldable pub samePhase : Phase → Phase → Bool
+samePhase p q = sameBit (isReal p) (isReal q) && sameBit (hasMinus p) (hasMinus q)
 
 unfoldable pub matchesImage : Image → PauliString → Bool
-matchesImage i s = sameBit (isMinus (i .phase)) (isMinus (s .phase)) && sameLetter (i .letter) (s .letters 0)
+matchesImage i s = samePhase (i .phase) (s .phase) && sameLetter (i .letter) (s .letters 0)
 
--- a gate whose images match the rows of qubit 0
+-- a gate whose images, phases included, are the rows of qubit 0
 unfoldable pub matches : Tableau → OneQubit → Bool
 matches t g = matchesImage (g .x) (t .xImage 0) && matchesImage (g .z) (t .zImage 0)
 
@@ -55,16 +58,10 @@ unfoldable pub firstWith : {A : Type 0} → (A → Bool) → List A → ℕ
 firstWith f [] = 0
 firstWith f (a ∷ rest) = cond (f a) 0 (suc (firstWith f rest))
 
--- "the first of the 24 gates, by number, whose images match, or none"; none is 24. "Width other than 1 gives none."
+-- the first of the 24 gates, by number, whose tableau on qubit 0 this is, or 24, which is none: "Width other than 1 gives none", and
+-- so does a tableau that is not valid
 unfoldable pub nameOf : Tableau → ℕ
 nameOf t = cond (eqb (t .width) 1) (firstWith (matches t) oneQubitGates) 24
-
--- the same test between a gate's images and those of an entry
-unfoldable pub sameImage : Image → Image → Bool
-sameImage i j = sameBit (isMinus (i .phase)) (isMinus (j .phase)) && sameLetter (i .letter) (j .letter)
-
-unfoldable pub sameImages : OneQubit → OneQubit → Bool
-sameImages k g = sameImage (g .x) (k .x) && sameImage (g .z) (k .z)
 
 -- ---- "`compose` and `inverse` agree with the tableaux"
 

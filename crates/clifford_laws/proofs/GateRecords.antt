@@ -33,7 +33,7 @@ unfolding gateRecord gateTableau twoQubitGate twoQubitGates
 gdg-as-g q r = refl
 
 -- ---- products and inverses
-one-clifford : (g q : ℕ) → g < 24 → q < qubits → Clifford (onQubit (oneQubitGate g) q)
+pub one-clifford : (g q : ℕ) → g < 24 → q < qubits → Clifford (onQubit (oneQubitGate g) q)
 one-clifford g q hg hq = clifford-on-qubit (oneQubitGate g) (gate-valid g hg) q hq
 
 pub compose-records : (g h q : ℕ) → g < 24 → h < 24 → q < qubits → composeRecord (oneQubitRecord g q) (oneQubitRecord h q) ≡ oneQubitRecord (composeGate g h) q

@@ -13,7 +13,7 @@ use Rattle.pauli_group.specs.PauliString.{qubits, productTo, countTo, phaseOfLe
 use Rattle.clifford_group.specs.Tableau.{letterOfBits, rowImage, imageOf, applyTo, apply, widen, compose, allTo, validQubit, validPair, isValid, hasX, hasZ, transposed, inverseRow, inverse}
 use Rattle.clifford_gates.specs.Gates.{oneQubitGates, twoQubitGates}
 use Rattle.clifford_gates.specs.GateTableaux.{imageString, gateOnEach, onQubit, pairString, pairRow, onQubits}
-use Rattle.clifford_gates.specs.GateNumbers.{oneQubitGate, twoQubitGate, gateTableau, sameBit, sameLetter, isMinus, matchesImage, matches, firstWith, nameOf, composeGate}
+use Rattle.clifford_gates.specs.GateNumbers.{oneQubitGate, twoQubitGate, gateTableau, sameBit, sameLetter, hasMinus, samePhase, matchesImage, matches, firstWith, nameOf, composeGate}
 use Rattle.pauli.specs.Places.{listed, firstPlace}
 use Rattle.pauli.specs.Layout.{phaseByte, letterByte, phaseOf, letterOf, encodeString, decodeString, stringRecord, stringOf}
 use Rattle.pauli.specs.Rows.{productPhaseByte, productLetterByte, phaseBytesProduct}
@@ -45,5 +45,5 @@ holds : (r : Reading) → T (test r) → answered (r .asked) ≡ r .answer
 holds r t = same-is (answered (r .asked)) (r .answer) t
 
 pub readings-hold : All (λ r. answered (r .asked) ≡ r .answer) readings
-unfolding readings imagesRecord answered replyTo refusalReply ask _andThen_ byteQuestion pairQuestions firstPlace firstBad bytesQuestion stringQuestions roomQuestion widthQuestion lengthQuestion tableauQuestions applyQuestions applyAnswer composeQuestions composeAnswer inverseAnswer gateQuestion composeGateQuestions recordLength negate turn _·_ conjugate isReal sign minusOneTo letterProduct letterPhase letterMul anticommute qubits productTo countTo phaseOfLetters mul identityString scale single anticommutingPlaces commute commutationSign rowImage imageOf applyTo apply widen compose allTo validQubit validPair isValid hasX hasZ transposed inverseRow inverse letterOfBits stringBytes oneQubitGates twoQubitGates imageString gateOnEach onQubit pairString pairRow onQubits oneQubitGate twoQubitGate gateTableau sameBit sameLetter isMinus matchesImage matches firstWith nameOf composeGate listed phaseByte letterByte phaseOf letterOf encodeString decodeString stringRecord stringOf productPhaseByte productLetterByte phaseBytesProduct rowLength encodeRow decodeRow rowOffset rowOf joined tableauRecord rowPart tableauOf recordValid applyRecord composeRecord inverseRecord gateRecord recordName letterPlace letterIn lettersOf rowQuestion rowsQuestion
+unfolding readings imagesRecord answered replyTo refusalReply ask _andThen_ byteQuestion pairQuestions firstPlace firstBad bytesQuestion stringQuestions roomQuestion widthQuestion lengthQuestion tableauQuestions applyQuestions applyAnswer composeQuestions composeAnswer inverseAnswer gateQuestion composeGateQuestions recordLength negate turn _·_ conjugate isReal sign minusOneTo letterProduct letterPhase letterMul anticommute qubits productTo countTo phaseOfLetters mul identityString scale single anticommutingPlaces commute commutationSign rowImage imageOf applyTo apply widen compose allTo validQubit validPair isValid hasX hasZ transposed inverseRow inverse letterOfBits stringBytes oneQubitGates twoQubitGates imageString gateOnEach onQubit pairString pairRow onQubits oneQubitGate twoQubitGate gateTableau sameBit sameLetter hasMinus samePhase matchesImage matches firstWith nameOf composeGate listed phaseByte letterByte phaseOf letterOf encodeString decodeString stringRecord stringOf productPhaseByte productLetterByte phaseBytesProduct rowLength encodeRow decodeRow rowOffset rowOf joined tableauRecord rowPart tableauOf recordValid applyRecord composeRecord inverseRecord gateRecord recordName letterPlace letterIn lettersOf rowQuestion rowsQuestion
 readings-hold = all-of test holds readings tt

@@ -1,3 +1,4 @@
 pub mod WayBack
 pub mod Witnesses
+pub mod NamedGates
 pub mod Readings

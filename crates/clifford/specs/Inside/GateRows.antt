@@ -1,14 +1,14 @@
 -- The entries of the gates' tables and the rows made from them, as the functions on them promise one another.
 use Prim.Native.Nat.{ℕ, zero, suc, _+_, _≤_, _<_}
 use mathlib.Core.Path.{_≡_}
-use mathlib.Core.Bool.{Bool, cond, _&&_}
+use mathlib.Core.Bool.{Bool, _&&_}
 use mathlib.Core.List.{List, [], _∷_}
 use mathlib.Core.Logic.{_≢_}
 use lib.Dec.{eqb}
 use lib.ListN.{length, getD}
 use Rattle.pauli_group.specs.PauliString.{PauliString, mul, scale, single}
 use Rattle.clifford_gates.specs.Gates.{Image, oneQubitGates, PairImage, TwoQubit}
-use Rattle.clifford_gates.specs.GateNumbers.{isMinus, firstWith}
+use Rattle.clifford_gates.specs.GateNumbers.{firstWith}
 use Rattle.pauli.specs.Layout.{phaseByte, phaseOf, letterByte, letterOf}
 use Rattle.pauli.specs.declared.algebra.PhasedLetter.{PhasedLetter}
 use Rattle.clifford.specs.declared.gates.RowImage.{RowImage}
@@ -51,14 +51,6 @@ pub record EntryPlace (g k : ℕ) : Type 0 where
 -- the image that a phase byte and a letter byte hold
 unfoldable pub imageHeld : PhasedLetter → Image
 imageHeld p = record { phase = phaseOf (p .0); letter = letterOf (p .1) }
-
--- 1 for the phase -1, 0 for any other
-unfoldable pub minusByte : ℕ → ℕ
-minusByte p = cond (isMinus (phaseOf p)) 1 0
-
--- images of X and of Z in the form of an entry
-unfoldable pub signedBytes : PhasedLetter → PhasedLetter → List ℕ
-signedBytes x z = minusByte (x .0) ∷ x .1 ∷ minusByte (z .0) ∷ z .1 ∷ []
 
 unfoldable pub sameEntry : List ℕ → List ℕ → Bool
 sameEntry a b =

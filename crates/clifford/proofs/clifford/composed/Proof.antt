@@ -12,5 +12,4 @@ composed-spec =
     (λ c κs. search composed-names)
     (λ c κs. search composed-names)
     (λ c κs. search composed-names)
-    (λ c κs. search composed-names)
     (λ c. search composed-names))

@@ -14,5 +14,4 @@ name-of-spec =
     (λ c κs. search record-names)
     (λ c κs. search record-names)
     (λ c κs. search record-names)
-    (λ c κs. search record-names)
     (λ c. search record-names))
