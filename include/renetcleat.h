@@ -201,8 +201,8 @@ struct rc_reply rc_play(uint8_t *t, size_t t_len, uint8_t gate, size_t q0, size_
 struct rc_reply rc_gate_compose(uint8_t g, uint8_t h);
 /* The gate's inverse. */
 struct rc_reply rc_gate_inverse(uint8_t g);
-/* The first of the gates 0 to 23 whose images match those of a tableau of width 1, or RC_NO_GATE. A phase other than -1 counts as
- * +1, as in PECOS: a gate is named for 96 records of width 1, of which 24 are a gate's own tableau and the others are not valid. */
+/* The gate of 0 to 23 whose tableau on qubit 0 t is, byte for byte (rc_on_qubit(gate, 0, ..)), or RC_NO_GATE. A gate is named
+ * exactly when t has width 1 and is valid (rc_is_valid); PECOS names 72 records more, which have an imaginary phase. */
 struct rc_reply rc_from_clifford_rep(const uint8_t *t, size_t t_len);
 
 /* ---- gate lists */

@@ -1,6 +1,6 @@
 -- Gates found by their images, and the answers that name a gate.
 use mathlib.Core.Path.{_≡_, refl, sym, ap, ap₂, _∙_, fun-ext}
-use mathlib.Core.Bool.{Bool, true, false, cond, _&&_, and-true, and-false}
+use mathlib.Core.Bool.{Bool, true, false, cond, _&&_, and-true, and-assoc}
 use mathlib.Core.List.{List, [], _∷_}
 use Prim.Native.Nat.{ℕ, zero, suc, _+_, _-_, _≤_, _<_}
 use native.Mathlib.Nat.{not-suc-le-zero, le-of-suc-le-suc}
@@ -14,11 +14,13 @@ use Rattle.pauli_group.specs.Phase.{Phase, _·_}
 use Rattle.pauli_group.specs.Letter.{Letter}
 use Rattle.pauli_group.specs.PauliString.{PauliString}
 use Rattle.pauli_group.proofs.Finite.{letters, phases, bools, law2}
+use Rattle.clifford_group.specs.Tableau.{allTo}
+use Rattle.clifford_group.proofs.Valid.{all-each}
 use Rattle.clifford_gates.specs.Gates.{Image, OneQubit, oneQubit, oneQubitGates}
 use Rattle.clifford_gates.specs.GateTableaux.{unchanged}
 use Rattle.clifford_gates.specs.GateNumbers.{oneQubitGate, firstWith, composeGate}
 use Rattle.clifford_gates.specs.Updates.{letterImage, scaled, sentImage, composeImages}
-use Rattle.clifford_gates.proofs.GateTables.{same-image}
+use Rattle.clifford_gates.proofs.GateTables.{same-image, same-entry}
 use Rattle.clifford_gates.proofs.GateNames.{imagesOf, numberOf, name-one, name-none, compose-name}
 use Rattle.pauli.specs.declared.algebra.PhasedLetter.{PhasedLetter}
 use Rattle.pauli.specs.Layout.{phaseByte, phaseOf, letterByte, letterOf}
@@ -35,23 +37,28 @@ module _ (a b : List ℕ) where
   abbrev same : ℕ → Bool
   same k = eqb (getD a k 0) (getD b k 0)
 
-  pub letter-x-differs : (getD a 1 0 ≡ getD b 1 0 → ⊥) → false ≡ sameEntry a b
+  differs : (k : ℕ) → k < 4 → (getD a k 0 ≡ getD b k 0 → ⊥) → false ≡ sameEntry a b
   unfolding sameEntry
-  letter-x-differs h = sym (ap (λ x. (same 0 && x) && (same 2 && same 3)) (ne-eqb _ _ h) ∙ ap (λ x. x && (same 2 && same 3)) (and-false (same 0)))
+  differs k l h = by (allTo 4 same) refl
+    where
+      by : (t : Bool) → allTo 4 same ≡ t → false ≡ t
+      by true e = sym (ne-eqb _ _ h) ∙ all-each 4 same e k l
+      by false e = refl
+
+  pub letter-x-differs : (getD a 1 0 ≡ getD b 1 0 → ⊥) → false ≡ sameEntry a b
+  letter-x-differs = differs 1 (omega arith)
 
   pub letter-z-differs : (getD a 3 0 ≡ getD b 3 0 → ⊥) → false ≡ sameEntry a b
-  unfolding sameEntry
-  letter-z-differs h = sym (ap (λ x. (same 0 && same 1) && (same 2 && x)) (ne-eqb _ _ h) ∙ ap (λ x. (same 0 && same 1) && x) (and-false (same 2)) ∙ and-false (same 0 && same 1))
+  letter-z-differs = differs 3 (omega arith)
 
   pub phase-x-differs : (getD a 0 0 ≡ getD b 0 0 → ⊥) → false ≡ sameEntry a b
-  unfolding sameEntry
-  phase-x-differs h = sym (ap (λ x. (x && same 1) && (same 2 && same 3)) (ne-eqb _ _ h))
+  phase-x-differs = differs 0 (omega arith)
 
-  pub phase-z-decides : {r : Bool} → getD a 1 0 ≡ getD b 1 0 → getD a 3 0 ≡ getD b 3 0 → getD a 0 0 ≡ getD b 0 0 → r ≡ eqb (getD a 2 0) (getD b 2 0)
-      → r ≡ sameEntry a b
-  unfolding sameEntry
-  phase-z-decides h k l e =
-      e ∙ sym (ap₂ (λ x y. (x && y) && (same 2 && same 3)) (eq-eqb _ _ l) (eq-eqb _ _ h) ∙ ap (λ x. same 2 && x) (eq-eqb _ _ k) ∙ and-true (same 2))
+  pub phase-z-decides : {r : Bool} → getD a 1 0 ≡ getD b 1 0 → getD a 3 0 ≡ getD b 3 0 → getD a 0 0 ≡ getD b 0 0
+      → r ≡ eqb (getD a 2 0) (getD b 2 0) → r ≡ sameEntry a b
+  unfolding sameEntry allTo
+  phase-z-decides xl zl xp e =
+      e ∙ sym (ap₂ (λ x y. ((x && y) && same 2) && same 3) (eq-eqb _ _ xp) (eq-eqb _ _ xl) ∙ ap (λ x. same 2 && x) (eq-eqb _ _ zl) ∙ and-true (same 2))
 
 pub ruleset entries = (letter-x-differs, letter-z-differs, phase-x-differs, phase-z-decides, needs)
 
@@ -93,14 +100,18 @@ module _ {e : List ℕ} {g : ℕ} (n : NoneBefore e g) where
   pub gate-found : {a : List ℕ} {r : Bool} → g < 24 → a ≡ imageBytes (oneQubitGate g) → r ≡ sameEntry a e → r ≡ true → NameIs (firstEntry e) g
   unfolding firstEntry oneQubitGate
   gate-found {a} {r} h ea er t = record {
-    is = first-at (λ k. sameEntry (imageBytes k) e) oneQubitGates unchanged g (omega (arith, gates-count)) (n .none) (sym (ap (λ x. sameEntry x e) ea) ∙ sym er ∙ t);
+    is =
+        first-at (λ k. sameEntry (imageBytes k) e) oneQubitGates unchanged g (omega (arith, gates-count)) (n .none)
+        (sym (ap (λ x. sameEntry x e) ea) ∙ sym er ∙ t);
     small = omega arith;
   }
 
   pub none-found : 24 ≤ g → NameIs (firstEntry e) g
   unfolding firstEntry oneQubitGate
   none-found h = record {
-    is = let last : g ≡ length oneQubitGates = omega (arith, n .within, gates-count) in last ∙ first-none (λ k. sameEntry (imageBytes k) e) oneQubitGates unchanged (λ k l. n .none k (omega (arith, last)));
+    is =
+        let last : g ≡ length oneQubitGates = omega (arith, n .within, gates-count) in
+        last ∙ first-none (λ k. sameEntry (imageBytes k) e) oneQubitGates unchanged (λ k l. n .none k (omega (arith, last)));
     small = n .within;
   }
 
@@ -115,8 +126,13 @@ image-test i j =
 
 -- the first gate with the entry of these images
 first-named : (k : OneQubit) → firstEntry (imageBytes k) ≡ numberOf k
-unfolding firstEntry sameEntry imageBytes
-first-named k = ap (λ f. firstWith f oneQubitGates) (fun-ext (λ g. ap₂ _&&_ (image-test (g .x) (k .x)) (image-test (g .z) (k .z))))
+unfolding firstEntry
+first-named k = ap (λ f. firstWith f oneQubitGates) (fun-ext each)
+  where
+    each : (g : OneQubit) → sameEntry (imageBytes g) (imageBytes k) ≡ same-entry g k
+    each g = unfold sameEntry allTo imageBytes in
+        and-assoc (same (imageBytes g) (imageBytes k) 0 && same (imageBytes g) (imageBytes k) 1) _ _
+        ∙ ap₂ _&&_ (image-test (g .x) (k .x)) (image-test (g .z) (k .z))
 
 -- ---- the name of a record
 pub no-name : (t : List ℕ) {w : ℕ} → w ≡ widthOf t → (w ≡ 1 → ⊥) → NameIs (recordName t) 24
@@ -158,7 +174,9 @@ sent-made g i h e = record { phase = e ∙ ap (λ q. phaseByte (phaseOf (i .0) �
 
 held-image : (i : Image) (r : PhasedLetter) → ImageOf i r → imageHeld r ≡ i
 unfolding imageHeld
-held-image i r h = ap₂ (λ (p : Phase) (l : Letter). record { phase = p; letter = l }) (ap phaseOf (h .phase) ∙ phase-back (i .phase)) (ap letterOf (h .letter) ∙ letter-back (i .letter))
+held-image i r h =
+    ap₂ (λ (p : Phase) (l : Letter). record { phase = p; letter = l }) (ap phaseOf (h .phase) ∙ phase-back (i .phase))
+    (ap letterOf (h .letter) ∙ letter-back (i .letter))
 
 pub name-composed : {g h r : ℕ} {i j x z : PhasedLetter} → BothSmall g h
     → ImageOf (letterImage (oneQubitGate h) (letterOf 1)) i → ImageOf (letterImage (oneQubitGate h) (letterOf 2)) j

@@ -172,7 +172,12 @@ fn name_of(t: &[u8]) -> usize
     if width(t) != 1 {
         return 24;
     }
-    first_gate([phase_at(t, 0), letter_at(t, 0, 0), phase_at(t, 1), letter_at(t, 1, 0)])
+    first_gate([
+        phase_at(t, 0),
+        letter_at(t, 0, 0),
+        phase_at(t, 1),
+        letter_at(t, 1, 0),
+    ])
 }
 
 // The first of the 24 gates, by number, whose tableau on qubit 0 this is. None, unless it has width 1 and is valid.

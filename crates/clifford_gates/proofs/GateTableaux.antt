@@ -42,7 +42,8 @@ module _ (i j : Image) (q r : ℕ) (h : r < qubits) where
 pub images-together : (i j : Image) (q : ℕ) → q < qubits → commute (imageString i q) (imageString j q) ≡ not (anticommute (i .letter) (j .letter))
 images-together i j q h =
     commute-by (imageString i q) (imageString j q) (not (anticommute (i .letter) (j .letter)))
-    (sign-images i j q q h ∙ ap (λ l. sign (anticommute l (j .letter))) (single-at (i .letter) q) ∙ ap sign (sym (Bool·not-not (anticommute (i .letter) (j .letter)))))
+    (sign-images i j q q h ∙ ap (λ l. sign (anticommute l (j .letter))) (single-at (i .letter) q)
+    ∙ ap sign (sym (Bool·not-not (anticommute (i .letter) (j .letter)))))
 
 pub image-phase : (i : Image) (q : ℕ) → imageString i q .phase ≡ i .phase
 unfolding imageString scale single

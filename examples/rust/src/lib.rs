@@ -267,7 +267,8 @@ pub fn gate_inverse(g: u8) -> Answer {
     answer(unsafe { raw::rc_gate_inverse(g) })
 }
 
-/// The first of the gates 0 to 23 with this tableau, or [`NO_GATE`].
+/// The gate of 0 to 23 whose tableau on qubit 0 this is, byte for byte, or [`NO_GATE`]: a gate is named exactly when the tableau has
+/// width 1 and is valid.
 pub fn from_clifford_rep(t: &[u8]) -> Answer {
     answer(unsafe { raw::rc_from_clifford_rep(t.as_ptr(), t.len()) })
 }

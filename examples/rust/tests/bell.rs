@@ -103,6 +103,18 @@ fn a_refusal_has_its_number_and_writes_nothing() {
 }
 
 #[test]
+fn a_gate_is_named_by_its_own_tableau() {
+    let mut t = [0; tableau_length(1)];
+    for gate in 0..24 {
+        on_qubit(gate, 0, &mut t).unwrap();
+        assert_eq!(from_clifford_rep(&t), Ok(gate.into()));
+    }
+    let imaginary = [1, 2, 1, 0, 2];
+    assert_eq!(is_valid(&imaginary), Ok(0));
+    assert_eq!(from_clifford_rep(&imaginary), Ok(NO_GATE));
+}
+
+#[test]
 fn no_gate_is_an_answer() {
     let mut one = [0; 1];
     identity(0, &mut one).unwrap();

@@ -215,6 +215,10 @@ fn expected(call: &Call) -> Result<Expected, String> {
         // The Rust says no more than that it is bad syntax.
         (Answer::Syntax, Err(why)) if (9..=11).contains(&why.0) => Ok(refused(why, true)),
         (Answer::Outside, Err(why)) => Ok(refused(why, false)),
+        (Answer::Outside, Ok(0)) if model::value(call).is_some() => Ok(Expected {
+            by_rust: false,
+            ..accepted(model::value(call).unwrap_or_default(), Vec::new())
+        }),
         (said, model) => Err(format!(
             "the Rust says {}, the model {model:?}",
             write_answer(call, &said)

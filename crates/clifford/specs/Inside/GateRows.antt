@@ -1,12 +1,13 @@
 -- The entries of the gates' tables and the rows made from them, as the functions on them promise one another.
 use Prim.Native.Nat.{ℕ, zero, suc, _+_, _≤_, _<_}
 use mathlib.Core.Path.{_≡_}
-use mathlib.Core.Bool.{Bool, _&&_}
+use mathlib.Core.Bool.{Bool}
 use mathlib.Core.List.{List, [], _∷_}
 use mathlib.Core.Logic.{_≢_}
 use lib.Dec.{eqb}
 use lib.ListN.{length, getD}
 use Rattle.pauli_group.specs.PauliString.{PauliString, mul, scale, single}
+use Rattle.clifford_group.specs.Tableau.{allTo}
 use Rattle.clifford_gates.specs.Gates.{Image, oneQubitGates, PairImage, TwoQubit}
 use Rattle.clifford_gates.specs.GateNumbers.{firstWith}
 use Rattle.pauli.specs.Layout.{phaseByte, phaseOf, letterByte, letterOf}
@@ -52,9 +53,9 @@ pub record EntryPlace (g k : ℕ) : Type 0 where
 unfoldable pub imageHeld : PhasedLetter → Image
 imageHeld p = record { phase = phaseOf (p .0); letter = letterOf (p .1) }
 
+-- two entries are the same
 unfoldable pub sameEntry : List ℕ → List ℕ → Bool
-sameEntry a b =
-    (eqb (getD a 0 0) (getD b 0 0) && eqb (getD a 1 0) (getD b 1 0)) && (eqb (getD a 2 0) (getD b 2 0) && eqb (getD a 3 0) (getD b 3 0))
+sameEntry a b = allTo 4 (λ k. eqb (getD a k 0) (getD b k 0))
 
 -- the first gate with this entry
 unfoldable pub firstEntry : List ℕ → ℕ

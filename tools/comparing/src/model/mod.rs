@@ -7,6 +7,7 @@ mod text;
 pub use list::list;
 
 use oracle::driver::Call;
+use oracle::driver::gates::NO_GATE;
 
 pub const QUBITS: usize = 128;
 pub const STRING: usize = 129;
@@ -27,7 +28,7 @@ pub fn judge(call: &Call) -> Result<usize, Refusal> {
 }
 
 /// The answer's value, where the model knows it too: the number of places with two different letters other than I; the number of
-/// places without those at the end at which both strings have I.
+/// places without those at the end at which both strings have I; no gate, where the tableau has another width than 1 or is not valid.
 pub fn value(call: &Call) -> Option<u64> {
     let letters = || call.b1[1..].iter().zip(&call.b2[1..]);
     let places = match call.name.as_str() {
@@ -38,9 +39,15 @@ pub fn value(call: &Call) -> Option<u64> {
             let behind = letters().rev().take_while(|both| *both == (&0, &0));
             QUBITS - behind.count()
         }
+        "from_clifford_rep" if !valid_of_width_one(&call.b1) => return Some(NO_GATE),
         _ => return None,
     };
     Some(places as u64)
+}
+
+/// Real phases, and two different letters other than I.
+fn valid_of_width_one(record: &[u8]) -> bool {
+    matches!(record, [1, 0 | 1, x, 0 | 1, z] if x != z && *x > 0 && *z > 0)
 }
 
 fn ask(yes: bool, number: u64, detail: u64) -> Questions {

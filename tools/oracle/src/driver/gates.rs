@@ -8,6 +8,7 @@ use crate::clifford_rep::CliffordRep;
 
 pub const ONE_QUBIT_GATES: usize = 24;
 pub const GATES: usize = 38;
+pub const NO_GATE: u64 = 255;
 
 /// The gate of a number below the limit: the number is the Rust's own.
 pub fn gate_of(number: u64, limit: usize) -> Option<Clifford> {
@@ -63,9 +64,14 @@ fn compose(call: &Call) -> Option<Answer> {
     Some(of_gate(left.compose(gate_of(call.n[1], ONE_QUBIT_GATES)?)))
 }
 
+/// Compared over valid tableaux. At other widths than 1 there is no name either way, and the Rust's `is_valid` takes long.
 fn from_clifford_rep(call: &Call) -> Option<Answer> {
-    let found = Clifford::from_clifford_rep(&read_tableau(&call.b1)?);
-    Some(found.map_or(Answer::Value(255), of_gate))
+    let tableau = read_tableau(&call.b1)?;
+    if tableau.num_qubits() == 1 && !tableau.is_valid() {
+        return None;
+    }
+    let found = Clifford::from_clifford_rep(&tableau);
+    Some(found.map_or(Answer::Value(NO_GATE), of_gate))
 }
 
 /// Outer nothing: no name of this file. Inner nothing: outside the compared domain.

@@ -3,10 +3,12 @@
 use super::Book;
 use super::inputs::{Random, one_qubit_tableaux};
 use crate::clifford::Clifford;
+use crate::driver::answer::Answer;
+use crate::driver::gates::NO_GATE;
 use crate::driver::line::Call;
 
 pub fn fill(book: &mut Book) {
-    book.comment("Made by `oracle vectors gates`: every answer is the Rust's.");
+    book.comment("Made by `oracle vectors gates`: every answer is the Rust's, but for tableaux of width 1 that are not valid, which have no gate.");
     by_number(book);
     one_qubit(book);
     two_qubits(book);
@@ -53,7 +55,10 @@ fn two_qubits(book: &mut Book) {
 fn naming(book: &mut Book, random: &mut Random) {
     book.comment("The gate of every record of width 1, and of some other widths, which have none.");
     for record in one_qubit_tableaux() {
-        book.add(Call::new("from_clifford_rep").b1(&record));
+        book.add_or_due(
+            &Call::new("from_clifford_rep").b1(&record),
+            &Answer::Value(NO_GATE),
+        );
     }
     for width in [0, 2, 3, 7] {
         book.add(Call::new("from_clifford_rep").b1(&random.any_tableau(width)));

@@ -54,6 +54,14 @@ impl Book {
         }
     }
 
+    /// A call that has this answer where the Rust has nothing to say.
+    pub fn add_or_due(&mut self, call: &Call, due: &Answer) {
+        match answer(call).expect("a known name") {
+            Answer::Outside => self.write(call, due),
+            said => self.write(call, &said),
+        }
+    }
+
     /// A call that the scope document refuses with this number and detail; the Rust has no such answer.
     pub fn add_refused(&mut self, call: &Call, number: u64, detail: u64) {
         self.write(call, &Answer::Refused(number, detail));
