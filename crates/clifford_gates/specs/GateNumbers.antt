@@ -58,8 +58,8 @@ unfoldable pub firstWith : {A : Type 0} → (A → Bool) → List A → ℕ
 firstWith f [] = 0
 firstWith f (a ∷ rest) = cond (f a) 0 (suc (firstWith f rest))
 
--- the first of the 24 gates, by number, whose tableau on qubit 0 this is, or 24, which is none: "Width other than 1 gives none", and
--- so does a tableau that is not valid
+-- "the first of the 24 gates, by number, whose images match, or none": the gate whose tableau on qubit 0 this is; none is 24. "Width
+-- other than 1 gives none."
 unfoldable pub nameOf : Tableau → ℕ
 nameOf t = cond (eqb (t .width) 1) (firstWith (matches t) oneQubitGates) 24
 

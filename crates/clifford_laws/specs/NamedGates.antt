@@ -1,5 +1,5 @@
--- What is claimed of `from_clifford_rep` (later request A.2): "a gate is named exactly when the tableau has width 1 and is valid;
--- otherwise the answer is none".
+-- What is claimed of `from_clifford_rep`: "a gate is named exactly when the tableau has width 1 and is valid; otherwise the answer is
+-- none" (change requests).
 use Prim.Native.Nat.{ℕ, _<_}
 use mathlib.Core.Path.{_≡_}
 use mathlib.Core.Bool.{cond, _&&_}

@@ -79,5 +79,5 @@ readings =
     reading (valid (0 ∷ [])) (0 ∷ 1 ∷ []) ∷  -- width 0 is valid
     reading (valid (imagesRecord (plus X) (plus X))) (0 ∷ 0 ∷ []) ∷  -- X to X, Z to X is not
     reading (valid (imagesRecord (plusI X) (plus Z))) (0 ∷ 0 ∷ []) ∷  -- X to +iX, Z to Z is not valid
-    reading (named (imagesRecord (plusI X) (plus Z))) (0 ∷ 255 ∷ []) ∷  -- and has no name, by the later request A.2
+    reading (named (imagesRecord (plusI X) (plus Z))) (0 ∷ 255 ∷ []) ∷  -- and by the change requests it has no name
     []
