@@ -55,6 +55,6 @@ widthGateRecord n g q r = tableauRecord (widen n (gateTableau g q r))
 unfoldable pub singleQubitCliffordRecord : ℕ → ℕ → List ℕ
 singleQubitCliffordRecord k q = tableauRecord (singleQubitClifford k q)
 
--- the number of the gate that a record is, or 24
+-- the gate of 0 to 23 whose tableau on qubit 0 a record is, or 24
 unfoldable pub recordName : List ℕ → ℕ
 recordName t = nameOf (tableauOf t)
