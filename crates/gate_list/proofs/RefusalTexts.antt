@@ -1,5 +1,5 @@
 -- The text of a refusal, written part by part.
-use mathlib.Core.Path.{_≡_, sym, ap, ap₂, _∙_}
+use mathlib.Core.Path.{_≡_, ap, ap₂}
 use mathlib.Core.List.{List, [], _∷_, _++_}
 use Prim.Native.Nat.{ℕ, _+_, _^_, _<_, _≤_}
 use native.Mathlib.Omega.{arith}
@@ -7,18 +7,11 @@ use lib.ListN.{length, length-append}
 use borrow.Author.Needs.{needs}
 use Rattle.pauli.specs.declared.refusal.Refusal.{Refusal}
 use Rattle.pauli.specs.declared.refusal.Refusal.the-variants.{Width, Length, BadByte, Gate, Qubit, SameQubit, Room, NotAscii, NotLetter, NoIndex, NotNumeral, Duplicate, TextQubit, ImageWidth, Slot, ListLength, ListRecord, StepGate, StepQubit, StepSameQubit, Link, Loop}
-use Rattle.pauli.specs.declared.refusal.Outcome.{Outcome}
-use Rattle.pauli.specs.declared.refusal.Outcome.the-variants.{Done, Refused}
-use Rattle.pauli.specs.declared.refusal.CountAnswer.the-variants.{Count, NoCount}
-use Rattle.pauli.specs.Answers.{refusalNumber, refusalDetail, CountWritten}
-use Rattle.pauli.specs.Questions.{roomQuestion}
+use Rattle.pauli.specs.Answers.{refusalNumber, refusalDetail}
 use Rattle.pauli.specs.SparseText.{decimal}
 use Rattle.pauli.specs.TextWriting.{Stored}
 use Rattle.pauli.specs.Inside.TextWriting.{TextWritten}
-use Rattle.pauli.proofs.Answers.{count-done, count-not}
-use Rattle.pauli.proofs.Asking.{room-is}
 use Rattle.pauli.proofs.Decimals.{decimal-most}
-use Rattle.pauli.proofs.StringTexts.{copied-whole, text-same}
 use Rattle.pauli.proofs.TextWrites.{stored-join, stored-as, stored-same, whole-text}
 use Rattle.clifford.specs.Display.{newline}
 use Rattle.gate_list.specs.Reports.{refusedText, atText, refusalText}
@@ -73,17 +66,3 @@ refusal-made r {m = m} en em fits x y z u v =
     (stored-join x (stored-join y (stored-join z (stored-join u v)))))
 
 pub ruleset refusal-texts = (refusal-made, stored-same, needs)
-
--- ---- where there is room for it
-module _ {w : List ℕ} {k : ℕ} {q : Outcome} (ek : k ≡ length w) where
-  pub text-reported : {d e : List ℕ} {n : ℕ} → q ≡ roomQuestion k (length d) → q ≡ Done → TextWritten w d e n
-      → CountWritten (roomQuestion (length w) (length d)) w d e (Count n)
-  text-reported {d} eq h t =
-      let asked = eq ∙ ap (λ (j : ℕ). roomQuestion j (length d)) ek in
-      count-done asked h (t .count) (t .bytes ∙ copied-whole w d (room-is (length w) (length d) (sym asked ∙ h)))
-
-  pub text-refused : {d : List ℕ} {x : Refusal} → q ≡ roomQuestion k (length d) → q ≡ Refused x
-      → CountWritten (roomQuestion (length w) (length d)) w d d (NoCount x)
-  text-refused {d} eq h = count-not w d (eq ∙ ap (λ (j : ℕ). roomQuestion j (length d)) ek) h
-
-pub ruleset text-reports = (text-reported, text-refused, text-same, needs)

@@ -23,6 +23,7 @@ pub mod Decimals
 pub mod TextWrites
 pub mod SparseTexts
 pub mod StringTexts
+pub mod TextAnswers
 pub mod Words
 pub mod LetterEntries
 pub mod WrittenWords

@@ -1,5 +1,5 @@
 -- `reporting::report_refusal` meets its contract.
-use Rattle.gate_list.proofs.RefusalTexts.{text-reports}
+use Rattle.pauli.proofs.TextAnswers.{text-answers}
 use Rattle.gate_list.proofs.reporting.report_refusal.Statement.{statement}
 use Rattle.gate_list.proofs.reporting.report_refusal.Tie as tie
 
@@ -7,6 +7,6 @@ pub report-refusal-spec : {M : Type 1} → statement M
 report-refusal-spec =
     tie.close
     (tie.spec
-    (λ c. search text-reports) (λ c. search text-reports) (λ c. search text-reports)
-    (λ c. search text-reports) (λ c. search text-reports) (λ c. search text-reports)
-    (λ c. search text-reports) (λ c. search text-reports))
+    (λ c. search text-answers) (λ c. search text-answers) (λ c. search text-answers)
+    (λ c. search text-answers) (λ c. search text-answers) (λ c. search text-answers)
+    (λ c. search text-answers) (λ c. search text-answers))

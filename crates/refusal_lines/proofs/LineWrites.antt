@@ -1,0 +1,132 @@
+-- The line of a refusal, written part by part.
+use mathlib.Core.Path.{_≡_, refl, sym, ap, ap₂, _∙_}
+use mathlib.Core.Bool.{Bool, true, false, cond, not, _&&_, _||_, and-false}
+use mathlib.Core.List.{List, [], _∷_, _++_}
+use Prim.Native.Nat.{ℕ, suc, _^_, _<_, _≤_}
+use native.Mathlib.Omega.{arith}
+use lib.Dec.{eqb, leb}
+use lib.ListN.{length}
+use mir.Syntax.{w64}
+use mir.Val.{Fits}
+use borrow.Author.Needs.{needs}
+use borrow.Author.Tests.{not-true, not-false, le-leb, lt-leb, ne-eqb}
+use Rattle.pauli.specs.QuotedText.{bytesOf}
+use Rattle.pauli.specs.SparseText.{decimal}
+use Rattle.pauli.specs.TextWriting.{Stored}
+use Rattle.pauli.specs.Inside.TextWriting.{TextWritten}
+use Rattle.pauli.proofs.TextWrites.{stored-none, stored-join, stored-as, stored-same, whole-text}
+use Rattle.refusal_wording.specs.RefusalLines.{Sentence, sentences, sentenceAmong, sentence, between, hasDetail, detailText, isWidthError, widthErrorText, wording, refusalLine}
+use Rattle.refusal_wording.proofs.LineText.{line-most}
+
+-- ---- a sentence: the one that the arm's number has, and "unknown" where no arm has it
+-- what is known after arms for the sentences of a table
+abbrev pub NoneOf : Type 0 → List Sentence → ℕ → Type 0
+NoneOf known [] n = known
+NoneOf known (s ∷ rest) n = NoneOf (known × (n ≡ s .number → ⊥)) rest n
+
+none-known : {A : Type 0} (t : List Sentence) (n : ℕ) → NoneOf A t n → A × (sentenceAmong t n ≡ bytesOf "unknown")
+unfolding sentenceAmong
+none-known [] n h = (h, refl)
+none-known (s ∷ rest) n h =
+    let after = none-known rest n h in
+    (after .0 .0, ap (λ b. cond b (bytesOf (s .text)) (sentenceAmong rest n)) (ne-eqb n (s .number) (after .0 .1)) ∙ after .1)
+
+module _ {d e : List ℕ} {k r : ℕ} where
+  pub sentence-arm : {w : List ℕ} {n m : ℕ} → Stored k w d e r → n ≡ m → w ≡ sentence m → Stored k (sentence n) d e r
+  sentence-arm a h l = stored-as (l ∙ ap sentence (sym h)) a
+
+  pub sentence-unknown : (n : ℕ) → NoneOf (Unit {0}) sentences n → Stored k (bytesOf "unknown") d e r → Stored k (sentence n) d e r
+  unfolding sentence
+  sentence-unknown n h a = stored-as (sym (none-known sentences n h .1)) a
+
+pub ruleset sentence-arms = (sentence-arm, sentence-unknown, stored-same, needs)
+
+-- ---- whether a detail has a meaning: inside one of the ranges, and outside all
+module _ (n : ℕ) where
+  inside : (low high : ℕ) → low ≤ n → n < suc high → between low high n ≡ true
+  inside low high h k = ap₂ (λ x y. x && y) (le-leb low n h) (le-leb n high (omega arith))
+
+  below : (low high : ℕ) → n < low → between low high n ≡ false
+  below low high h = ap (λ x. x && leb n high) (lt-leb low n h)
+
+  above : (low high : ℕ) → suc high ≤ n → between low high n ≡ false
+  above low high h = ap (λ x. leb low n && x) (lt-leb n high h) ∙ and-false (leb low n)
+
+  by-ranges : {a b c : Bool} → between 3 6 n ≡ a → between 8 15 n ≡ b → between 17 19 n ≡ c → ((a || b) || c) ≡ hasDetail n
+  unfolding hasDetail
+  by-ranges p q r = sym (λ i. (p i || q i) || r i)
+
+  pub detail-low : n < 3 → false ≡ hasDetail n
+  detail-low h = by-ranges (below 3 6 h) (below 8 15 (omega arith)) (below 17 19 (omega arith))
+
+  pub detail-first : 3 ≤ n → n < 7 → true ≡ hasDetail n
+  detail-first h k = by-ranges (inside 3 6 h k) (below 8 15 (omega arith)) (below 17 19 (omega arith))
+
+  pub detail-room : 7 ≤ n → n < 8 → false ≡ hasDetail n
+  detail-room h k = by-ranges (above 3 6 h) (below 8 15 k) (below 17 19 (omega arith))
+
+  pub detail-second : 8 ≤ n → n < 16 → true ≡ hasDetail n
+  detail-second h k = by-ranges (above 3 6 (omega arith)) (inside 8 15 h k) (below 17 19 (omega arith))
+
+  pub detail-list : 16 ≤ n → n < 17 → false ≡ hasDetail n
+  detail-list h k = by-ranges (above 3 6 (omega arith)) (above 8 15 h) (below 17 19 k)
+
+  pub detail-third : 17 ≤ n → n < 20 → true ≡ hasDetail n
+  detail-third h k = by-ranges (above 3 6 (omega arith)) (above 8 15 (omega arith)) (inside 17 19 h k)
+
+  pub detail-high : 20 ≤ n → false ≡ hasDetail n
+  detail-high h = by-ranges (above 3 6 (omega arith)) (above 8 15 (omega arith)) (above 17 19 h)
+
+pub ruleset meanings = (detail-low, detail-first, detail-room, detail-second, detail-list, detail-third, detail-high, needs)
+
+-- ---- the detail
+module _ {d : List ℕ} {k : ℕ} {b : Bool} (n m : ℕ) (e : b ≡ hasDetail n) where
+  pub detail-none : Fits w64 k → not b ≡ true → Stored k (detailText n m) d d k
+  unfolding detailText
+  detail-none i h = stored-as (sym (ap (λ x. cond x (bytesOf " " ++ decimal m) []) (sym e ∙ not-true b h))) (stored-none i)
+
+  pub detail-some : {f g : List ℕ} {j r : ℕ} → not b ≡ false → Stored k (bytesOf " ") d f j → Stored j (decimal m) f g r → Stored k (detailText n m) d g r
+  unfolding detailText
+  detail-some h x y = stored-as (sym (ap (λ z. cond z (bytesOf " " ++ decimal m) []) (sym e ∙ not-false b h))) (stored-join x y)
+
+pub ruleset details = (detail-none, detail-some, stored-same, needs)
+
+-- ---- the wording of 14 and 15, and of the others
+pub error-made : {a b c d e f : List ℕ} {k l p q s r : ℕ} (m w : ℕ) → Stored k (bytesOf "qubit ") a b l → Stored l (decimal m) b c p
+    → Stored p (bytesOf " is outside num_qubits ") c d q → Stored q (decimal w) d e s
+    → Stored s (bytesOf "; pass a width greater than the maximum qubit index (max qubit + 1)") e f r → Stored k (widthErrorText m w) a f r
+unfolding widthErrorText
+error-made m w x y z u v = stored-join x (stored-join y (stored-join z (stored-join u v)))
+
+pub ruleset errors = (error-made, stored-same, needs)
+
+module _ (n : ℕ) where
+  pub error-below : n < 14 → false ≡ isWidthError n
+  error-below h = sym (below n 14 15 h)
+
+  pub error-here : 14 ≤ n → n < 16 → true ≡ isWidthError n
+  error-here h k = sym (inside n 14 15 h k)
+
+  pub error-above : 16 ≤ n → false ≡ isWidthError n
+  error-above h = sym (above n 14 15 h)
+
+pub ruleset error-numbers = (error-below, error-here, error-above, needs)
+
+module _ {b : Bool} {d : List ℕ} {k : ℕ} (n m w : ℕ) (e : b ≡ isWidthError n) where
+  pub wording-error : {f : List ℕ} {r : ℕ} → b ≡ true → Stored k (widthErrorText m w) d f r → Stored k (wording n m w) d f r
+  unfolding wording
+  wording-error h a = stored-as (sym (ap (λ x. cond x (widthErrorText m w) (sentence n ++ detailText n m)) (sym e ∙ h))) a
+
+  pub wording-sentence : {f g : List ℕ} {j r : ℕ} → b ≡ false → Stored k (sentence n) d f j → Stored j (detailText n m) f g r → Stored k (wording n m w) d g r
+  unfolding wording
+  wording-sentence h x y = stored-as (sym (ap (λ z. cond z (widthErrorText m w) (sentence n ++ detailText n m)) (sym e ∙ h))) (stored-join x y)
+
+pub ruleset wordings = (wording-error, wording-sentence, stored-same, needs)
+
+-- ---- the whole line
+pub line-made : {d e f g : List ℕ} {k j r : ℕ} {n m w : ℕ} → n < 2 ^ 64 → m < 2 ^ 64 → w < 2 ^ 64 → Stored 0 (decimal n) d e k → Stored k (bytesOf ": ") e f j
+    → Stored j (wording n m w) f g r → TextWritten (refusalLine n m w) d g r
+unfolding refusalLine
+line-made hn hm hw x y z = whole-text (omega (arith, line-most hn hm hw)) (stored-join x (stored-join y z))
+
+pub ruleset lines = (line-made, stored-same, needs)

@@ -1,0 +1,6 @@
+pub mod DecimalLaws
+pub mod SentenceLaws
+pub mod LineText
+pub mod LineTells
+pub mod RefusalsTold
+pub mod LineReadings

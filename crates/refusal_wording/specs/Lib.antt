@@ -1,0 +1,3 @@
+pub mod RefusalLines
+pub mod LineLaws
+pub mod LineReadings
