@@ -2,10 +2,10 @@
 use mathlib.Core.Path.{_≡_, refl, sym, ap, ap₂, _∙_}
 use mathlib.Core.Bool.{Bool, true, false, cond, not, _&&_, _||_, and-false}
 use mathlib.Core.List.{List, [], _∷_, _++_}
-use Prim.Native.Nat.{ℕ, suc, _^_, _<_, _≤_}
+use Prim.Native.Nat.{ℕ, zero, suc, _^_, _<_, _≤_}
 use native.Mathlib.Omega.{arith}
 use lib.Dec.{eqb, leb}
-use lib.ListN.{length}
+use lib.ListN.{take, drop}
 use mir.Syntax.{w64}
 use mir.Val.{Fits}
 use borrow.Author.Needs.{needs}
@@ -17,29 +17,44 @@ use Rattle.pauli.specs.Inside.TextWriting.{TextWritten}
 use Rattle.pauli.proofs.TextWrites.{stored-none, stored-join, stored-as, stored-same, whole-text}
 use Rattle.refusal_wording.specs.RefusalLines.{Sentence, sentences, sentenceAmong, sentence, between, hasDetail, detailText, isWidthError, widthErrorText, wording, refusalLine}
 use Rattle.refusal_wording.proofs.LineText.{line-most}
+use Rattle.refusal_lines.specs.Inside.Sentences.{sentenceFrom}
 
--- ---- a sentence: the one that the arm's number has, and "unknown" where no arm has it
+-- ---- a sentence: that of the arm's number, and where no arm has it, that of the table's rest
 -- what is known after arms for the sentences of a table
 abbrev pub NoneOf : Type 0 → List Sentence → ℕ → Type 0
 NoneOf known [] n = known
 NoneOf known (s ∷ rest) n = NoneOf (known × (n ≡ s .number → ⊥)) rest n
 
-none-known : {A : Type 0} (t : List Sentence) (n : ℕ) → NoneOf A t n → A × (sentenceAmong t n ≡ bytesOf "unknown")
+none-of : {A : Type 0} (j : ℕ) (t : List Sentence) (n : ℕ) → NoneOf A (take j t) n → A × (sentenceAmong t n ≡ sentenceAmong (drop j t) n)
 unfolding sentenceAmong
-none-known [] n h = (h, refl)
-none-known (s ∷ rest) n h =
-    let after = none-known rest n h in
+none-of zero t n h = (h, refl)
+none-of (suc j) [] n h = (h, refl)
+none-of (suc j) (s ∷ rest) n h =
+    let after = none-of j rest n h in
     (after .0 .0, ap (λ b. cond b (bytesOf (s .text)) (sentenceAmong rest n)) (ne-eqb n (s .number) (after .0 .1)) ∙ after .1)
 
 module _ {d e : List ℕ} {k r : ℕ} where
-  pub sentence-arm : {w : List ℕ} {n m : ℕ} → Stored k w d e r → n ≡ m → w ≡ sentence m → Stored k (sentence n) d e r
-  sentence-arm a h l = stored-as (l ∙ ap sentence (sym h)) a
+  pub sentence-arm : {w : List ℕ} {n m : ℕ} (i : ℕ) → Stored k w d e r → n ≡ m → w ≡ sentenceFrom i m → Stored k (sentenceFrom i n) d e r
+  sentence-arm i a h l = stored-as (l ∙ ap (sentenceFrom i) (sym h)) a
 
-  pub sentence-unknown : (n : ℕ) → NoneOf (Unit {0}) sentences n → Stored k (bytesOf "unknown") d e r → Stored k (sentence n) d e r
-  unfolding sentence
-  sentence-unknown n h a = stored-as (sym (none-known sentences n h .1)) a
+  sentence-next : (i j n : ℕ) → NoneOf (Unit {0}) (take j (drop i sentences)) n → Stored k (sentenceAmong (drop j (drop i sentences)) n) d e r
+      → Stored k (sentenceFrom i n) d e r
+  unfolding sentenceFrom
+  sentence-next i j n h a = stored-as (sym (none-of j (drop i sentences) n h .1)) a
 
-pub ruleset sentence-arms = (sentence-arm, sentence-unknown, stored-same, needs)
+  pub text-next : (n : ℕ) → NoneOf (Unit {0}) (take 7 sentences) n → Stored k (sentenceFrom 7 n) d e r → Stored k (sentenceFrom 0 n) d e r
+  unfolding sentenceFrom
+  text-next n h a = sentence-next 0 7 n h a
+
+  pub list-next : (n : ℕ) → NoneOf (Unit {0}) (take 6 (drop 7 sentences)) n → Stored k (sentenceFrom 13 n) d e r → Stored k (sentenceFrom 7 n) d e r
+  unfolding sentenceFrom sentences
+  list-next n h a = sentence-next 7 6 n h a
+
+  pub sentence-unknown : (n : ℕ) → NoneOf (Unit {0}) (drop 13 sentences) n → Stored k (bytesOf "unknown") d e r → Stored k (sentenceFrom 13 n) d e r
+  unfolding sentenceFrom sentences sentenceAmong
+  sentence-unknown n h a = sentence-next 13 4 n h a
+
+pub ruleset sentence-arms = (sentence-arm, text-next, list-next, sentence-unknown, stored-same, needs)
 
 -- ---- whether a detail has a meaning: inside one of the ranges, and outside all
 module _ (n : ℕ) where
@@ -117,8 +132,8 @@ module _ {b : Bool} {d : List ℕ} {k : ℕ} (n m w : ℕ) (e : b ≡ isWidthErr
   unfolding wording
   wording-error h a = stored-as (sym (ap (λ x. cond x (widthErrorText m w) (sentence n ++ detailText n m)) (sym e ∙ h))) a
 
-  pub wording-sentence : {f g : List ℕ} {j r : ℕ} → b ≡ false → Stored k (sentence n) d f j → Stored j (detailText n m) f g r → Stored k (wording n m w) d g r
-  unfolding wording
+  pub wording-sentence : {f g : List ℕ} {j r : ℕ} → b ≡ false → Stored k (sentenceFrom 0 n) d f j → Stored j (detailText n m) f g r → Stored k (wording n m w) d g r
+  unfolding wording sentence sentenceFrom
   wording-sentence h x y = stored-as (sym (ap (λ z. cond z (widthErrorText m w) (sentence n ++ detailText n m)) (sym e ∙ h))) (stored-join x y)
 
 pub ruleset wordings = (wording-error, wording-sentence, stored-same, needs)

@@ -4,7 +4,8 @@ ghost use mathlib.Core.Path.{_≡_};
 ghost use lib.ListN.{length};
 ghost use Rattle.pauli.specs.TextWriting.{Stored};
 ghost use Rattle.pauli.specs.Inside.TextWriting.{TextWritten};
-ghost use Rattle.refusal_wording.specs.RefusalLines.{sentence, hasDetail, detailText, isWidthError, widthErrorText, wording, refusalLine};
+ghost use Rattle.refusal_wording.specs.RefusalLines.{hasDetail, detailText, isWidthError, widthErrorText, wording, refusalLine};
+ghost use Rattle.refusal_lines.specs.Inside.Sentences.{sentenceFrom};
 ghost use Rattle.refusal_lines.specs.Promises.{LineWritten};
 use pauli::questions::check_room;
 use pauli::refusal::CountAnswer;
@@ -12,9 +13,41 @@ use pauli::refusal::Outcome;
 use pauli::text_writer::put_decimal;
 use pauli::text_writer::put_text;
 
-// The sentence of a number other than 14 and 15.
+// The sentence of a number, of those from the first of lists on. A function holds a few: its check grows faster than its text.
+fn put_list_sentence(dst: &mut [u8], at: usize, number: u64) -> usize
+    ensures { λ r. ⌜ Stored at (sentenceFrom 13 number) (now (dst .entry)) (now (dst .exit)) r ⌝ }
+{
+    match number {
+        16 => put_text(dst, at, b"the list has a wrong length"),
+        17 => put_text(dst, at, b"wrong head or fixed zero, list record"),
+        18 => put_text(dst, at, b"the next index is outside the list, list record"),
+        19 => put_text(
+            dst,
+            at,
+            b"the chain does not end; it comes back to list record",
+        ),
+        _ => put_text(dst, at, b"unknown"),
+    }
+}
+
+// Of those from the first of text on.
+fn put_text_sentence(dst: &mut [u8], at: usize, number: u64) -> usize
+    ensures { λ r. ⌜ Stored at (sentenceFrom 7 number) (now (dst .entry)) (now (dst .exit)) r ⌝ }
+{
+    match number {
+        8 => put_text(dst, at, b"not an ASCII byte, at offset"),
+        9 => put_text(dst, at, b"not a known letter, at offset"),
+        10 => put_text(dst, at, b"a letter without an index, at offset"),
+        11 => put_text(dst, at, b"the index is not a number in range, at offset"),
+        12 => put_text(dst, at, b"named more than once, qubit"),
+        13 => put_text(dst, at, b"the qubit of a letter is too high, at offset"),
+        _ => put_list_sentence(dst, at, number),
+    }
+}
+
+// Of all.
 fn put_sentence(dst: &mut [u8], at: usize, number: u64) -> usize
-    ensures { λ r. ⌜ Stored at (sentence number) (now (dst .entry)) (now (dst .exit)) r ⌝ }
+    ensures { λ r. ⌜ Stored at (sentenceFrom 0 number) (now (dst .entry)) (now (dst .exit)) r ⌝ }
 {
     match number {
         1 => put_text(dst, at, b"the width is not allowed"),
@@ -32,21 +65,7 @@ fn put_sentence(dst: &mut [u8], at: usize, number: u64) -> usize
             b"the two qubits are the same; the qubit (in a list, the record):",
         ),
         7 => put_text(dst, at, b"the destination is too short"),
-        8 => put_text(dst, at, b"not an ASCII byte, at offset"),
-        9 => put_text(dst, at, b"not a known letter, at offset"),
-        10 => put_text(dst, at, b"a letter without an index, at offset"),
-        11 => put_text(dst, at, b"the index is not a number in range, at offset"),
-        12 => put_text(dst, at, b"named more than once, qubit"),
-        13 => put_text(dst, at, b"the qubit of a letter is too high, at offset"),
-        16 => put_text(dst, at, b"the list has a wrong length"),
-        17 => put_text(dst, at, b"wrong head or fixed zero, list record"),
-        18 => put_text(dst, at, b"the next index is outside the list, list record"),
-        19 => put_text(
-            dst,
-            at,
-            b"the chain does not end; it comes back to list record",
-        ),
-        _ => put_text(dst, at, b"unknown"),
+        _ => put_text_sentence(dst, at, number),
     }
 }
 

@@ -7,6 +7,7 @@ ghost use Rattle.clifford.specs.GateAnswers.{gateReply};
 ghost use Rattle.clifford.specs.Promises.{IdentityWritten, XImageAt, ZImageAt, XImageSet, ZImageSet, Applied, Composed, Extended, Inverted, ValidityTold, SupportWritten, FromPauliString, Displayed, SingleQubitCliffordWritten, GateWritten, OneQubitGateWritten, GatesComposed, GateInverted, GateNamed};
 ghost use Rattle.gate_play.specs.Promises.{Played};
 ghost use Rattle.gate_list.specs.Promises.{ListRun, Reported};
+ghost use Rattle.refusal_lines.specs.Promises.{LineWritten};
 ghost use Rattle.renetcleat.specs.Replies.{Replied};
 use clifford::clifford as gates;
 use clifford::clifford_rep;
@@ -270,4 +271,13 @@ pub extern "C" fn rc_report(list: &[u8], out: &mut [u8]) -> Reply
     ensures { λ r. ⌜ Replied countReply (Reported (now (list .entry)) (now (out .entry)) (now (out .exit))) r ⌝ }
 {
     refusal::count_reply(lists::report(list, out))
+}
+
+// ---- refusals, for people
+
+#[no_mangle]
+pub extern "C" fn rc_refusal_line(number: u64, detail: u64, width: u64, dst: &mut [u8]) -> Reply
+    ensures { λ r. ⌜ Replied countReply (LineWritten number detail width (now (dst .entry)) (now (dst .exit))) r ⌝ }
+{
+    refusal::count_reply(refusal_lines::refusal_line(number, detail, width, dst))
 }
