@@ -1,9 +1,10 @@
-// Replays vectors from standard input on the functions of `pauli`. From `run_in` on the program is
-// that of `replay_sample`.
+// Replays vectors from standard input on the functions of `pauli`, and on the lines of refusals. From `run_in` on the program is that
+// of `replay_sample`.
 use pauli::algebra;
 use pauli::pauli_string;
 use pauli::quarter_phase;
 use pauli::refusal;
+use refusal_lines::refusal_line;
 use vectors::Byte;
 use vectors::Case;
 use vectors::Outcome;
@@ -83,6 +84,9 @@ fn call(line: &[u8], case: Case, a: &[u8], b: &[u8], d: &mut [u8]) -> Reply {
     }
     if vectors::is_named(line, b"from_str") {
         return told(refusal::outcome_reply(pauli_string::from_str(a, d)));
+    }
+    if vectors::is_named(line, b"refusal_line") {
+        return told(refusal::count_reply(refusal_line(case.n1, case.n2, case.n3, d)));
     }
     if vectors::is_named(line, b"to_sparse_str") {
         return told(refusal::count_reply(pauli_string::to_sparse_str(a, d)));

@@ -5,7 +5,7 @@ use oracle::vectors::vectors;
 use std::io::{self, BufRead, Write};
 use std::process::ExitCode;
 
-const USAGE: &str = "usage: oracle answer | oracle check | oracle vectors (pauli | text | tableaux | gates | lists | way_back)";
+const USAGE: &str = "usage: oracle answer | oracle check | oracle vectors (pauli | text | refusals | tableaux | gates | lists | way_back)";
 
 /// Calls on standard input, answered on standard output.
 fn answer_all() -> Result<(), String> {

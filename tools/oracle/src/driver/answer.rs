@@ -1,7 +1,7 @@
 //! From a call to its answer, and from a line to its answered line.
 
 use super::line::{Call, write_bytes};
-use super::{gates, list, strings, tableaux, text};
+use super::{gates, list, refusals, strings, tableaux, text};
 
 /// What the Rust says of a call.
 #[derive(Debug, Clone, PartialEq)]
@@ -34,6 +34,7 @@ fn known(call: &Call) -> Option<Option<Answer>> {
         .or_else(|| tableaux::answer(call))
         .or_else(|| gates::answer(call))
         .or_else(|| list::answer(call))
+        .or_else(|| refusals::answer(call))
 }
 
 /// The answer to a call, or nothing for a name that is not known.

@@ -6,6 +6,7 @@ pub mod gates;
 pub mod line;
 pub mod list;
 pub mod records;
+pub mod refusals;
 pub mod strings;
 pub mod tableaux;
 pub mod text;

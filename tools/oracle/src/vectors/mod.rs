@@ -3,6 +3,7 @@
 mod gates;
 mod inputs;
 mod pauli;
+mod refusals;
 mod tableaux;
 mod text;
 mod way_back;
@@ -83,6 +84,7 @@ pub fn vectors(name: &str) -> Option<String> {
     match name {
         "pauli" => pauli::fill(&mut book),
         "text" => text::fill(&mut book),
+        "refusals" => refusals::fill(&mut book),
         "tableaux" => tableaux::fill(&mut book),
         "gates" => gates::fill(&mut book),
         "lists" => gates::fill_lists(&mut book),

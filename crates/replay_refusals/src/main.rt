@@ -1,0 +1,32 @@
+// Writes the lines of all refusals, as docs/REFUSALS.md lists them.
+use pauli::refusal::CountAnswer;
+use pauli::rows::smaller;
+use refusal_lines::refusal_line;
+
+// The page's examples of a detail and of a width.
+const DETAIL: u64 = 5;
+
+const WIDTH: u64 = 4;
+
+// The first number above those of all refusals.
+const END: u64 = 20;
+
+fn write_in(number: u64, room: &mut [u8]) {
+    let answer = refusal_line(number, DETAIL, WIDTH, room);
+    if let CountAnswer::Count(length) = answer {
+        io::write_all(1, &room[..smaller(length, room.len())]);
+    }
+}
+
+// A line, with room for any.
+fn write_line(number: u64) {
+    let mut room = [0u8; 140];
+    write_in(number, &mut room);
+    io::write_all(1, b"\n");
+}
+
+fn main() {
+    for number in 0..=END {
+        write_line(number);
+    }
+}
