@@ -113,11 +113,12 @@ enum rc_gate {
 /* Lengths in bytes. */
 #define RC_STRING_LENGTH 129
 #define RC_TABLEAU_LENGTH(n) (1 + 2 * (size_t)(n) * ((size_t)(n) + 1))
-/* The most that is ever written: a tableau, sparse text, display text, the program's text. */
+/* The most that is ever written: a tableau, sparse text, display text, the program's text, the line of a refusal. */
 #define RC_TABLEAU_MOST 33025
 #define RC_SPARSE_MOST 531
 #define RC_DISPLAY_MOST 138813
 #define RC_REPORT_MOST 138557
+#define RC_REFUSAL_LINE_MOST 140
 
 /* ---- phases and letters */
 
@@ -212,6 +213,14 @@ struct rc_reply rc_run(const uint8_t *list, size_t list_len, uint8_t *dst, size_
 /* Writes what the program writes of the list: its run's display text, or "refused N at D" and a newline; the value is its length,
  * at most RC_REPORT_MOST. A list's refusal is text here: only 7 is ever replied. */
 struct rc_reply rc_report(const uint8_t *list, size_t list_len, char *out, size_t out_len);
+
+/* ---- refusals, for people */
+
+/* Writes the line of a reply's number and value where it is a refusal, without a newline: as "3: not a phase or letter, at offset 130".
+ * The value is its length, at most RC_REFUSAL_LINE_MOST. Any three numbers have a line: a number without a meaning is unknown, as
+ * "29: unknown". The width is looked at for 14 and 15 alone: that of the tableau that was called with, its first byte. Lines of two
+ * refusals differ where their numbers do, or details that are shown; docs/REFUSALS.md lists them all. */
+struct rc_reply rc_refusal_line(uint64_t number, uint64_t detail, uint64_t width, char *dst, size_t dst_len);
 
 #ifdef __cplusplus
 }

@@ -1,4 +1,5 @@
-/* A Bell pair: H on qubit 0, then CX from 0 to 1. Composes the two, shows the tableau, sends strings through it, and undoes it. */
+/* A Bell pair: H on qubit 0, then CX from 0 to 1. Composes the two, shows the tableau, sends strings through it, and undoes it; and
+ * shows refusals by their lines. */
 #include "renetcleat.h"
 
 #include <stdio.h>
@@ -13,10 +14,17 @@ static const char EXPECTED[] = "CliffordRep(2 qubits):\n"
                                "  X_1 -> +X1\n"
                                "  Z_1 -> +Z0 Z1\n";
 
+/* Writes the line of a refusal of a call with a tableau of this width. */
+static void print_refusal(FILE *out, const char *what, struct rc_reply refusal, uint64_t width) {
+    char line[RC_REFUSAL_LINE_MOST];
+    struct rc_reply length = rc_refusal_line(refusal.number, refusal.value, width, line, sizeof line);
+    fprintf(out, "%s refused %.*s\n", what, (int)length.value, line);
+}
+
 /* The value of a reply; a refusal ends the program. */
 static uint64_t value(const char *what, struct rc_reply reply) {
     if (reply.number != 0) {
-        fprintf(stderr, "%s: refused %llu at %llu\n", what, (unsigned long long)reply.number, (unsigned long long)reply.value);
+        print_refusal(stderr, what, reply, WIDTH);
         exit(1);
     }
     return reply.value;
@@ -73,13 +81,29 @@ static void undo(const uint8_t pair[LENGTH]) {
     expect("inverse", memcmp(both, one, LENGTH) == 0);
 }
 
-/* A destination short by one byte is refused, and keeps its bytes. */
+static void expect_line(const char *expected, struct rc_reply refusal) {
+    char line[RC_REFUSAL_LINE_MOST];
+    size_t length = value("refusal_line", rc_refusal_line(refusal.number, refusal.value, WIDTH, line, sizeof line));
+    expect(expected, length == strlen(expected) && memcmp(line, expected, length) == 0);
+}
+
+/* A destination short by one byte is refused, and keeps its bytes; so does a tableau whose new image reaches outside it. */
 static void refused(const uint8_t pair[LENGTH]) {
     uint8_t small[LENGTH - 1], before[LENGTH - 1];
     memset(small, 0xaa, sizeof small);
     memcpy(before, small, sizeof before);
     struct rc_reply reply = rc_inverse(pair, LENGTH, small, sizeof small);
     expect("refusal", reply.number == RC_REFUSED_ROOM && reply.value == 0 && memcmp(small, before, sizeof small) == 0);
+    print_refusal(stdout, "inverse", reply, WIDTH);
+    expect_line("7: the destination is too short", reply);
+
+    uint8_t wide[RC_STRING_LENGTH], copy[LENGTH];
+    memcpy(copy, pair, LENGTH);
+    value("from_str", rc_from_str("X2", 2, wide, sizeof wide));
+    reply = rc_set_x_image(copy, sizeof copy, 0, wide, sizeof wide);
+    expect("copy", memcmp(copy, pair, LENGTH) == 0);
+    print_refusal(stdout, "set_x_image", reply, WIDTH);
+    expect_line("14: qubit 2 is outside num_qubits 2; pass a width greater than the maximum qubit index (max qubit + 1)", reply);
 }
 
 int main(void) {

@@ -1,5 +1,5 @@
-/* The names of include/renetcleat.h against the library: what each gate does, and a call that is refused with each refusal. It is C99
- * and C++11, and hands text over as literals. */
+/* The names of include/renetcleat.h against the library: what each gate does, and a call that is refused with each refusal, whose
+ * line is not that of an unknown number. It is C99 and C++11, and hands text over as literals. */
 #include "renetcleat.h"
 
 #include <stdio.h>
@@ -79,7 +79,12 @@ static void expect_gate(size_t number) {
 }
 
 static void expect_refusal(enum rc_refusal name, uint64_t detail, struct rc_reply reply) {
+    char line[RC_REFUSAL_LINE_MOST], unknown[RC_REFUSAL_LINE_MOST];
+    struct rc_reply told = rc_refusal_line(reply.number, reply.value, 1, line, sizeof line);
+    size_t length = (size_t)sprintf(unknown, "%d: unknown", (int)name);
+
     expect("refusal", name, reply.number == (uint64_t)name && reply.value == detail);
+    expect("line", name, told.number == 0 && memcmp(line, unknown, length - strlen("unknown")) == 0 && memcmp(line, unknown, length) != 0);
 }
 
 static void expect_refusals(void) {
@@ -113,6 +118,7 @@ static void expect_refusals(void) {
 
 int main(void) {
     uint8_t nothing[1];
+    char text[RC_REFUSAL_LINE_MOST];
     size_t number;
 
     for (number = 0; number < COUNT(GATES); number++) {
@@ -121,5 +127,6 @@ int main(void) {
     expect("gate", COUNT(GATES), rc_gate_inverse((uint8_t)COUNT(GATES)).number == RC_REFUSED_GATE);
     expect("gate", RC_NO_GATE, rc_identity(0, nothing, 1).number == 0 && rc_from_clifford_rep(nothing, 1).value == RC_NO_GATE);
     expect_refusals();
+    expect("line", 0, rc_refusal_line(0, 5, 5, text, sizeof text).value == 10 && memcmp(text, "0: unknown", 10) == 0);
     return failures != 0;
 }

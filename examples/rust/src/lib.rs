@@ -13,16 +13,25 @@ pub const fn tableau_length(width: usize) -> usize {
     1 + 2 * width * (width + 1)
 }
 
-/// A question answered with no: its number, and what it is about.
+/// The most bytes that the line of a refusal has.
+pub const REFUSAL_LINE_MOST: usize = 140;
+
+/// A question answered with no: its number, what it is about, and for 14 and 15 the width of the tableau that was called with, which
+/// its line tells; 0 for all others.
 #[derive(Debug, Clone, Copy, PartialEq, Eq)]
 pub struct Refusal {
     pub number: u64,
     pub detail: u64,
+    pub width: u64,
 }
 
+/// Its line, as docs/REFUSALS.md lists them.
 impl fmt::Display for Refusal {
     fn fmt(&self, f: &mut fmt::Formatter) -> fmt::Result {
-        write!(f, "refused {} at {}", self.number, self.detail)
+        let mut line = [0; REFUSAL_LINE_MOST];
+        let length = refusal_line(self.number, self.detail, self.width, &mut line);
+        let length = length.map_err(|_| fmt::Error)? as usize;
+        f.write_str(std::str::from_utf8(&line[..length]).map_err(|_| fmt::Error)?)
     }
 }
 
@@ -32,13 +41,28 @@ impl std::error::Error for Refusal {}
 pub type Answer = Result<u64, Refusal>;
 
 fn answer(reply: raw::Reply) -> Answer {
+    answer_of(0, reply)
+}
+
+/// The answer of a call with a tableau of this width.
+fn answer_of(width: u64, reply: raw::Reply) -> Answer {
     match reply.number {
         0 => Ok(reply.value),
+        number @ (14 | 15) => Err(Refusal {
+            number,
+            detail: reply.value,
+            width,
+        }),
         number => Err(Refusal {
             number,
             detail: reply.value,
+            width: 0,
         }),
     }
+}
+
+fn width_of(t: &[u8]) -> u64 {
+    t.first().copied().unwrap_or(0).into()
 }
 
 // Each call below is sound: a slice is valid for its length, also where it is empty, and what `&mut` lends overlaps nothing else.
@@ -161,22 +185,30 @@ pub fn identity(n: usize, dst: &mut [u8]) -> Answer {
 
 /// The offset in t of the X row of a slot; the row has 1 + n bytes.
 pub fn x_image(t: &[u8], slot: usize) -> Answer {
-    answer(unsafe { raw::rc_x_image(t.as_ptr(), t.len(), slot) })
+    answer_of(width_of(t), unsafe {
+        raw::rc_x_image(t.as_ptr(), t.len(), slot)
+    })
 }
 
 /// The offset in t of the Z row of a slot; the row has 1 + n bytes.
 pub fn z_image(t: &[u8], slot: usize) -> Answer {
-    answer(unsafe { raw::rc_z_image(t.as_ptr(), t.len(), slot) })
+    answer_of(width_of(t), unsafe {
+        raw::rc_z_image(t.as_ptr(), t.len(), slot)
+    })
 }
 
 /// Puts the string s in the place of the X row of a slot, in t itself.
 pub fn set_x_image(t: &mut [u8], slot: usize, s: &[u8]) -> Answer {
-    answer(unsafe { raw::rc_set_x_image(t.as_mut_ptr(), t.len(), slot, s.as_ptr(), s.len()) })
+    answer_of(width_of(t), unsafe {
+        raw::rc_set_x_image(t.as_mut_ptr(), t.len(), slot, s.as_ptr(), s.len())
+    })
 }
 
 /// Puts the string s in the place of the Z row of a slot, in t itself.
 pub fn set_z_image(t: &mut [u8], slot: usize, s: &[u8]) -> Answer {
-    answer(unsafe { raw::rc_set_z_image(t.as_mut_ptr(), t.len(), slot, s.as_ptr(), s.len()) })
+    answer_of(width_of(t), unsafe {
+        raw::rc_set_z_image(t.as_mut_ptr(), t.len(), slot, s.as_ptr(), s.len())
+    })
 }
 
 /// Writes the string that the tableau t sends s to.
@@ -289,5 +321,12 @@ pub fn report(list: &[u8], out: &mut [u8]) -> Answer {
             out.as_mut_ptr().cast(),
             out.len(),
         )
+    })
+}
+
+/// Writes the line of a refusal's number, detail and width, without a newline; the value is its length. Any three numbers have a line.
+pub fn refusal_line(number: u64, detail: u64, width: u64, dst: &mut [u8]) -> Answer {
+    answer(unsafe {
+        raw::rc_refusal_line(number, detail, width, dst.as_mut_ptr().cast(), dst.len())
     })
 }

@@ -109,4 +109,11 @@ unsafe extern "C" {
     pub fn rc_from_clifford_rep(t: *const u8, t_len: usize) -> Reply;
     pub fn rc_run(list: *const u8, list_len: usize, dst: *mut u8, dst_len: usize) -> Reply;
     pub fn rc_report(list: *const u8, list_len: usize, out: *mut c_char, out_len: usize) -> Reply;
+    pub fn rc_refusal_line(
+        number: u64,
+        detail: u64,
+        width: u64,
+        dst: *mut c_char,
+        dst_len: usize,
+    ) -> Reply;
 }

@@ -5,6 +5,18 @@ const CX: u8 = 24;
 const BELL: &str =
     "CliffordRep(2 qubits):\n  X_0 -> +Z0\n  Z_0 -> +X0 X1\n  X_1 -> +X1\n  Z_1 -> +Z0 Z1\n";
 
+fn refused(number: u64, detail: u64) -> Answer {
+    refused_of(0, number, detail)
+}
+
+fn refused_of(width: u64, number: u64, detail: u64) -> Answer {
+    Err(Refusal {
+        number,
+        detail,
+        width,
+    })
+}
+
 fn bell() -> [u8; tableau_length(2)] {
     let (mut h, mut cx) = ([0; tableau_length(1)], [0; tableau_length(2)]);
     let mut pair = [0; tableau_length(2)];
@@ -28,7 +40,6 @@ fn a_bell_pair_is_played_in_place() {
     assert_eq!(play(&mut pair, H, 0, 0), Ok(0));
     assert_eq!(play(&mut pair, CX, 0, 1), Ok(0));
     assert_eq!(pair, bell());
-    let refused = |number, detail| Err(Refusal { number, detail });
     assert_eq!(play(&mut pair, 38, 0, 1), refused(4, 0));
     assert_eq!(play(&mut pair, CX, 0, 2), refused(5, 2));
     assert_eq!(play(&mut pair, CX, 1, 1), refused(6, 1));
@@ -83,14 +94,13 @@ fn strings_anticommute_at_some_qubits() {
     t[5] = 3;
     assert_eq!(anticommuting_places(&t, &s), Ok(2));
     assert_eq!(commutes_with(&t, &s), Ok(true));
-    let (number, detail) = (3, 128);
     t[128] = 4;
-    assert_eq!(commutes_with(&s, &t), Err(Refusal { number, detail }));
+    assert_eq!(anticommuting_places(&s, &t), refused(3, 128));
+    assert_eq!(commutes_with(&s, &t).unwrap_err().detail, 128);
 }
 
 #[test]
 fn a_refusal_has_its_number_and_writes_nothing() {
-    let refused = |number, detail| Err(Refusal { number, detail });
     let mut dst = [0xaa; STRING_LENGTH];
     assert_eq!(from_str(b"X128", &mut dst), refused(13, 1));
     assert_eq!(from_str(b"X5 X5 X3 X3", &mut dst), refused(12, 3));
@@ -98,8 +108,39 @@ fn a_refusal_has_its_number_and_writes_nothing() {
     assert_eq!(inverse(&[], &mut dst), refused(2, 0));
     assert_eq!(mul(&[], &[], &mut []), refused(2, 0));
     assert_eq!(dst, [0xaa; STRING_LENGTH]);
-    let shown = from_sparse_str(b"+I", &mut dst).unwrap_err().to_string();
-    assert_eq!(shown, "refused 9 at 1");
+}
+
+#[test]
+fn a_refusal_is_shown_as_its_line() {
+    let (mut pair, mut s) = (bell(), [0; STRING_LENGTH]);
+    let shown = |answer: Answer| answer.unwrap_err().to_string();
+    let bad = from_sparse_str(b"+I", &mut s);
+    assert_eq!(shown(bad), "9: not a known letter, at offset 1");
+    let short = inverse(&pair, &mut []);
+    assert_eq!(shown(short), "7: the destination is too short");
+    // The width that the line tells is that of the tableau.
+    let advice = "pass a width greater than the maximum qubit index (max qubit + 1)";
+    from_str(b"X2", &mut s).unwrap();
+    let wide = set_x_image(&mut pair, 0, &s);
+    assert_eq!(wide, refused_of(2, 14, 2));
+    let line = format!("14: qubit 2 is outside num_qubits 2; {advice}");
+    assert_eq!(shown(wide), line);
+    let slot = z_image(&pair, 7);
+    let line = format!("15: qubit 7 is outside num_qubits 2; {advice}");
+    assert_eq!(shown(slot), line);
+}
+
+#[test]
+fn any_three_numbers_have_a_line() {
+    let mut line = [0xaa; REFUSAL_LINE_MOST];
+    assert_eq!(refusal_line(29, 5, 5, &mut line), Ok(11));
+    assert_eq!(&line[..12], b"29: unknown\xaa");
+    let most = u64::MAX;
+    assert_eq!(refusal_line(15, most, most, &mut line), Ok(140));
+    assert_eq!(
+        refusal_line(15, most, most, &mut line[..139]),
+        refused(7, 0)
+    );
 }
 
 #[test]

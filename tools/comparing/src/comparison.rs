@@ -191,8 +191,10 @@ fn known(call: &Call, value: u64) -> bool {
 
 /// The Rust's answer, or the model's where the Rust has none; or how the two disagree.
 fn expected(call: &Call) -> Result<Expected, String> {
-    if call.name == "report" {
-        return Ok(expected_report(call));
+    match call.name.as_str() {
+        "report" => return Ok(expected_report(call)),
+        "refusal_line" => return expected_line(call),
+        _ => (),
     }
     let model = model::judge(call);
     let said = rust_says(call, &model);
@@ -259,6 +261,22 @@ pub fn report_text(list: &[u8]) -> (Vec<u8>, bool) {
 
 fn expected_report(call: &Call) -> Expected {
     let (text, by_rust) = report_text(&call.b1);
+    text_in_room(call, text, by_rust)
+}
+
+/// The model's line, which has to be the Rust's where the Rust has one.
+fn expected_line(call: &Call) -> Result<Expected, String> {
+    let [number, detail, width] = call.n;
+    let text = model::refusal_line(number, detail, width);
+    match answer(call) {
+        Some(Answer::Written(_, said)) if said == text => Ok(text_in_room(call, text, true)),
+        Some(Answer::Outside) => Ok(text_in_room(call, text, false)),
+        said => Err(format!("the Rust says {said:?}, the model {text:?}")),
+    }
+}
+
+/// A text, or 7 where it does not fit.
+fn text_in_room(call: &Call, text: Vec<u8>, by_rust: bool) -> Expected {
     let short = text.len() > call.d.len();
     Expected {
         number: if short { 7 } else { 0 },

@@ -128,6 +128,7 @@ fn reply(call: &Call, b1: &mut Lent, b2: &mut Lent, d: &mut Lent) -> Reply {
             "gate_compose" => raw::rc_gate_compose(byte(n1), byte(n2)),
             "gate_inverse" => raw::rc_gate_inverse(byte(n1)),
             "from_clifford_rep" => raw::rc_from_clifford_rep(p1, l1),
+            "refusal_line" => raw::rc_refusal_line(n1, n2, n3, pd.cast(), ld),
             #[cfg(feature = "lists")]
             "run" => raw::rc_run(p1, l1, pd, ld),
             #[cfg(feature = "lists")]

@@ -3,9 +3,11 @@
 //! of products.
 
 mod list;
+mod refusals;
 mod text;
 
 pub use list::list;
+pub use refusals::line as refusal_line;
 
 use oracle::driver::Call;
 use oracle::driver::gates::NO_GATE;
@@ -105,6 +107,7 @@ pub fn needs(call: &Call) -> Result<usize, Refusal> {
         "gate_compose" => gate(n1, 23).and(gate(n2, 23)).map(|()| 0),
         "gate_inverse" => gate(n1, 37).map(|()| 0),
         "run" => list(&call.b1).map(tableau_length),
+        "refusal_line" => Ok(refusal_line(n1, n2, n3).len()),
         // Its text may be that of a refusal; the length comes with the text.
         "report" => Ok(0),
         name => panic!("{name} has no questions"),
