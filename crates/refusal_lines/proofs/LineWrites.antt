@@ -1,10 +1,10 @@
 -- The line of a refusal, written part by part.
 use mathlib.Core.Path.{_≡_, refl, sym, ap, ap₂, _∙_}
 use mathlib.Core.Bool.{Bool, true, false, cond, not, _&&_, _||_, and-false}
-use mathlib.Core.List.{List, [], _∷_, _++_}
+use mathlib.Core.List.{List, [], _∷_}
 use Prim.Native.Nat.{ℕ, zero, suc, _^_, _<_, _≤_}
 use native.Mathlib.Omega.{arith}
-use lib.Dec.{eqb, leb}
+use lib.Dec.{leb}
 use lib.ListN.{take, drop}
 use mir.Syntax.{w64}
 use mir.Val.{Fits}
@@ -16,6 +16,7 @@ use Rattle.pauli.specs.TextWriting.{Stored}
 use Rattle.pauli.specs.Inside.TextWriting.{TextWritten}
 use Rattle.pauli.proofs.TextWrites.{stored-none, stored-join, stored-as, stored-same, whole-text}
 use Rattle.refusal_wording.specs.RefusalLines.{Sentence, sentences, sentenceAmong, sentence, between, hasDetail, detailText, isWidthError, widthErrorText, wording, refusalLine}
+use Rattle.refusal_wording.proofs.LineParts.{error-worded, sentence-worded, with-detail, without-detail}
 use Rattle.refusal_wording.proofs.LineText.{line-most}
 use Rattle.refusal_lines.specs.Inside.Sentences.{sentenceFrom}
 
@@ -97,12 +98,10 @@ pub ruleset meanings = (detail-low, detail-first, detail-room, detail-second, de
 -- ---- the detail
 module _ {d : List ℕ} {k : ℕ} {b : Bool} (n m : ℕ) (e : b ≡ hasDetail n) where
   pub detail-none : Fits w64 k → not b ≡ true → Stored k (detailText n m) d d k
-  unfolding detailText
-  detail-none i h = stored-as (sym (ap (λ x. cond x (bytesOf " " ++ decimal m) []) (sym e ∙ not-true b h))) (stored-none i)
+  detail-none i h = stored-as (sym (without-detail n m (sym e ∙ not-true b h))) (stored-none i)
 
   pub detail-some : {f g : List ℕ} {j r : ℕ} → not b ≡ false → Stored k (bytesOf " ") d f j → Stored j (decimal m) f g r → Stored k (detailText n m) d g r
-  unfolding detailText
-  detail-some h x y = stored-as (sym (ap (λ z. cond z (bytesOf " " ++ decimal m) []) (sym e ∙ not-false b h))) (stored-join x y)
+  detail-some h x y = stored-as (sym (with-detail n m (sym e ∙ not-false b h))) (stored-join x y)
 
 pub ruleset details = (detail-none, detail-some, stored-same, needs)
 
@@ -129,12 +128,12 @@ pub ruleset error-numbers = (error-below, error-here, error-above, needs)
 
 module _ {b : Bool} {d : List ℕ} {k : ℕ} (n m w : ℕ) (e : b ≡ isWidthError n) where
   pub wording-error : {f : List ℕ} {r : ℕ} → b ≡ true → Stored k (widthErrorText m w) d f r → Stored k (wording n m w) d f r
-  unfolding wording
-  wording-error h a = stored-as (sym (ap (λ x. cond x (widthErrorText m w) (sentence n ++ detailText n m)) (sym e ∙ h))) a
+  wording-error h a = stored-as (sym (error-worded n m w (sym e ∙ h))) a
 
-  pub wording-sentence : {f g : List ℕ} {j r : ℕ} → b ≡ false → Stored k (sentenceFrom 0 n) d f j → Stored j (detailText n m) f g r → Stored k (wording n m w) d g r
-  unfolding wording sentence sentenceFrom
-  wording-sentence h x y = stored-as (sym (ap (λ z. cond z (widthErrorText m w) (sentence n ++ detailText n m)) (sym e ∙ h))) (stored-join x y)
+  pub wording-sentence : {f g : List ℕ} {j r : ℕ} → b ≡ false → Stored k (sentenceFrom 0 n) d f j → Stored j (detailText n m) f g r
+      → Stored k (wording n m w) d g r
+  unfolding sentence sentenceFrom
+  wording-sentence h x y = stored-as (sym (sentence-worded n m w (sym e ∙ h))) (stored-join x y)
 
 pub ruleset wordings = (wording-error, wording-sentence, stored-same, needs)
 

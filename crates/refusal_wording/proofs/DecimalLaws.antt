@@ -2,7 +2,7 @@
 use mathlib.Core.Path.{_≡_, refl, sym, ap, ap₂, _∙_}
 use mathlib.Core.Bool.{true, false, false≢true}
 use mathlib.Core.List.{List, [], _∷_, _++_, head-eq-of-cons-eq, tail-eq-of-cons-eq, append-cancel-left}
-use Prim.Native.Nat.{ℕ, zero, suc, _+_, _*_, _-_, _^_, _<_, _≤_}
+use Prim.Native.Nat.{ℕ, suc, _+_, _*_, _-_, _^_, _<_, _≤_}
 use native.Mathlib.Nat.{mul-assoc, mul-le-mul-right, pow-succ', pow-le-pow-right}
 use native.Mathlib.Decide.{decLt}
 use native.Mathlib.Omega.{arith}
@@ -60,7 +60,9 @@ value-below v (c ∷ ds) h =
 pub decimal-least : (k n : ℕ) → 10 ^ k ≤ n → k < length (decimal n)
 decimal-least k n h = elim (decLt k (length (decimal n))) [
   | yes l ↦ l
-  | no l ↦ absurd (omega (arith, value-below 0 (decimal n) (decimal-digits n), decimal-value n, pow-le-pow-right {n = 10} (omega arith) {i = length (decimal n)} {j = k} (omega arith)))
+  | no l ↦
+      let fewer = pow-le-pow-right {n = 10} (omega arith) {i = length (decimal n)} {j = k} (omega arith) in
+      absurd (omega (arith, value-below 0 (decimal n) (decimal-digits n), decimal-value n, fewer))
 ]
 
 pub decimal-shortest : (n : ℕ) → Shortest n (decimal n)

@@ -1,7 +1,7 @@
 -- What a line tells: its number, its detail where that has a meaning, and the width for 14 and 15.
 use mathlib.Core.Path.{_≡_, refl, sym, ap, ap₂, _∙_}
-use mathlib.Core.Bool.{Bool, true, false, cond, _&&_, _||_}
-use mathlib.Core.List.{List, [], _∷_, _++_, tail-eq-of-cons-eq, append-cancel-left}
+use mathlib.Core.Bool.{Bool, true, false, _&&_, _||_}
+use mathlib.Core.List.{List, _∷_, _++_, tail-eq-of-cons-eq, append-cancel-left}
 use Prim.Native.Nat.{ℕ, _≤_}
 use native.Mathlib.Omega.{arith}
 use lib.Dec.{leb}
@@ -14,6 +14,7 @@ use Rattle.pauli.specs.Text.{isDigit}
 use Rattle.refusal_wording.specs.RefusalLines.{sentence, between, hasDetail, detailText, isWidthError, widthErrorText, wording, refusalLine}
 use Rattle.refusal_wording.specs.LineLaws.{ShownAlike, LineTheorem}
 use Rattle.refusal_wording.proofs.DecimalLaws.{same-decimal, number-read, rest-read}
+use Rattle.refusal_wording.proofs.LineParts.{error-worded, sentence-worded, with-detail, without-detail}
 
 -- ---- the bytes behind a number: a colon, a space, a semicolon
 colon-apart : isDigit 58 ≡ false
@@ -41,35 +42,18 @@ module _ (d w e v : ℕ) (h : widthErrorText d w ≡ widthErrorText e v) where
   unfolding widthErrorText
   error-width = number-read 59 semicolon-apart w v _ _ (ap (drop 22) (rest-read 32 space-apart d e _ _ from-qubit))
 
--- ---- what follows the number
-error-is : (n d w : ℕ) → isWidthError n ≡ true → wording n d w ≡ widthErrorText d w
-unfolding wording
-error-is n d w h = ap (λ b. cond b (widthErrorText d w) (sentence n ++ detailText n d)) h
-
-sentence-is : (n d w : ℕ) → isWidthError n ≡ false → wording n d w ≡ sentence n ++ detailText n d
-unfolding wording
-sentence-is n d w h = ap (λ b. cond b (widthErrorText d w) (sentence n ++ detailText n d)) h
-
-detail-is : (n d : ℕ) → hasDetail n ≡ true → detailText n d ≡ 32 ∷ decimal d
-unfolding detailText
-detail-is n d h = ap (λ b. cond b (bytesOf " " ++ decimal d) []) h
-
-detail-none : (n d : ℕ) → hasDetail n ≡ false → detailText n d ≡ []
-unfolding detailText
-detail-none n d h = ap (λ b. cond b (bytesOf " " ++ decimal d) []) h
-
 -- ---- read back
 wording-detail : (n d w e v : ℕ) → wording n d w ≡ wording n e v → hasDetail n ≡ true → d ≡ e
 wording-detail n d w e v h k = by (isWidthError n) refl
   where
     by : (b : Bool) → isWidthError n ≡ b → d ≡ e
-    by true p = error-detail d w e v (sym (error-is n d w p) ∙ h ∙ error-is n e v p)
+    by true p = error-detail d w e v (sym (error-worded n d w p) ∙ h ∙ error-worded n e v p)
     by false p =
-        let text = append-cancel-left (sentence n) (detailText n d) (detailText n e) (sym (sentence-is n d w p) ∙ h ∙ sentence-is n e v p) in
-        same-decimal d e (tail-eq-of-cons-eq (sym (detail-is n d k) ∙ text ∙ detail-is n e k))
+        let text = append-cancel-left (sentence n) (detailText n d) (detailText n e) (sym (sentence-worded n d w p) ∙ h ∙ sentence-worded n e v p) in
+        same-decimal d e (tail-eq-of-cons-eq (sym (with-detail n d k) ∙ text ∙ with-detail n e k))
 
 wording-width : (n d w e v : ℕ) → wording n d w ≡ wording n e v → isWidthError n ≡ true → w ≡ v
-wording-width n d w e v h p = error-width d w e v (sym (error-is n d w p) ∙ h ∙ error-is n e v p)
+wording-width n d w e v h p = error-width d w e v (sym (error-worded n d w p) ∙ h ∙ error-worded n e v p)
 
 module _ (n d w m e v : ℕ) (h : refusalLine n d w ≡ refusalLine m e v) where
   same-number : n ≡ m
@@ -102,14 +86,14 @@ module _ (n d w e v : ℕ) (detail : hasDetail n ≡ true → d ≡ e) (width : 
     where
       by : (b : Bool) → hasDetail n ≡ b → detailText n d ≡ detailText n e
       by true p = ap (detailText n) (detail p)
-      by false p = detail-none n d p ∙ sym (detail-none n e p)
+      by false p = without-detail n d p ∙ sym (without-detail n e p)
 
   wording-shared : wording n d w ≡ wording n e v
   wording-shared = by (isWidthError n) refl
     where
       by : (b : Bool) → isWidthError n ≡ b → wording n d w ≡ wording n e v
       by true p = ap₂ (wording n) (detail (error-has-detail n p)) (width p)
-      by false p = sentence-is n d w p ∙ ap (λ (t : List ℕ). sentence n ++ t) detail-shared ∙ sym (sentence-is n e v p)
+      by false p = sentence-worded n d w p ∙ ap (λ (t : List ℕ). sentence n ++ t) detail-shared ∙ sym (sentence-worded n e v p)
 
 line-shares : (n d w m e v : ℕ) → ShownAlike n d w m e v → refusalLine n d w ≡ refusalLine m e v
 unfolding refusalLine

@@ -1,6 +1,6 @@
 -- How a line is written: every byte printed, and never more than 140.
 use mathlib.Core.Path.{_≡_, refl, ap, ap₂, _∙_}
-use mathlib.Core.Bool.{Bool, true, false, cond, _&&_}
+use mathlib.Core.Bool.{Bool, true, false, _&&_}
 use mathlib.Core.List.{List, [], _∷_, _++_}
 use Prim.Native.Nat.{ℕ, zero, suc, _+_, _-_, _^_, _<_, _≤_}
 use native.Mathlib.Omega.{arith}
@@ -15,6 +15,7 @@ use Rattle.pauli.proofs.Decimals.{decimal-more, decimal-one, decimal-digits, de
 use Rattle.refusal_wording.specs.RefusalLines.{sentence, hasDetail, detailText, isWidthError, widthErrorText, wording, refusalLine}
 use Rattle.refusal_wording.specs.LineLaws.{Printed}
 use Rattle.refusal_wording.proofs.DecimalLaws.{decimal-least}
+use Rattle.refusal_wording.proofs.LineParts.{error-worded, sentence-worded, with-detail, without-detail}
 use Rattle.refusal_wording.proofs.SentenceLaws.{each, isPrinted, sentence-printed, sentence-most}
 
 -- ---- printed bytes
@@ -51,26 +52,36 @@ digits-printed (c ∷ ds) h =
 number-printed : (n : ℕ) → each isPrinted (decimal n) ≡ true
 number-printed n = digits-printed (decimal n) (decimal-digits n)
 
+space-printed : each isPrinted (32 ∷ []) ≡ true
+unfolding each isPrinted
+space-printed = refl
+
+none-printed : each isPrinted [] ≡ true
+unfolding each
+none-printed = refl
+
 error-printed : (d w : ℕ) → each isPrinted (widthErrorText d w) ≡ true
 unfolding widthErrorText each isPrinted
 error-printed d w =
     each-append isPrinted (decimal d) _ (number-printed d) (each-append isPrinted (decimal w) _ (number-printed w) refl)
 
 detail-printed : (n d : ℕ) → each isPrinted (detailText n d) ≡ true
-unfolding detailText each isPrinted
-detail-printed n d = shown (hasDetail n)
+detail-printed n d = by (hasDetail n) refl
   where
-    shown : (b : Bool) → each isPrinted (cond b (bytesOf " " ++ decimal d) []) ≡ true
-    shown true = number-printed d
-    shown false = refl
+    shown : each isPrinted (32 ∷ decimal d) ≡ true
+    shown = each-append isPrinted (32 ∷ []) (decimal d) space-printed (number-printed d)
+
+    by : (b : Bool) → hasDetail n ≡ b → each isPrinted (detailText n d) ≡ true
+    by true p = ap (each isPrinted) (with-detail n d p) ∙ shown
+    by false p = ap (each isPrinted) (without-detail n d p) ∙ none-printed
 
 wording-printed : (n d w : ℕ) → each isPrinted (wording n d w) ≡ true
-unfolding wording
-wording-printed n d w = by (isWidthError n)
+wording-printed n d w = by (isWidthError n) refl
   where
-    by : (b : Bool) → each isPrinted (cond b (widthErrorText d w) (sentence n ++ detailText n d)) ≡ true
-    by true = error-printed d w
-    by false = each-append isPrinted (sentence n) (detailText n d) (sentence-printed n) (detail-printed n d)
+    by : (b : Bool) → isWidthError n ≡ b → each isPrinted (wording n d w) ≡ true
+    by true p = ap (each isPrinted) (error-worded n d w p) ∙ error-printed d w
+    by false p =
+        ap (each isPrinted) (sentence-worded n d w p) ∙ each-append isPrinted (sentence n) (detailText n d) (sentence-printed n) (detail-printed n d)
 
 -- "The line has no newline"
 pub line-printed : (n d w : ℕ) → Printed (refusalLine n d w)
@@ -88,52 +99,50 @@ error-length d w =
     omega (arith, length-append (decimal d) (bytesOf " is outside num_qubits " ++ (decimal w ++ last)), length-append (decimal w) last)
 
 detail-most : (n : ℕ) {d : ℕ} → d < 2 ^ 64 → length (detailText n d) ≤ 21
-unfolding detailText
-detail-most n {d} h = shown (hasDetail n)
+detail-most n {d} h = by (hasDetail n) refl
   where
-    shown : (b : Bool) → length (cond b (bytesOf " " ++ decimal d) []) ≤ 21
-    shown true = omega (arith, number-most h)
-    shown false = omega arith
+    by : (b : Bool) → hasDetail n ≡ b → length (detailText n d) ≤ 21
+    by true p = omega (arith, ap length (with-detail n d p), number-most h)
+    by false p = omega (arith, ap length (without-detail n d p))
 
 longest-number : length (decimal (2 ^ 64 - 1)) ≡ 20
 longest-number = omega (arith, decimal-least 19 (2 ^ 64 - 1) (omega arith), number-most {n = 2 ^ 64 - 1} (omega arith))
 
 -- no line is longer than 140 bytes, and one is as long
+line-length : (n d w : ℕ) → length (refusalLine n d w) ≡ length (decimal n) + 2 + length (wording n d w)
+unfolding refusalLine
+line-length n d w = omega (arith, length-append (decimal n) (bytesOf ": " ++ wording n d w))
+
 pub line-most : {n d w : ℕ} → n < 2 ^ 64 → d < 2 ^ 64 → w < 2 ^ 64 → length (refusalLine n d w) ≤ 140
-unfolding refusalLine wording
 line-most {n} {d} {w} hn hd hw = by (isWidthError n) refl
   where
-    whole : (t : List ℕ) → length (decimal n ++ (bytesOf ": " ++ t)) ≡ length (decimal n) + 2 + length t
-    whole t = omega (arith, length-append (decimal n) (bytesOf ": " ++ t))
-
-    by : (b : Bool) → isWidthError n ≡ b → length (decimal n ++ (bytesOf ": " ++ cond b (widthErrorText d w) (sentence n ++ detailText n d))) ≤ 140
-    by true e =
+    by : (b : Bool) → isWidthError n ≡ b → length (refusalLine n d w) ≤ 140
+    by true p =
         omega (
           arith,
-          whole (widthErrorText d w),
-          decimal-most 1 n (omega (arith, leb-true n 15 (and-both (leb 14 n) (leb n 15) e .1))),
-          error-length d w,
+          line-length n d w,
+          decimal-most 1 n (omega (arith, leb-true n 15 (and-both (leb 14 n) (leb n 15) p .1))),
+          ap length (error-worded n d w p) ∙ error-length d w,
           number-most hd,
           number-most hw,
         )
-    by false e =
+    by false p =
         omega (
           arith,
-          whole (sentence n ++ detailText n d),
+          line-length n d w,
           number-most hn,
-          length-append (sentence n) (detailText n d),
+          ap length (sentence-worded n d w p) ∙ length-append (sentence n) (detailText n d),
           sentence-most n,
           detail-most n hd,
         )
 
 pub line-longest : length (refusalLine 14 (2 ^ 64 - 1) (2 ^ 64 - 1)) ≡ 140
-unfolding refusalLine wording
 line-longest =
     omega (
       arith,
-      length-append (decimal 14) (bytesOf ": " ++ widthErrorText (2 ^ 64 - 1) (2 ^ 64 - 1)),
+      line-length 14 (2 ^ 64 - 1) (2 ^ 64 - 1),
       ap length (decimal-more 14 (omega arith)) ∙ length-append (decimal 1) (52 ∷ []),
       ap length (decimal-one 1 (omega arith)),
-      error-length (2 ^ 64 - 1) (2 ^ 64 - 1),
+      ap length (error-worded 14 (2 ^ 64 - 1) (2 ^ 64 - 1) refl) ∙ error-length (2 ^ 64 - 1) (2 ^ 64 - 1),
       longest-number,
     )

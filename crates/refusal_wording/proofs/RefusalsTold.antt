@@ -1,7 +1,7 @@
 -- The refusals of the library: each has a sentence of its own, and its line tells the whole reply.
 use mathlib.Core.Path.{_≡_, refl, sym, ap, ap₂, _∙_}
 use mathlib.Core.Bool.{Bool, true, false, false≢true}
-use mathlib.Core.List.{List, [], _∷_, _++_, append-cancel-left}
+use mathlib.Core.List.{List, _++_, append-cancel-left}
 use Prim.Native.Nat.{ℕ}
 use lib.Dec.{eqb}
 use lib.ListN.{getD}
@@ -56,7 +56,8 @@ refusal-known r d w h =
     (ap (λ (t : List ℕ). getD t 2 0) (append-cancel-left (decimal (refusalNumber r)) (bytesOf ": " ++ wording (refusalNumber r) d w) (bytesOf ": unknown") h))
 
 -- refusals that share a line have one number and one detail, whatever widths are told
-pub reply-told : (r s : Refusal) (v w : ℕ) → refusalLine (refusalNumber r) (refusalDetail r) v ≡ refusalLine (refusalNumber s) (refusalDetail s) w → refusalReply r ≡ refusalReply s
+pub reply-told : (r s : Refusal) (v w : ℕ) → refusalLine (refusalNumber r) (refusalDetail r) v ≡ refusalLine (refusalNumber s) (refusalDetail s) w
+    → refusalReply r ≡ refusalReply s
 unfolding refusalReply
 reply-told r s v w h = ap₂ reply (alike .number) (by (hasDetail (refusalNumber r)) refl)
   where
