@@ -13,7 +13,8 @@ use pauli::refusal::Outcome;
 use pauli::text_writer::put_decimal;
 use pauli::text_writer::put_text;
 
-// The sentence of a number, of those from the first of lists on. A function holds a few: its check grows faster than its text.
+// The sentences stand in three functions, each with the rest of them behind it: the check of a function grows faster than its text.
+// These are those of lists, and a number that has none is unknown.
 fn put_list_sentence(dst: &mut [u8], at: usize, number: u64) -> usize
     ensures { λ r. ⌜ Stored at (sentenceFrom 13 number) (now (dst .entry)) (now (dst .exit)) r ⌝ }
 {
@@ -30,7 +31,7 @@ fn put_list_sentence(dst: &mut [u8], at: usize, number: u64) -> usize
     }
 }
 
-// Of those from the first of text on.
+// Those of text, and then of lists.
 fn put_text_sentence(dst: &mut [u8], at: usize, number: u64) -> usize
     ensures { λ r. ⌜ Stored at (sentenceFrom 7 number) (now (dst .entry)) (now (dst .exit)) r ⌝ }
 {
@@ -45,7 +46,7 @@ fn put_text_sentence(dst: &mut [u8], at: usize, number: u64) -> usize
     }
 }
 
-// Of all.
+// All: those of records and gates, and of room, and then of text.
 fn put_sentence(dst: &mut [u8], at: usize, number: u64) -> usize
     ensures { λ r. ⌜ Stored at (sentenceFrom 0 number) (now (dst .entry)) (now (dst .exit)) r ⌝ }
 {
