@@ -216,10 +216,10 @@ struct rc_reply rc_report(const uint8_t *list, size_t list_len, char *out, size_
 
 /* ---- refusals, for people */
 
-/* Writes the line of a reply's number and value where it is a refusal, without a newline: as "3: not a phase or letter, at offset 130".
- * The value is its length, at most RC_REFUSAL_LINE_MOST. Any three numbers have a line: a number without a meaning is unknown, as
- * "29: unknown". The width is looked at for 14 and 15 alone: that of the tableau that was called with, its first byte. Lines of two
- * refusals differ where their numbers do, or details that are shown; docs/REFUSALS.md lists them all. */
+/* Writes the line of a refusal, of the number and the value that were replied, without a newline: as "3: not a phase or letter, at
+ * offset 130". The value is its length, at most RC_REFUSAL_LINE_MOST. Any three numbers have a line: a number without a meaning is
+ * unknown, as "29: unknown". The width is looked at for 14 and 15 alone: that of the tableau that was called with, its first byte.
+ * Two refusals that differ in number, or in a detail that is shown, never share a line; docs/REFUSALS.md lists them all. */
 struct rc_reply rc_refusal_line(uint64_t number, uint64_t detail, uint64_t width, char *dst, size_t dst_len);
 
 #ifdef __cplusplus

@@ -84,7 +84,8 @@ static void expect_refusal(enum rc_refusal name, uint64_t detail, struct rc_repl
     size_t length = (size_t)sprintf(unknown, "%d: unknown", (int)name);
 
     expect("refusal", name, reply.number == (uint64_t)name && reply.value == detail);
-    expect("line", name, told.number == 0 && memcmp(line, unknown, length - strlen("unknown")) == 0 && memcmp(line, unknown, length) != 0);
+    expect("line", name,
+           told.number == 0 && memcmp(line, unknown, length - strlen("unknown")) == 0 && memcmp(line, unknown, length) != 0);
 }
 
 static void expect_refusals(void) {

@@ -16,8 +16,8 @@ pub const fn tableau_length(width: usize) -> usize {
 /// The most bytes that the line of a refusal has.
 pub const REFUSAL_LINE_MOST: usize = 140;
 
-/// A question answered with no: its number, what it is about, and for 14 and 15 the width of the tableau that was called with, which
-/// its line tells; 0 for all others.
+/// A question answered with no: its number, what it is about, and for 14 and 15 the width of the tableau that was called with,
+/// which its line tells; 0 for all others.
 #[derive(Debug, Clone, Copy, PartialEq, Eq)]
 pub struct Refusal {
     pub number: u64,
@@ -324,7 +324,7 @@ pub fn report(list: &[u8], out: &mut [u8]) -> Answer {
     })
 }
 
-/// Writes the line of a refusal's number, detail and width, without a newline; the value is its length. Any three numbers have a line.
+/// Writes the line of a refusal's number, detail and width, without a newline; the value is its length. Any three numbers have one.
 pub fn refusal_line(number: u64, detail: u64, width: u64, dst: &mut [u8]) -> Answer {
     answer(unsafe {
         raw::rc_refusal_line(number, detail, width, dst.as_mut_ptr().cast(), dst.len())
