@@ -85,7 +85,8 @@ static void expect_refusal(enum rc_refusal name, uint64_t detail, struct rc_repl
 
     expect("refusal", name, reply.number == (uint64_t)name && reply.value == detail);
     expect("line", name,
-           told.number == 0 && memcmp(line, unknown, length - strlen("unknown")) == 0 && memcmp(line, unknown, length) != 0);
+           told.number == 0 && told.value > length && memcmp(line, unknown, length - strlen("unknown")) == 0
+               && memcmp(line, unknown, length) != 0);
 }
 
 static void expect_refusals(void) {

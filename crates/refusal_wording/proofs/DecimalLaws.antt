@@ -12,7 +12,7 @@ use borrow.Author.Tests.{leb-true}
 use Rattle.pauli_group.proofs.Finite.{and-both}
 use Rattle.pauli.specs.SparseText.{decimal}
 use Rattle.pauli.specs.Text.{isDigit, allDigits, digitsValue}
-use Rattle.pauli.proofs.Decimals.{decimal-value, decimal-digits, decimal-first, decimal-most}
+use Rattle.pauli.proofs.Decimals.{decimal-some, decimal-value, decimal-digits, decimal-first, decimal-most}
 use Rattle.refusal_wording.specs.LineLaws.{Shortest}
 
 -- ---- a number by its digits
@@ -66,7 +66,7 @@ decimal-least k n h = elim (decLt k (length (decimal n))) [
 ]
 
 pub decimal-shortest : (n : ℕ) → Shortest n (decimal n)
-decimal-shortest n = record { digits = decimal-digits n; value = decimal-value n; first = decimal-first n; least = least }
+decimal-shortest n = record { some = decimal-some n; digits = decimal-digits n; value = decimal-value n; first = decimal-first n; least = least }
   where
     least : (cs : List ℕ) → 0 < length cs → allDigits cs ≡ true → digitsValue 0 cs ≡ n → length (decimal n) ≤ length cs
     least [] some h e = absurd (omega arith)

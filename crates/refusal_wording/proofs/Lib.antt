@@ -1,5 +1,6 @@
 pub mod DecimalLaws
 pub mod SentenceLaws
+pub mod NumberRanges
 pub mod LineParts
 pub mod LineText
 pub mod LineTells

@@ -1,20 +1,21 @@
 -- What a line tells: its number, its detail where that has a meaning, and the width for 14 and 15.
 use mathlib.Core.Path.{_≡_, refl, sym, ap, ap₂, _∙_}
-use mathlib.Core.Bool.{Bool, true, false, _&&_, _||_}
+use mathlib.Core.Bool.{Bool, true, false}
 use mathlib.Core.List.{List, _∷_, _++_, tail-eq-of-cons-eq, append-cancel-left}
-use Prim.Native.Nat.{ℕ, _≤_}
+use Prim.Native.Nat.{ℕ}
 use native.Mathlib.Omega.{arith}
 use lib.Dec.{leb}
 use lib.ListN.{drop}
-use borrow.Author.Tests.{leb-true, le-leb}
+use borrow.Author.Tests.{leb-true}
 use Rattle.pauli_group.proofs.Finite.{and-both}
 use Rattle.pauli.specs.QuotedText.{bytesOf}
 use Rattle.pauli.specs.SparseText.{decimal}
 use Rattle.pauli.specs.Text.{isDigit}
-use Rattle.refusal_wording.specs.RefusalLines.{sentence, between, hasDetail, detailText, isWidthError, widthErrorText, wording, refusalLine}
+use Rattle.refusal_wording.specs.RefusalLines.{sentence, hasDetail, detailText, isWidthError, widthErrorText, wording, refusalLine}
 use Rattle.refusal_wording.specs.LineLaws.{ShownAlike, LineTheorem}
 use Rattle.refusal_wording.proofs.DecimalLaws.{same-decimal, number-read, rest-read}
-use Rattle.refusal_wording.proofs.LineParts.{error-worded, sentence-worded, with-detail, without-detail}
+use Rattle.refusal_wording.proofs.NumberRanges.{detail-second}
+use Rattle.refusal_wording.proofs.LineParts.{worded, detailed}
 
 -- ---- the bytes behind a number: a colon, a space, a semicolon
 colon-apart : isDigit 58 ≡ false
@@ -47,13 +48,13 @@ wording-detail : (n d w e v : ℕ) → wording n d w ≡ wording n e v → hasDe
 wording-detail n d w e v h k = by (isWidthError n) refl
   where
     by : (b : Bool) → isWidthError n ≡ b → d ≡ e
-    by true p = error-detail d w e v (sym (error-worded n d w p) ∙ h ∙ error-worded n e v p)
+    by true p = error-detail d w e v (sym (worded n d w p) ∙ h ∙ worded n e v p)
     by false p =
-        let text = append-cancel-left (sentence n) (detailText n d) (detailText n e) (sym (sentence-worded n d w p) ∙ h ∙ sentence-worded n e v p) in
-        same-decimal d e (tail-eq-of-cons-eq (sym (with-detail n d k) ∙ text ∙ with-detail n e k))
+        let text = append-cancel-left (sentence n) (detailText n d) (detailText n e) (sym (worded n d w p) ∙ h ∙ worded n e v p) in
+        same-decimal d e (tail-eq-of-cons-eq (sym (detailed n d k) ∙ text ∙ detailed n e k))
 
 wording-width : (n d w e v : ℕ) → wording n d w ≡ wording n e v → isWidthError n ≡ true → w ≡ v
-wording-width n d w e v h p = error-width d w e v (sym (error-worded n d w p) ∙ h ∙ error-worded n e v p)
+wording-width n d w e v h p = error-width d w e v (sym (worded n d w p) ∙ h ∙ worded n e v p)
 
 module _ (n d w m e v : ℕ) (h : refusalLine n d w ≡ refusalLine m e v) where
   same-number : n ≡ m
@@ -70,15 +71,9 @@ module _ (n d w m e v : ℕ) (h : refusalLine n d w ≡ refusalLine m e v) where
 
 -- ---- what is not shown is not looked at
 error-has-detail : (n : ℕ) → isWidthError n ≡ true → hasDetail n ≡ true
-unfolding hasDetail
 error-has-detail n h =
     let both = and-both (leb 14 n) (leb n 15) h in
-    let low : 8 ≤ n = omega (arith, leb-true 14 n (both .0)) in
-    ap (λ x. (between 3 6 n || x) || between 17 19 n) (ap₂ (λ x y. x && y) (le-leb 8 n low) (both .1)) ∙ third (between 3 6 n) (between 17 19 n)
-  where
-    third : (a b : Bool) → ((a || true) || b) ≡ true
-    third true b = refl
-    third false b = refl
+    sym (detail-second n (omega (arith, leb-true 14 n (both .0))) (omega (arith, leb-true n 15 (both .1))))
 
 module _ (n d w e v : ℕ) (detail : hasDetail n ≡ true → d ≡ e) (width : isWidthError n ≡ true → w ≡ v) where
   detail-shared : detailText n d ≡ detailText n e
@@ -86,14 +81,14 @@ module _ (n d w e v : ℕ) (detail : hasDetail n ≡ true → d ≡ e) (width : 
     where
       by : (b : Bool) → hasDetail n ≡ b → detailText n d ≡ detailText n e
       by true p = ap (detailText n) (detail p)
-      by false p = without-detail n d p ∙ sym (without-detail n e p)
+      by false p = detailed n d p ∙ sym (detailed n e p)
 
   wording-shared : wording n d w ≡ wording n e v
   wording-shared = by (isWidthError n) refl
     where
       by : (b : Bool) → isWidthError n ≡ b → wording n d w ≡ wording n e v
       by true p = ap₂ (wording n) (detail (error-has-detail n p)) (width p)
-      by false p = sentence-worded n d w p ∙ ap (λ (t : List ℕ). sentence n ++ t) detail-shared ∙ sym (sentence-worded n e v p)
+      by false p = worded n d w p ∙ ap (λ (t : List ℕ). sentence n ++ t) detail-shared ∙ sym (worded n e v p)
 
 line-shares : (n d w m e v : ℕ) → ShownAlike n d w m e v → refusalLine n d w ≡ refusalLine m e v
 unfolding refusalLine

@@ -15,7 +15,7 @@ use Rattle.pauli.proofs.Decimals.{decimal-more, decimal-one, decimal-digits, de
 use Rattle.refusal_wording.specs.RefusalLines.{sentence, hasDetail, detailText, isWidthError, widthErrorText, wording, refusalLine}
 use Rattle.refusal_wording.specs.LineLaws.{Printed}
 use Rattle.refusal_wording.proofs.DecimalLaws.{decimal-least}
-use Rattle.refusal_wording.proofs.LineParts.{error-worded, sentence-worded, with-detail, without-detail}
+use Rattle.refusal_wording.proofs.LineParts.{worded, detailed}
 use Rattle.refusal_wording.proofs.SentenceLaws.{each, isPrinted, sentence-printed, sentence-most}
 
 -- ---- printed bytes
@@ -72,16 +72,16 @@ detail-printed n d = by (hasDetail n) refl
     shown = each-append isPrinted (32 ∷ []) (decimal d) space-printed (number-printed d)
 
     by : (b : Bool) → hasDetail n ≡ b → each isPrinted (detailText n d) ≡ true
-    by true p = ap (each isPrinted) (with-detail n d p) ∙ shown
-    by false p = ap (each isPrinted) (without-detail n d p) ∙ none-printed
+    by true p = ap (each isPrinted) (detailed n d p) ∙ shown
+    by false p = ap (each isPrinted) (detailed n d p) ∙ none-printed
 
 wording-printed : (n d w : ℕ) → each isPrinted (wording n d w) ≡ true
 wording-printed n d w = by (isWidthError n) refl
   where
     by : (b : Bool) → isWidthError n ≡ b → each isPrinted (wording n d w) ≡ true
-    by true p = ap (each isPrinted) (error-worded n d w p) ∙ error-printed d w
+    by true p = ap (each isPrinted) (worded n d w p) ∙ error-printed d w
     by false p =
-        ap (each isPrinted) (sentence-worded n d w p) ∙ each-append isPrinted (sentence n) (detailText n d) (sentence-printed n) (detail-printed n d)
+        ap (each isPrinted) (worded n d w p) ∙ each-append isPrinted (sentence n) (detailText n d) (sentence-printed n) (detail-printed n d)
 
 -- "The line has no newline"
 pub line-printed : (n d w : ℕ) → Printed (refusalLine n d w)
@@ -102,8 +102,8 @@ detail-most : (n : ℕ) {d : ℕ} → d < 2 ^ 64 → length (detailText n d) ≤
 detail-most n {d} h = by (hasDetail n) refl
   where
     by : (b : Bool) → hasDetail n ≡ b → length (detailText n d) ≤ 21
-    by true p = omega (arith, ap length (with-detail n d p), number-most h)
-    by false p = omega (arith, ap length (without-detail n d p))
+    by true p = omega (arith, ap length (detailed n d p), number-most h)
+    by false p = omega (arith, ap length (detailed n d p))
 
 longest-number : length (decimal (2 ^ 64 - 1)) ≡ 20
 longest-number = omega (arith, decimal-least 19 (2 ^ 64 - 1) (omega arith), number-most {n = 2 ^ 64 - 1} (omega arith))
@@ -122,7 +122,7 @@ line-most {n} {d} {w} hn hd hw = by (isWidthError n) refl
           arith,
           line-length n d w,
           decimal-most 1 n (omega (arith, leb-true n 15 (and-both (leb 14 n) (leb n 15) p .1))),
-          ap length (error-worded n d w p) ∙ error-length d w,
+          ap length (worded n d w p) ∙ error-length d w,
           number-most hd,
           number-most hw,
         )
@@ -131,7 +131,7 @@ line-most {n} {d} {w} hn hd hw = by (isWidthError n) refl
           arith,
           line-length n d w,
           number-most hn,
-          ap length (sentence-worded n d w p) ∙ length-append (sentence n) (detailText n d),
+          ap length (worded n d w p) ∙ length-append (sentence n) (detailText n d),
           sentence-most n,
           detail-most n hd,
         )
@@ -143,6 +143,6 @@ line-longest =
       line-length 14 (2 ^ 64 - 1) (2 ^ 64 - 1),
       ap length (decimal-more 14 (omega arith)) ∙ length-append (decimal 1) (52 ∷ []),
       ap length (decimal-one 1 (omega arith)),
-      ap length (error-worded 14 (2 ^ 64 - 1) (2 ^ 64 - 1) refl) ∙ error-length (2 ^ 64 - 1) (2 ^ 64 - 1),
+      ap length (worded 14 (2 ^ 64 - 1) (2 ^ 64 - 1) refl) ∙ error-length (2 ^ 64 - 1) (2 ^ 64 - 1),
       longest-number,
     )

@@ -1,18 +1,24 @@
--- The refusals of the library: each has a sentence of its own, and its line tells the whole reply.
+-- The refusals of the library: each has a sentence, and its line tells the whole reply.
 use mathlib.Core.Path.{_≡_, refl, sym, ap, ap₂, _∙_}
-use mathlib.Core.Bool.{Bool, true, false, false≢true}
+use mathlib.Core.Bool.{Bool, true, false, not, _&&_, _||_, false≢true}
 use mathlib.Core.List.{List, _++_, append-cancel-left}
-use Prim.Native.Nat.{ℕ}
+use Prim.Native.Nat.{ℕ, zero, suc, _<_}
+use native.Mathlib.Nat.{not-suc-le-zero}
+use native.Mathlib.Decide.{ℕ-discrete, decLt}
+use native.Mathlib.Omega.{arith}
 use lib.Dec.{eqb}
 use lib.ListN.{getD}
 use borrow.Author.Tests.{eqb-false}
+use Rattle.pauli_group.proofs.Finite.{and-both}
 use Rattle.pauli.specs.declared.refusal.Refusal.{Refusal}
 use Rattle.pauli.specs.declared.refusal.Refusal.the-variants.{Width, Length, BadByte, Gate, Qubit, SameQubit, Room, NotAscii, NotLetter, NoIndex, NotNumeral, Duplicate, TextQubit, ImageWidth, Slot, ListLength, ListRecord, StepGate, StepQubit, StepSameQubit, Link, Loop}
 use Rattle.pauli.specs.Answers.{refusalNumber, refusalDetail, refusalReply, reply}
 use Rattle.pauli.specs.QuotedText.{bytesOf}
 use Rattle.pauli.specs.SparseText.{decimal}
-use Rattle.refusal_wording.specs.RefusalLines.{sentences, sentenceAmong, sentence, hasDetail, widthErrorText, wording, refusalLine}
+use Rattle.refusal_wording.specs.RefusalLines.{sentences, sentenceAmong, sentence, hasDetail, isWidthError, widthErrorText, wording, refusalLine}
 use Rattle.refusal_wording.specs.LineLaws.{ShownAlike}
+use Rattle.refusal_wording.proofs.NumberRanges.{detail-high}
+use Rattle.refusal_wording.proofs.LineParts.{worded, detailed}
 use Rattle.refusal_wording.proofs.LineTells.{lines-differ}
 
 -- no u at its front, and a detail that is 0 where it is not shown
@@ -48,12 +54,13 @@ told (StepSameQubit at) d w = record { own = refl; hidden = shown refl }
 told (Link at) d w = record { own = refl; hidden = shown refl }
 told (Loop at) d w = record { own = refl; hidden = shown refl }
 
--- none is "unknown"
-pub refusal-known : (r : Refusal) (d w : ℕ) → refusalLine (refusalNumber r) d w ≡ decimal (refusalNumber r) ++ bytesOf ": unknown" → ⊥
+-- none begins with "unknown"
+pub refusal-known : (r : Refusal) (d w : ℕ) (t : List ℕ) → refusalLine (refusalNumber r) d w ≡ decimal (refusalNumber r) ++ (bytesOf ": unknown" ++ t) → ⊥
 unfolding refusalLine
-refusal-known r d w h =
+refusal-known r d w t h =
     eqb-false (getD (wording (refusalNumber r) d w) 0 0) 117 (told r d w .own)
-    (ap (λ (t : List ℕ). getD t 2 0) (append-cancel-left (decimal (refusalNumber r)) (bytesOf ": " ++ wording (refusalNumber r) d w) (bytesOf ": unknown") h))
+    (ap (λ (l : List ℕ). getD l 2 0)
+    (append-cancel-left (decimal (refusalNumber r)) (bytesOf ": " ++ wording (refusalNumber r) d w) (bytesOf ": unknown" ++ t) h))
 
 -- refusals that share a line have one number and one detail, whatever widths are told
 pub reply-told : (r s : Refusal) (v w : ℕ) → refusalLine (refusalNumber r) (refusalDetail r) v ≡ refusalLine (refusalNumber s) (refusalDetail s) w
@@ -67,3 +74,39 @@ reply-told r s v w h = ap₂ reply (alike .number) (by (hasDetail (refusalNumber
     by : (b : Bool) → hasDetail (refusalNumber r) ≡ b → refusalDetail r ≡ refusalDetail s
     by true p = alike .detail p
     by false p = told r v v .hidden p ∙ sym (told s w w .hidden (ap hasDetail (sym (alike .number)) ∙ p))
+
+-- ---- a number without a meaning shows no detail: where one is shown, the sentence is not "unknown"
+unfoldable tested : (ℕ → Bool) → ℕ → Bool
+tested f zero = true
+tested f (suc n) = f n && tested f n
+
+tested-at : (f : ℕ → Bool) (n : ℕ) {k : ℕ} → tested f n ≡ true → k < n → f k ≡ true
+unfolding tested
+tested-at f zero h l = absurd (not-suc-le-zero l)
+tested-at f (suc n) {k} h l =
+    let both = and-both (f n) (tested f n) h in
+    elim (ℕ-discrete k n) [ yes e ↦ ap f e ∙ both .0 | no e ↦ tested-at f n (both .1) (omega arith) ]
+
+-- no detail, or the wording of `PauliWidthError`, or no u at the front
+unfoldable isBare : ℕ → Bool
+isBare n = (not (hasDetail n) || isWidthError n) || not (eqb (getD (sentence n) 0 0) 117)
+
+all-bare : tested isBare 20 ≡ true
+unfolding tested isBare hasDetail sentence sentenceAmong sentences
+all-bare = refl
+
+no-detail : (n : ℕ) → sentence n ≡ bytesOf "unknown" → isWidthError n ≡ false → hasDetail n ≡ false
+unfolding isBare
+no-detail n u e = elim (decLt n 20) [
+  | yes h ↦ by (hasDetail n) refl (sym (λ i. (not (hasDetail n) || e i) || not (eqb (getD (u i) 0 0) 117)) ∙ tested-at isBare 20 all-bare h)
+  | no h ↦ sym (detail-high n (omega arith))
+]
+  where
+    by : (b : Bool) → hasDetail n ≡ b → ((not b || false) || false) ≡ true → hasDetail n ≡ false
+    by true p h = absurd (false≢true h)
+    by false p h = p
+
+pub unknown-bare : (n d w : ℕ) → sentence n ≡ bytesOf "unknown" → isWidthError n ≡ false → refusalLine n d w ≡ decimal n ++ bytesOf ": unknown"
+unfolding refusalLine
+unknown-bare n d w u e =
+    ap (λ (t : List ℕ). decimal n ++ (bytesOf ": " ++ t)) (worded n d w e ∙ ap₂ (λ (s t : List ℕ). s ++ t) u (detailed n d (no-detail n u e)))

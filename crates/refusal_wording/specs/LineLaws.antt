@@ -19,8 +19,9 @@ pub record LineTheorem (n d w m e v : ℕ) : Type 0 where
   pub tells : refusalLine n d w ≡ refusalLine m e v → ShownAlike n d w m e v
   pub shares : ShownAlike n d w m e v → refusalLine n d w ≡ refusalLine m e v
 
--- ds is the shortest decimal numeral of n: digits whose value is n, the first 0 for 0 alone; digits of this value are never fewer
+-- ds is the shortest decimal numeral of n: some digits whose value is n, the first 0 for 0 alone; digits of this value are never fewer
 pub record Shortest (n : ℕ) (ds : List ℕ) : Type 0 where
+  pub some : 0 < length ds
   pub digits : allDigits ds ≡ true
   pub value : digitsValue 0 ds ≡ n
   pub first : getD ds 0 0 ≡ 48 → n ≡ 0

@@ -22,7 +22,7 @@ lineReadings =
     lineReading 7 7 0 "7: the destination is too short" ∷
     lineReading 8 7 0 "8: not an ASCII byte, at offset 7" ∷
     lineReading 14 2 2 "14: qubit 2 is outside num_qubits 2; pass a width greater than the maximum qubit index (max qubit + 1)" ∷
-    lineReading 15 128 128 "15: qubit 128 is outside num_qubits 128; pass a width greater than the maximum qubit index (max qubit + 1)" ∷
+    lineReading 15 7 2 "15: qubit 7 is outside num_qubits 2; pass a width greater than the maximum qubit index (max qubit + 1)" ∷
     lineReading 16 7 0 "16: the list has a wrong length" ∷
     lineReading 17 0 0 "17: wrong head or fixed zero, list record 0" ∷
     -- numbers without a meaning

@@ -8,8 +8,8 @@ const DETAIL: u64 = 5;
 
 const WIDTH: u64 = 4;
 
-// The first number above those of all refusals.
-const END: u64 = 20;
+// The last number that a refusal has.
+const LAST: u64 = 19;
 
 fn write_in(number: u64, room: &mut [u8]) {
     let answer = refusal_line(number, DETAIL, WIDTH, room);
@@ -26,7 +26,7 @@ fn write_line(number: u64) {
 }
 
 fn main() {
-    for number in 0..=END {
+    for number in 0..=LAST {
         write_line(number);
     }
 }

@@ -48,15 +48,10 @@ fn answer(reply: raw::Reply) -> Answer {
 fn answer_of(width: u64, reply: raw::Reply) -> Answer {
     match reply.number {
         0 => Ok(reply.value),
-        number @ (14 | 15) => Err(Refusal {
-            number,
-            detail: reply.value,
-            width,
-        }),
         number => Err(Refusal {
             number,
             detail: reply.value,
-            width: 0,
+            width: if matches!(number, 14 | 15) { width } else { 0 },
         }),
     }
 }

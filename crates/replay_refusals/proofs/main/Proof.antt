@@ -8,7 +8,7 @@ abbrev Inv-loop : tie.InvT-loop
 Inv-loop number₀ number = Unit {0}
 
 abbrev μ-loop : tie.MeasureT-loop
-μ-loop number₀ number = 21 - number
+μ-loop number₀ number = 20 - number
 
 pub main-spec : {M : Type 1} → statement M
 main-spec =

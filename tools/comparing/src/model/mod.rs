@@ -1,6 +1,6 @@
 //! The scope document's questions on entry, written a second time and plainly: which refusal a call meets, or how many bytes of its
 //! destination the answer takes. It knows lengths and numbers, which letters differ, which phases are real, and nothing
-//! of products.
+//! of products. The lines of refusals are those of docs/REFUSALS.md.
 
 mod list;
 mod refusals;
