@@ -122,12 +122,12 @@ pub letter-of : (s : List ℕ) (q : ℕ) → q < 128 → stringOf s .letters q �
 unfolding stringOf qubits
 letter-of s q h = decode-letter 128 s q h
 
-byte-letter : (n : ℕ) → (n ≡ 0 → ⊥) → notI (letterOf n) ≡ true
+pub some-letter : (n : ℕ) → (n ≡ 0 → ⊥) → notI (letterOf n) ≡ true
 unfolding notI letterOf
-byte-letter zero h = absurd (h refl)
-byte-letter (suc zero) h = refl
-byte-letter (suc (suc zero)) h = refl
-byte-letter (suc (suc (suc n))) h = refl
+some-letter zero h = absurd (h refl)
+some-letter (suc zero) h = refl
+some-letter (suc (suc zero)) h = refl
+some-letter (suc (suc (suc n))) h = refl
 
 -- it has a letter at a qubit exactly if the byte is not 0
 pub has-none : (s : List ℕ) (q : ℕ) → q < 128 → getD s (q + 1) 0 ≡ 0 → hasLetter (stringOf s) q ≡ false
@@ -136,4 +136,4 @@ has-none s q l e = ap notI (letter-of s q l ∙ ap letterOf (ap (λ (j : ℕ). g
 
 pub has-one : (s : List ℕ) (q : ℕ) → q < 128 → (getD s (q + 1) 0 ≡ 0 → ⊥) → hasLetter (stringOf s) q ≡ true
 unfolding hasLetter
-has-one s q l d = ap notI (letter-of s q l) ∙ byte-letter (getD s (suc q) 0) (λ e. d (ap (λ (j : ℕ). getD s j 0) (add-one q) ∙ e))
+has-one s q l d = ap notI (letter-of s q l) ∙ some-letter (getD s (suc q) 0) (λ e. d (ap (λ (j : ℕ). getD s j 0) (add-one q) ∙ e))

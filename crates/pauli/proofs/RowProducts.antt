@@ -1,6 +1,6 @@
 -- Rows multiplied and compared place by place: what a loop has done before a place, and what a caller reads off the contracts.
 use mathlib.Core.Path.{_≡_, refl, sym, ap, ap₂, _∙_}
-use mathlib.Core.Bool.{Bool}
+use mathlib.Core.Bool.{Bool, cond}
 use mathlib.Core.List.{List, _++_}
 use Prim.Native.Nat.{ℕ, zero, suc, _+_, _%_, _<_, _≤_, zero-le}
 use native.Mathlib.Numerals.{add-one}
@@ -8,14 +8,14 @@ use native.Mathlib.Omega.{arith}
 use lib.ListN.{length, drop, getD, set, List·getD-append}
 use borrow.Author.Needs.{needs}
 use Rattle.pauli_group.specs.Phase.{_·_}
-use Rattle.pauli_group.specs.Letter.{letterPhase, letterMul, anticommute}
-use Rattle.pauli_group.specs.PauliString.{PauliString, qubits, productTo, countTo, anticommutingPlaces, Within}
+use Rattle.pauli_group.specs.Letter.{letterPhase, letterMul, anticommute, notI}
+use Rattle.pauli_group.specs.PauliString.{PauliString, qubits, productTo, countTo, anticommutingPlaces, hasLetter, weightTo, Within}
 use Rattle.pauli_group.specs.Papers.{power}
 use Rattle.pauli_group.proofs.Laws.{·-assoc, ·-one, anticommute-I}
 use Rattle.pauli_group.proofs.Products.{countTo-le, countTo-ext, countTo-cut}
 use Rattle.pauli.specs.Layout.{phaseByte, phaseOf, letterByte, letterOf}
-use Rattle.pauli.specs.Rows.{productPhaseByte, productLetterByte, letterBytesProduct, letterAt, productLetters, productPhase, placesOf, shorter, RowTimes}
-use Rattle.pauli.specs.Inside.Turns.{LetterTurns, PhaseTurns, anticommuting}
+use Rattle.pauli.specs.Rows.{productPhaseByte, productLetterByte, letterBytesProduct, letterAt, productLetters, productPhase, placesOf, letterCount, shorter, RowTimes}
+use Rattle.pauli.specs.Inside.Turns.{LetterTurns, PhaseTurns, anticommuting, lettered}
 use Rattle.pauli.proofs.Places.{length-listed, getD-listed, fill, fill-more, fill-all, length-fill, fill-at}
 use Rattle.pauli.proofs.Records.{phase-back}
 use Rattle.pauli.proofs.Turns.{power-sum}
@@ -107,31 +107,50 @@ unfolding productPhase letterBytesProduct productPhaseByte letterAt productTo
 phase-of-places zero a b = refl
 phase-of-places (suc n) a b = ap₂ _·_ (phase-of-places n a b) (sym (phase-back (letterPhase (letterOf (getD a n 0)) (letterOf (getD b n 0)))))
 
--- ---- the places counted before place i of n
-pub record Counted (a b : List ℕ) (n i c : ℕ) : Type 0 where
+-- ---- a count in one byte: what it has come to before place i of n
+pub record Counted (f : ℕ → Bool) (n i c : ℕ) : Type 0 where
   pub within : i ≤ n
-  pub is : c ≡ placesOf i a b % 256
+  pub is : c ≡ countTo i f % 256
 
-pub counted-none : {a b : List ℕ} {n : ℕ} → Counted a b n 0 0
-unfolding placesOf countTo
+pub counted-none : {f : ℕ → Bool} {n : ℕ} → Counted f n 0 0
+unfolding countTo
 counted-none = record { within = zero-le; is = refl }
 
-places-more : (a b : List ℕ) (i : ℕ) → placesOf (i + 1) a b ≡ placesOf i a b + anticommuting (getD a i 0) (getD b i 0)
-unfolding placesOf countTo letterAt anticommuting
-places-more a b i = rw (add-one i)
-
-pub counted-step : {a b : List ℕ} {n i c : ℕ} → i < n → Counted a b n i c → {t u : ℕ} → t ≡ anticommuting (getD a i 0) (getD b i 0) → u ≡ (c + t) % 256
-    → Counted a b n (i + 1) u
-counted-step {a} {b} {n} {i} {c} h m {t} et eu = record {
+counted-step : {f : ℕ → Bool} {n i c : ℕ} → i < n → Counted f n i c → {t u : ℕ} → t ≡ cond (f i) 1 0 → u ≡ (c + t) % 256 → Counted f n (i + 1) u
+unfolding countTo
+counted-step {f} {n} {i} {c} h m {t} et eu = record {
   within = omega arith;
-  is = eu ∙ rw (places-more a b i, ← et) (omega (arith, m .is));
+  is = eu ∙ rw (add-one i, ← et) (omega (arith, m .is));
 }
 
-pub counted-all : {a b : List ℕ} {n i c : ℕ} → n ≡ shorter a b → n ≤ i → Counted a b n i c → c ≡ placesOf (shorter a b) a b % 256
-counted-all {a} {b} {n} {i} h k m =
-    let within : i ≤ n = m .within in
-    let i-n : i ≡ n = omega arith in
-    m .is ∙ ap (λ (j : ℕ). placesOf j a b % 256) (i-n ∙ h)
+counted-end : {f : ℕ → Bool} {n i c : ℕ} → n ≤ i → Counted f n i c → c ≡ countTo n f % 256
+counted-end {f} {n} {i} k m = let e : i ≡ n = omega (arith, m .within) in m .is ∙ ap (λ (j : ℕ). countTo j f % 256) e
+
+-- the places at which two rows anticommute
+unfoldable pub crosses : List ℕ → List ℕ → ℕ → Bool
+crosses a b q = anticommute (letterAt a q) (letterAt b q)
+
+pub crosses-step : (a b : List ℕ) {n i c : ℕ} → i < n → Counted (crosses a b) n i c → {t u : ℕ} → t ≡ anticommuting (getD a i 0) (getD b i 0) → u ≡ (c + t) % 256
+    → Counted (crosses a b) n (i + 1) u
+unfolding crosses letterAt anticommuting
+crosses-step a b h m et eu = counted-step h m et eu
+
+pub crosses-all : (a b : List ℕ) {n i c : ℕ} → n ≡ shorter a b → n ≤ i → Counted (crosses a b) n i c → c ≡ placesOf (shorter a b) a b % 256
+unfolding crosses placesOf
+crosses-all a b h k m = counted-end k m ∙ ap (λ (j : ℕ). placesOf j a b % 256) h
+
+-- the letters other than I of a row
+unfoldable pub letterHere : List ℕ → ℕ → Bool
+letterHere a q = notI (letterAt a q)
+
+pub letters-step : (a : List ℕ) {n i c : ℕ} → i < n → Counted (letterHere a) n i c → {t u : ℕ} → t ≡ lettered (getD a i 0) → u ≡ (c + t) % 256
+    → Counted (letterHere a) n (i + 1) u
+unfolding letterHere letterAt lettered
+letters-step a h m et eu = counted-step h m et eu
+
+pub letters-all : (a : List ℕ) {i c : ℕ} → length a ≤ i → Counted (letterHere a) (length a) i c → c ≡ letterCount a % 256
+unfolding letterHere letterCount
+letters-all a k m = counted-end k m
 
 -- up to 255 places the count is exact
 count-exact : (n : ℕ) (a b : List ℕ) → n ≤ 255 → placesOf n a b % 256 ≡ placesOf n a b
@@ -149,4 +168,13 @@ places-of-rows s t n a b h ea eb none =
     together : ℕ → Bool
     together q = anticommute (s .letters q) (t .letters q)
 
-pub ruleset counts = (counted-none, counted-step, counted-all, needs)
+-- and so it is the weight of a string whose letters stand in the row
+pub weight-of-row : (s : PauliString) (n : ℕ) (a : List ℕ) → n ≤ 255 → length a ≡ n → ((q : ℕ) → q < n → letterAt a q ≡ s .letters q)
+    → letterCount a % 256 ≡ weightTo n s
+unfolding letterCount weightTo hasLetter
+weight-of-row s n a h long e =
+    let all : countTo (length a) (λ q. notI (letterAt a q)) ≡ countTo n (λ q. notI (s .letters q)) =
+    ap (λ (j : ℕ). countTo j (λ q. notI (letterAt a q))) long ∙ countTo-ext n _ _ (λ q l. ap notI (e q l)) in
+    omega (arith, countTo-le n (λ q. notI (s .letters q)), all)
+
+pub ruleset counts = (counted-none, crosses-step, crosses-all, letters-step, letters-all, needs)

@@ -10,14 +10,14 @@ use mir.Syntax.{w8}
 use mir.Val.{Fits}
 use borrow.Author.Needs.{needs}
 use Rattle.pauli_group.specs.Phase.{Phase, PlusOne, MinusI, negate, turn, _·_}
-use Rattle.pauli_group.specs.Letter.{Letter, letterProduct, letterPhase, letterMul, anticommute}
+use Rattle.pauli_group.specs.Letter.{Letter, letterProduct, letterPhase, letterMul, anticommute, notI}
 use Rattle.pauli_group.specs.Papers.{power}
 use Rattle.pauli_group.proofs.Finite.{letters, phases, law2}
 use Rattle.pauli_group.proofs.PaperForms.{power-add}
 use Rattle.pauli.specs.Layout.{phaseByte, phaseOf, letterByte, letterOf}
 use Rattle.pauli.specs.Rows.{phaseBytesProduct}
-use Rattle.pauli.specs.Inside.Turns.{LetterByte, LetterBytes, forY, ForY, LetterTurns, PhaseTurns, anticommuting}
-use Rattle.pauli.proofs.Records.{letter-back, letter-there, letter-small}
+use Rattle.pauli.specs.Inside.Turns.{LetterByte, LetterBytes, forY, ForY, LetterTurns, PhaseTurns, anticommuting, lettered}
+use Rattle.pauli.proofs.Records.{letter-back, letter-there, letter-small, some-letter}
 
 -- ---- powers of i
 power-times : (k m : ℕ) → power m ≡ PlusOne → power (k * m) ≡ PlusOne
@@ -126,6 +126,15 @@ pub crossing-is : {a b x y : ℕ} → LetterByte a x → LetterByte b y → cros
 unfolding anticommuting
 crossing-is {a} {b} f g = rw (f .is, g .is) (letter-crossing (letterOf a) (letterOf b))
 
+-- a letter other than I by its byte
+pub none-lettered : {x : ℕ} → x ≡ 0 → 0 ≡ lettered x
+unfolding lettered letterOf notI
+none-lettered e = sym (ap (λ (j : ℕ). cond (notI (letterOf j)) 1 0) e)
+
+pub some-lettered : {x : ℕ} → (x ≡ 0 → ⊥) → 1 ≡ lettered x
+unfolding lettered
+some-lettered {x} d = sym (ap (λ b. cond b 1 0) (some-letter x d))
+
 pub turns-added : {x y t r : ℕ} (v : ℕ) → LetterTurns x y t → r ≡ (v + t) % 256 → power r ≡ power v · letterPhase (letterOf x) (letterOf y)
 turns-added {t = t} v m e = ap power e ∙ power-sum v t ∙ ap (λ p. power v · p) (m .is)
 
@@ -164,6 +173,8 @@ pub ruleset places = (
   turns-read,
   turns-added,
   crossing-is,
+  none-lettered,
+  some-lettered,
   phases-are,
   turned,
   needs,

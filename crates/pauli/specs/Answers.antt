@@ -5,7 +5,7 @@ use mathlib.Core.Bool.{Bool, true, false}
 use mathlib.Core.List.{List, _++_}
 use lib.ListN.{length, drop}
 use Rattle.pauli.specs.declared.refusal.Refusal.{Refusal}
-use Rattle.pauli.specs.declared.refusal.Refusal.the-variants.{Width, Length, BadByte, Gate, Qubit, SameQubit, Room, NotAscii, NotLetter, NoIndex, NotNumeral, Duplicate, TextQubit, ImageWidth, Slot, ListLength, ListRecord, StepGate, StepQubit, StepSameQubit, Link, Loop}
+use Rattle.pauli.specs.declared.refusal.Refusal.the-variants.{Width, Length, BadByte, Gate, Qubit, SameQubit, Room, NotAscii, NotLetter, NoIndex, NotNumeral, Duplicate, TextQubit, ImageWidth, Slot, ListLength, ListRecord, StepGate, StepQubit, StepSameQubit, Link, Loop, FalseWeight}
 use Rattle.pauli.specs.declared.refusal.Outcome.{Outcome}
 use Rattle.pauli.specs.declared.refusal.Outcome.the-variants.{Done, Refused}
 use Rattle.pauli.specs.declared.refusal.Product.{Product}
@@ -43,6 +43,7 @@ refusalNumber (StepQubit at) = 5
 refusalNumber (StepSameQubit at) = 6
 refusalNumber (Link at) = 18
 refusalNumber (Loop at) = 19
+refusalNumber (FalseWeight offset) = 24
 
 -- "Detail is 0 unless named"
 unfoldable pub refusalDetail : Refusal → ℕ
@@ -68,6 +69,7 @@ refusalDetail (StepQubit at) = at
 refusalDetail (StepSameQubit at) = at
 refusalDetail (Link at) = at
 refusalDetail (Loop at) = at
+refusalDetail (FalseWeight offset) = offset
 
 abbrev pub reply : ℕ → ℕ → Reply
 reply n v = record { number = n; value = v }

@@ -4,7 +4,7 @@ use mathlib.Core.Path.{_≡_}
 use mathlib.Core.List.{List, [], _∷_, _++_}
 use lib.ListN.{length, take, drop, getD}
 use Rattle.pauli_group.specs.Phase.{Phase, _·_, conjugate}
-use Rattle.pauli_group.specs.Letter.{Letter, letterPhase, letterMul, anticommute}
+use Rattle.pauli_group.specs.Letter.{Letter, letterPhase, letterMul, anticommute, notI}
 use Rattle.pauli_group.specs.PauliString.{productTo, countTo}
 use Rattle.pauli.specs.Places.{listed}
 use Rattle.pauli.specs.Layout.{phaseByte, phaseOf, letterByte, letterOf}
@@ -42,6 +42,10 @@ productPhase n a b = productTo n (λ q. letterPhase (letterAt a q) (letterAt b q
 -- at how many of the first n places the letters anticommute
 unfoldable pub placesOf : ℕ → List ℕ → List ℕ → ℕ
 placesOf n a b = countTo n (λ q. anticommute (letterAt a q) (letterAt b q))
+
+-- how many letters of a row are other than I
+unfoldable pub letterCount : List ℕ → ℕ
+letterCount a = countTo (length a) (λ q. notI (letterAt a q))
 
 abbrev pub shorter : List ℕ → List ℕ → ℕ
 shorter a b = min (length a) (length b)

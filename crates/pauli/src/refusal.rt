@@ -27,6 +27,7 @@ pub enum Refusal {
     StepSameQubit { record: usize },
     Link { record: usize },
     Loop { record: usize },
+    FalseWeight { offset: usize },
 }
 
 // What questions come to; also the answer of a function that writes.
@@ -98,6 +99,7 @@ pub fn number(r: Refusal) -> u64
         Refusal::StepSameQubit { record: _ } => 6,
         Refusal::Link { record: _ } => 18,
         Refusal::Loop { record: _ } => 19,
+        Refusal::FalseWeight { offset: _ } => 24,
     }
 }
 
@@ -128,6 +130,7 @@ pub fn detail(r: Refusal) -> u64
         Refusal::StepSameQubit { record } => record as u64,
         Refusal::Link { record } => record as u64,
         Refusal::Loop { record } => record as u64,
+        Refusal::FalseWeight { offset } => offset as u64,
     }
 }
 

@@ -7,8 +7,8 @@ ghost use Rattle.pauli_group.specs.Letter.{letterMul};
 ghost use Rattle.pauli_group.specs.Papers.{power};
 ghost use Rattle.pauli.specs.Layout.{phaseByte, phaseOf, letterByte, letterOf};
 ghost use Rattle.pauli.specs.Questions.{firstBad};
-ghost use Rattle.pauli.specs.Rows.{phaseBytesProduct, placesOf, shorter, RowTimes, rowProduct, copied};
-ghost use Rattle.pauli.specs.Inside.Turns.{LetterByte, LetterBytes, ForY, LetterTurns, PhaseTurns, anticommuting, NoneAbove};
+ghost use Rattle.pauli.specs.Rows.{phaseBytesProduct, placesOf, letterCount, shorter, RowTimes, rowProduct, copied};
+ghost use Rattle.pauli.specs.Inside.Turns.{LetterByte, LetterBytes, ForY, LetterTurns, PhaseTurns, anticommuting, lettered, NoneAbove};
 
 pub fn smaller(a: usize, b: usize) -> usize
     ensures { λ r. ⌜ r ≡ min a b ⌝ }
@@ -143,6 +143,26 @@ pub fn count_anticommuting(a: &[u8], b: &[u8]) -> u8
     let mut i = 0;
     while i < n {
         count = std::num::wrapping_add_u8(count, letters_anticommute(a[i], b[i]));
+        i += 1;
+    }
+    count
+}
+
+// 1 for a letter other than I, else 0.
+fn is_letter(x: u8) -> u8
+    ensures { λ r. ⌜ r ≡ lettered x ⌝ }
+{
+    if x == 0 { 0 } else { 1 }
+}
+
+// The number of letters other than I, modulo 256.
+pub fn count_letters(s: &[u8]) -> u8
+    ensures { λ r. ⌜ r ≡ letterCount (now (s .entry)) % 256 ⌝ }
+{
+    let mut count: u8 = 0;
+    let mut i = 0;
+    while i < s.len() {
+        count = std::num::wrapping_add_u8(count, is_letter(s[i]));
         i += 1;
     }
     count

@@ -60,6 +60,18 @@ unfolding countTo
 countTo-ext zero f g h = refl
 countTo-ext (suc n) f g h = ap₂ (λ c b. c + cond b 1 0) (countTo-ext n f g (λ q l. h q (omega arith))) (h n (omega arith))
 
+-- two counts that differ at one place at most
+pub count-changed : (n : ℕ) (f g : ℕ → Bool) (p : ℕ) → p < n → ((q : ℕ) → (q ≡ p → ⊥) → f q ≡ g q) → countTo n g + cond (f p) 1 0 ≡ countTo n f + cond (g p) 1 0
+unfolding countTo
+count-changed zero f g p h s = absurd (not-suc-le-zero h)
+count-changed (suc n) f g p h s = elim (ℕ-discrete p n) [
+  | yes d ↦ omega (arith, countTo-ext n f g (λ q l. s q (λ z. other q l z d)), ap {B = ℕ} (λ (k : ℕ). cond (f k) 1 0) d, ap {B = ℕ} (λ (k : ℕ). cond (g k) 1 0) d)
+  | no d ↦ omega (arith, count-changed n f g p (omega arith) s, ap {B = ℕ} (λ b. cond b 1 0) (s n (λ z. d (sym z))))
+]
+  where
+    other : (q : ℕ) → q < n → q ≡ p → p ≡ n → ⊥
+    other q l z d = omega arith
+
 -- places at n and above that do not have f do not count
 pub countTo-cut : (n k : ℕ) (f : ℕ → Bool) → n ≤ k → ((q : ℕ) → n ≤ q → f q ≡ false) → countTo k f ≡ countTo n f
 unfolding countTo

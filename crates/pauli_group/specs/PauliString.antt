@@ -45,6 +45,10 @@ mul s t = record {
 unfoldable pub hasLetter : PauliString → ℕ → Bool
 hasLetter s q = notI (s .letters q)
 
+-- the weight of the letters on qubits 0 to n - 1: how many of them are other than I
+unfoldable pub weightTo : ℕ → PauliString → ℕ
+weightTo n s = countTo n (hasLetter s)
+
 -- the places that a product takes: as far as the last at which either string has a letter other than I
 unfoldable pub placesTaken : PauliString → PauliString → ℕ
 placesTaken s t = lastTo qubits (λ q. hasLetter s q || hasLetter t q)

@@ -4,7 +4,7 @@ use mathlib.Core.Path.{_≡_}
 use mathlib.Core.Bool.{cond}
 use mathlib.Core.List.{List}
 use lib.ListN.{getD}
-use Rattle.pauli_group.specs.Letter.{letterPhase, anticommute}
+use Rattle.pauli_group.specs.Letter.{letterPhase, anticommute, notI}
 use Rattle.pauli_group.specs.Papers.{power}
 use Rattle.pauli.specs.Layout.{phaseOf, letterByte, letterOf}
 
@@ -39,6 +39,10 @@ pub record PhaseTurns (p t : ℕ) : Type 0 where
 -- 1 where two letter bytes anticommute, else 0
 unfoldable pub anticommuting : ℕ → ℕ → ℕ
 anticommuting a b = cond (anticommute (letterOf a) (letterOf b)) 1 0
+
+-- 1 for the byte of a letter other than I, else 0
+unfoldable pub lettered : ℕ → ℕ
+lettered x = cond (notI (letterOf x)) 1 0
 
 -- no byte before place i is above m
 pub record NoneAbove (s : List ℕ) (i m : ℕ) : Type 0 where

@@ -31,4 +31,5 @@ detail-spec =
     (λ c. search (at-case refusalDetail, needs)) (λ c. search (at-case refusalDetail, needs))
     (λ c. search (at-case refusalDetail, needs)) (λ c. search (at-case refusalDetail, needs))
     (λ c. search (at-case refusalDetail, needs)) (λ c. search (at-case refusalDetail, needs))
+    (λ c. search (at-case refusalDetail, needs)) (λ c. search (at-case refusalDetail, needs))
     (λ c. search (at-case refusalDetail, needs)) (λ c. search (at-case refusalDetail, needs)))

@@ -31,4 +31,5 @@ number-spec =
     (λ c. search (at-case refusalNumber, needs)) (λ c. search (at-case refusalNumber, needs))
     (λ c. search (at-case refusalNumber, needs)) (λ c. search (at-case refusalNumber, needs))
     (λ c. search (at-case refusalNumber, needs)) (λ c. search (at-case refusalNumber, needs))
+    (λ c. search (at-case refusalNumber, needs)) (λ c. search (at-case refusalNumber, needs))
     (λ c. search (at-case refusalNumber, needs)) (λ c. search (at-case refusalNumber, needs)))

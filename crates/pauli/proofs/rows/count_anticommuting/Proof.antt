@@ -1,11 +1,11 @@
 -- `rows::count_anticommuting` meets its contract, by the laws of `Counted`.
 use Prim.Native.Nat.{_-_}
-use Rattle.pauli.proofs.RowProducts.{Counted, counts}
+use Rattle.pauli.proofs.RowProducts.{Counted, crosses, counts}
 use Rattle.pauli.proofs.rows.count_anticommuting.Statement.{statement}
 use Rattle.pauli.proofs.rows.count_anticommuting.Tie as tie
 
 abbrev Inv-loop : tie.InvT-loop
-Inv-loop a b n count₀ i₀ count i = Counted a b n i count
+Inv-loop a b n count₀ i₀ count i = Counted (crosses a b) n i count
 
 abbrev μ-loop : tie.MeasureT-loop
 μ-loop a b n count₀ i₀ count i = n - i
