@@ -13,16 +13,16 @@ use borrow.Author.Tests.{lt-leb, le-leb, lt-ltb, le-ltb, eq-eqb, ne-eqb, eqb-tru
 use Rattle.pauli_group.specs.PauliString.{qubits}
 use Rattle.clifford_group.specs.Tableau.{Tableau, Proper}
 use Rattle.pauli.specs.declared.refusal.Refusal.{Refusal}
-use Rattle.pauli.specs.declared.refusal.Refusal.the-variants.{Width, Length, BadByte, Slot}
+use Rattle.pauli.specs.declared.refusal.Refusal.the-variants.{Width, Length, BadByte, Slot, FalseWeight}
 use Rattle.pauli.specs.declared.refusal.Outcome.{Outcome}
 use Rattle.pauli.specs.declared.refusal.Outcome.the-variants.{Done, Refused}
 use Rattle.pauli.specs.Places.{firstPlace}
 use Rattle.pauli.specs.Questions.{ask, _andThen_, firstBad, bytesQuestion}
 use Rattle.pauli.proofs.Asking.{asked-yes, asked-no, ask-done, refused, passed, done-first, done-second, questions}
 use Rattle.pauli.proofs.Places.{first-is, first-before}
-use Rattle.clifford.specs.Layout.{letterPlace, lettersOf, recordLength, longestRecord, rowLength, rowOffset, rowPart, tableauRecord, widthOf, tableauOf, FormedRow, FormedTableau}
+use Rattle.clifford.specs.Layout.{weightPlace, letterPlace, lettersOf, recordLength, longestRecord, rowLength, rowOffset, rowPart, tableauRecord, widthOf, tableauOf, FormedRow, FormedTableau}
 use Rattle.clifford.specs.Inside.Rows.{Sized, Laid, RowInside}
-use Rattle.clifford.specs.Questions.{widthQuestion, lengthQuestion, rowQuestion, rowsQuestion, tableauQuestions, slotQuestion}
+use Rattle.clifford.specs.Questions.{widthQuestion, lengthQuestion, rowQuestion, weightQuestion, rowsAsked, codesQuestion, weightsQuestion, tableauQuestions, slotQuestion}
 use Rattle.clifford.proofs.Rows.{letters-at, letters-long, length-part}
 use Rattle.clifford.proofs.Records.{record-small, longest-is, record-there, record-formed, proper-of}
 
@@ -80,13 +80,14 @@ small-bytes base s small = sym (bytes-good base s (omega (arith, all)))
     all = unfold firstBad in
         first-is (length s) (λ j. ltb 3 (getD s j 0)) (length s) (omega arith) (λ k h. le-ltb 3 (getD s k 0) (small k h)) (λ h. absurd (never h))
 
--- what is let by is a formed row
-row-question-formed : (w start : ℕ) (b : List ℕ) → length b ≡ rowLength w → rowQuestion start b ≡ Done → FormedRow w b
-unfolding rowQuestion
-row-question-formed w start b long e = record {
+-- what is let by by both questions is a formed row
+row-question-formed : (w start : ℕ) (b : List ℕ) → length b ≡ rowLength w → rowQuestion start b ≡ Done → weightQuestion w start b ≡ Done → FormedRow w b
+unfolding rowQuestion weightQuestion
+row-question-formed w start b long e v = record {
   long = long;
   phase = leb-true (getD b 0 0) 3 (ask-done _ _ (done-first _ _ e));
   letters = λ q h. omega (arith, letters-at b q, bytes-small _ (lettersOf b) (done-second (ask (leb (getD b 0 0) 3) (BadByte start)) _ e) q (omega (arith, letters-long w b long)));
+  weight = eqb-true _ _ (ask-done _ _ v);
 }
 
 formed-row-question : {w : ℕ} (start : ℕ) {b : List ℕ} → FormedRow w b → rowQuestion start b ≡ Done
@@ -95,58 +96,85 @@ formed-row-question {w} start {b} f = sym (
     passed (asked-yes (BadByte start) (le-leb (getD b 0 0) 3 (f .phase))) refl
     (sym (small-bytes (start + letterPlace 0) (lettersOf b) (λ q h. omega (arith, letters-at b q, f .letters q (omega (arith, letters-long w b (f .long))))))))
 
--- ---- all rows, in their order
-asked-rows : (k : ℕ) (b : List ℕ) → rowsQuestion (suc k) b ≡ rowsQuestion k b andThen rowQuestion (rowOffset (widthOf b) k) (rowPart b k)
-unfolding rowsQuestion
-asked-rows k b = refl
+formed-weight-question : {w : ℕ} (start : ℕ) {b : List ℕ} → FormedRow w b → weightQuestion w start b ≡ Done
+unfolding weightQuestion
+formed-weight-question {w} start f = sym (asked-yes (FalseWeight (start + weightPlace)) (eq-eqb _ _ (f .weight)))
 
-rows-each : (k : ℕ) (b : List ℕ) → rowsQuestion k b ≡ Done → (r : ℕ) → r < k → rowQuestion (rowOffset (widthOf b) r) (rowPart b r) ≡ Done
-rows-each zero b e r h = absurd (not-suc-le-zero h)
-rows-each (suc k) b e r h = elim (ℕ-discrete r k) [
-  | yes d ↦ ap (λ (j : ℕ). rowQuestion (rowOffset (widthOf b) j) (rowPart b j)) d ∙ done-second (rowsQuestion k b) _ (sym (asked-rows k b) ∙ e)
-  | no d ↦ rows-each k b (done-first _ _ (sym (asked-rows k b) ∙ e)) r (omega arith)
-]
+-- ---- a question put to all rows, in their order
+module _ (question : ℕ → List ℕ → Outcome) (b : List ℕ) where
+  abbrev asked-row : ℕ → Outcome
+  asked-row r = question (rowOffset (widthOf b) r) (rowPart b r)
 
-each-rows : (k : ℕ) (b : List ℕ) → ((r : ℕ) → r < k → rowQuestion (rowOffset (widthOf b) r) (rowPart b r) ≡ Done) → rowsQuestion k b ≡ Done
-each-rows zero b h = unfold rowsQuestion in refl
-each-rows (suc k) b h = asked-rows k b ∙ sym (passed (sym (each-rows k b (λ r l. h r (omega arith)))) refl (sym (h k (omega arith))))
+  asked-rows : (k : ℕ) → rowsAsked question (suc k) b ≡ rowsAsked question k b andThen asked-row k
+  unfolding rowsAsked
+  asked-rows k = refl
 
--- a refusal stays
-rows-stay : (k m : ℕ) (b : List ℕ) {x : Refusal} → rowsQuestion k b ≡ Refused x → rowsQuestion (k + m) b ≡ Refused x
-rows-stay k zero b e = (let z : k + 0 ≡ k = omega arith in ap (λ (j : ℕ). rowsQuestion j b) z) ∙ e
-rows-stay k (suc m) b {x} e =
-    let z : k + suc m ≡ suc (k + m) = omega arith in
-    ap (λ (j : ℕ). rowsQuestion j b) z ∙ asked-rows (k + m) b ∙ sym (refused _ (sym (rows-stay k m b e)) refl)
+  rows-each : (k : ℕ) → rowsAsked question k b ≡ Done → (r : ℕ) → r < k → asked-row r ≡ Done
+  rows-each zero e r h = absurd (not-suc-le-zero h)
+  rows-each (suc k) e r h = elim (ℕ-discrete r k) [
+    | yes d ↦ ap asked-row d ∙ done-second (rowsAsked question k b) _ (sym (asked-rows k) ∙ e)
+    | no d ↦ rows-each k (done-first _ _ (sym (asked-rows k) ∙ e)) r (omega arith)
+  ]
+
+  each-rows : (k : ℕ) → ((r : ℕ) → r < k → asked-row r ≡ Done) → rowsAsked question k b ≡ Done
+  each-rows zero h = unfold rowsAsked in refl
+  each-rows (suc k) h = asked-rows k ∙ sym (passed (sym (each-rows k (λ r l. h r (omega arith)))) refl (sym (h k (omega arith))))
+
+  -- a refusal stays
+  rows-stay : (k m : ℕ) {x : Refusal} → rowsAsked question k b ≡ Refused x → rowsAsked question (k + m) b ≡ Refused x
+  rows-stay k zero e = (let z : k + 0 ≡ k = omega arith in ap (λ (j : ℕ). rowsAsked question j b) z) ∙ e
+  rows-stay k (suc m) {x} e =
+      let z : k + suc m ≡ suc (k + m) = omega arith in
+      ap (λ (j : ℕ). rowsAsked question j b) z ∙ asked-rows (k + m) ∙ sym (refused _ (sym (rows-stay k m e)) refl)
 
 -- the rows before r are let by
-pub record RowsGood (b : List ℕ) (n r : ℕ) : Type 0 where
+pub record RowsGood (question : ℕ → List ℕ → Outcome) (b : List ℕ) (n r : ℕ) : Type 0 where
   pub wide : n ≡ 2 * widthOf b
   pub within : r ≤ n
-  pub asked : rowsQuestion r b ≡ Done
+  pub asked : rowsAsked question r b ≡ Done
 
-pub rows-start : (b : List ℕ) {n : ℕ} → n ≡ widthOf b → RowsGood b (2 * n) 0
-unfolding rowsQuestion
-rows-start b e = record { wide = ap (λ (j : ℕ). 2 * j) e; within = omega arith; asked = refl }
+pub rows-start : (question : ℕ → List ℕ → Outcome) (b : List ℕ) {n : ℕ} → n ≡ widthOf b → RowsGood question b (2 * n) 0
+unfolding rowsAsked
+rows-start question b e = record { wide = ap (λ (j : ℕ). 2 * j) e; within = omega arith; asked = refl }
 
-module _ {b : List ℕ} {n r : ℕ} (m : RowsGood b n r) where
-  pub rows-done : n ≤ r → Done ≡ rowsQuestion (2 * widthOf b) b
-  rows-done h = let e : r ≡ 2 * widthOf b = omega (arith, m .within, m .wide) in sym (m .asked) ∙ ap (λ (j : ℕ). rowsQuestion j b) e
+module _ {question : ℕ → List ℕ → Outcome} {b : List ℕ} {n r : ℕ} (m : RowsGood question b n r) where
+  rows-done : n ≤ r → Done ≡ rowsAsked question (2 * widthOf b) b
+  rows-done h = let e : r ≡ 2 * widthOf b = omega (arith, m .within, m .wide) in sym (m .asked) ∙ ap (λ (j : ℕ). rowsAsked question j b) e
 
   module _ (h : r < n) where
     pub rows-inside : Laid b → RowInside b r
     rows-inside l = record { laid = l; own = omega (arith, m .wide) }
 
-    module _ {q : Outcome} (e : q ≡ rowQuestion (rowOffset (widthOf b) r) (rowPart b r)) where
-      next : q ≡ rowsQuestion (suc r) b
-      next = passed (sym (m .asked)) refl e ∙ sym (asked-rows r b)
+    module _ {q : Outcome} (e : q ≡ question (rowOffset (widthOf b) r) (rowPart b r)) where
+      next : q ≡ rowsAsked question (suc r) b
+      next = passed (sym (m .asked)) refl e ∙ sym (asked-rows question b r)
 
-      pub rows-more : q ≡ Done → RowsGood b n (r + 1)
-      rows-more d = record { wide = m .wide; within = omega arith; asked = ap (λ (j : ℕ). rowsQuestion j b) (add-one r) ∙ sym next ∙ d }
+      pub rows-more : q ≡ Done → RowsGood question b n (r + 1)
+      rows-more d = record { wide = m .wide; within = omega arith; asked = ap (λ (j : ℕ). rowsAsked question j b) (add-one r) ∙ sym next ∙ d }
 
-      pub rows-refused : {x : Refusal} → q ≡ Refused x → q ≡ rowsQuestion (2 * widthOf b) b
+      rows-refused : {x : Refusal} → q ≡ Refused x → q ≡ rowsAsked question (2 * widthOf b) b
       rows-refused d =
           let z : suc r + (n - suc r) ≡ 2 * widthOf b = omega (arith, m .wide) in
-          d ∙ sym (rows-stay (suc r) (n - suc r) b (sym next ∙ d)) ∙ ap (λ (j : ℕ). rowsQuestion j b) z
+          d ∙ sym (rows-stay question b (suc r) (n - suc r) (sym next ∙ d)) ∙ ap (λ (j : ℕ). rowsAsked question j b) z
+
+-- question 3, and question 24
+pub codes-done : {b : List ℕ} {n r : ℕ} → RowsGood rowQuestion b n r → n ≤ r → Done ≡ codesQuestion b
+unfolding codesQuestion
+codes-done m h = rows-done m h
+
+pub codes-refused : {b : List ℕ} {n r : ℕ} {q : Outcome} {x : Refusal} → RowsGood rowQuestion b n r → r < n → q ≡ rowQuestion (rowOffset (widthOf b) r) (rowPart b r)
+    → q ≡ Refused x → q ≡ codesQuestion b
+unfolding codesQuestion
+codes-refused m h e d = rows-refused m h e d
+
+pub weights-done : {b : List ℕ} {n r : ℕ} → RowsGood (weightQuestion (widthOf b)) b n r → n ≤ r → Done ≡ weightsQuestion b
+unfolding weightsQuestion
+weights-done m h = rows-done m h
+
+pub weights-refused : {b : List ℕ} {n r : ℕ} {q : Outcome} {x : Refusal} → RowsGood (weightQuestion (widthOf b)) b n r → r < n
+    → q ≡ weightQuestion (widthOf b) (rowOffset (widthOf b) r) (rowPart b r) → q ≡ Refused x → q ≡ weightsQuestion b
+unfolding weightsQuestion
+weights-refused m h e d = rows-refused m h e d
 
 pub laid-narrow : {b : List ℕ} {n : ℕ} → Laid b → n ≡ widthOf b → n ≤ 128
 laid-narrow l e = omega (arith, l .narrow)
@@ -174,11 +202,16 @@ module _ (b : List ℕ) (some : length b ≡ 0 → ⊥) where
   tableau-short {r} {m} {n} w e h s k =
       passed first-done refl (passed (e ∙ ap widthQuestion w) h (refused _ (asked-no Length (ne-eqb _ _ (λ z. k (z ∙ sym (s .is ∙ ap recordLength w))))) refl))
 
-  pub tableau-rows : {r q : Outcome} {m n : ℕ} → m ≡ widthOf b → r ≡ widthQuestion m → r ≡ Done → Sized (recordLength m) n → length b ≡ n
-      → q ≡ rowsQuestion (2 * widthOf b) b → q ≡ tableauQuestions b
-  unfolding tableauQuestions lengthQuestion
-  tableau-rows {r} {q} {m} {n} w e h s k z =
-      passed first-done refl (passed (e ∙ ap widthQuestion w) h (passed (asked-yes Length (eq-eqb _ _ (k ∙ s .is ∙ ap recordLength w))) refl z))
+  module _ {r : Outcome} {m n : ℕ} (w : m ≡ widthOf b) (e : r ≡ widthQuestion m) (h : r ≡ Done) (s : Sized (recordLength m) n) (k : length b ≡ n) where
+    pub tableau-codes : {q : Outcome} {x : Refusal} → q ≡ codesQuestion b → q ≡ Refused x → q ≡ tableauQuestions b
+    unfolding tableauQuestions lengthQuestion
+    tableau-codes c d =
+        passed first-done refl (passed (e ∙ ap widthQuestion w) h (passed (asked-yes Length (eq-eqb _ _ (k ∙ s .is ∙ ap recordLength w))) refl (refused _ c d)))
+
+    pub tableau-weights : {q v : Outcome} → q ≡ codesQuestion b → q ≡ Done → v ≡ weightsQuestion b → v ≡ tableauQuestions b
+    unfolding tableauQuestions lengthQuestion
+    tableau-weights c d z =
+        passed first-done refl (passed (e ∙ ap widthQuestion w) h (passed (asked-yes Length (eq-eqb _ _ (k ∙ s .is ∙ ap recordLength w))) refl (passed c d z)))
 
 pub tableau-laid : (b : List ℕ) {r : Outcome} {m n : ℕ} → m ≡ widthOf b → r ≡ widthQuestion m → r ≡ Done → Sized (recordLength m) n → length b ≡ n → Laid b
 tableau-laid b {m = m} w e h s k = record { narrow = omega (arith, width-done e h); long = k ∙ s .is ∙ ap recordLength w }
@@ -194,35 +227,41 @@ pub ruleset tableau-questions = (
   width-none,
   tableau-wide,
   tableau-short,
-  tableau-rows,
+  tableau-codes,
+  tableau-weights,
   tableau-laid,
 )
 
-pub ruleset rows-questions = (rows-start, rows-inside, rows-more, rows-refused, rows-done, laid-narrow, needs)
+pub ruleset rows-questions = (rows-start, rows-inside, rows-more, codes-refused, codes-done, weights-refused, weights-done, laid-narrow, needs)
 
 -- ---- what is admitted: a tableau's questions let by exactly the records of tableaux of width at most 128
 module _ (b : List ℕ) (e : tableauQuestions b ≡ Done) where
-  asked : ask (ltb 0 (length b)) Length andThen widthQuestion (widthOf b) andThen lengthQuestion b andThen rowsQuestion (2 * widthOf b) b ≡ Done
+  asked : ask (ltb 0 (length b)) Length andThen widthQuestion (widthOf b) andThen lengthQuestion b andThen codesQuestion b andThen weightsQuestion b ≡ Done
   unfolding tableauQuestions
   asked = e
 
-  after-first : widthQuestion (widthOf b) andThen lengthQuestion b andThen rowsQuestion (2 * widthOf b) b ≡ Done
+  after-first : widthQuestion (widthOf b) andThen lengthQuestion b andThen codesQuestion b andThen weightsQuestion b ≡ Done
   after-first = done-second (ask (ltb 0 (length b)) Length) _ asked
 
-  after-width : lengthQuestion b andThen rowsQuestion (2 * widthOf b) b ≡ Done
+  after-width : lengthQuestion b andThen codesQuestion b andThen weightsQuestion b ≡ Done
   after-width = done-second (widthQuestion (widthOf b)) _ after-first
+
+  after-length : codesQuestion b andThen weightsQuestion b ≡ Done
+  after-length = done-second (lengthQuestion b) _ after-width
 
   long : length b ≡ recordLength (widthOf b)
   unfolding lengthQuestion
   long = eqb-true _ _ (ask-done _ _ (done-first (lengthQuestion b) _ after-width))
 
   pub tableau-formed : FormedTableau b
+  unfolding codesQuestion weightsQuestion
   tableau-formed = record {
     some = ltb-true 0 (length b) (ask-done _ _ (done-first _ _ asked));
     narrow = width-is (widthOf b) (done-first _ _ after-first);
     long = long;
     rows = λ r h. row-question-formed (widthOf b) (rowOffset (widthOf b) r) (rowPart b r) (length-part b (widthOf b) r refl long h)
-        (rows-each (2 * widthOf b) b (done-second (lengthQuestion b) _ after-width) r h);
+        (rows-each rowQuestion b (2 * widthOf b) (done-first (codesQuestion b) _ after-length) r h)
+        (rows-each (weightQuestion (widthOf b)) b (2 * widthOf b) (done-second (codesQuestion b) _ after-length) r h);
   }
 
 -- from a check's answer
@@ -230,8 +269,11 @@ pub checked : {b : List ℕ} {r : Outcome} → r ≡ tableauQuestions b → r �
 checked {b} p h = tableau-formed b (sym p ∙ h)
 
 pub formed-good : (b : List ℕ) → FormedTableau b → tableauQuestions b ≡ Done
+unfolding codesQuestion weightsQuestion
 formed-good b f = sym (
-    tableau-rows b (λ z. absurd (no z (f .some))) refl (width-narrow (f .narrow)) refl (record { is = refl; small = record-small (widthOf b) (f .narrow) }) (f .long) (sym (each-rows (2 * widthOf b) b (λ r h. formed-row-question _ (f .rows r h)))))
+    tableau-weights b (λ z. absurd (no z (f .some))) refl (width-narrow (f .narrow)) refl (record { is = refl; small = record-small (widthOf b) (f .narrow) }) (f .long)
+    (sym (each-rows rowQuestion b (2 * widthOf b) (λ r h. formed-row-question _ (f .rows r h)))) refl
+    (sym (each-rows (weightQuestion (widthOf b)) b (2 * widthOf b) (λ r h. formed-weight-question _ (f .rows r h)))))
   where
     no : length b ≡ 0 → 0 < length b → ⊥
     no z p = omega arith

@@ -23,7 +23,7 @@ length-record t =
 pub record-small : (w : ℕ) → w ≤ 128 → recordLength w ≤ longestRecord
 unfolding recordLength rowLength letterPlace
 record-small w h =
-    let a : 2 * w * suc w ≤ 256 * suc w = mul-le-mul-right (suc w) (omega arith) in
+    let a : 2 * w * suc (suc w) ≤ 256 * suc (suc w) = mul-le-mul-right (suc (suc w)) (omega arith) in
     omega arith
 
 pub longest-is : recordLength 128 ≡ longestRecord

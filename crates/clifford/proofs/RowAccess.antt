@@ -6,104 +6,108 @@ use mathlib.Core.List.{List, [], _∷_, _++_, append-nil}
 use Prim.Native.Nat.{ℕ, zero, suc, _+_, _*_, _-_, _≤_, _<_, min, _%_, _/_}
 use native.Mathlib.Nat.{not-suc-le-zero}
 use native.Mathlib.Omega.{arith}
-use lib.ListN.{length, getD, set, take, drop, length-drop, length-take, length-append, drop-of-length-le, List·getD-eq-default}
+use lib.ListN.{length, getD, set, take, drop, length-set, length-drop, length-take, length-append, drop-of-length-le, List·getD-eq-default}
 use lib.Seq.{take-all}
 use mir.Syntax.{w64}
 use borrow.Rule.Slice.PartMut.{putMid}
 use mir.Val.{Fits}
 use borrow.Author.Needs.{needs}
-use borrow.Author.Tests.{lt-ltb, le-ltb, lt-leb, le-leb}
-use Rattle.pauli_group.specs.Phase.{Phase, PlusOne, PlusI, _·_, MinusOne, MinusI, negate, turn}
+use borrow.Author.Tests.{lt-ltb, le-ltb, lt-leb, le-leb, eq-eqb, ne-eqb}
 use Rattle.pauli_group.specs.Letter.{X, Z}
-use Rattle.pauli_group.specs.PauliString.{qubits, mul, identityString}
+use Rattle.pauli_group.specs.PauliString.{qubits, mul, identityString, weightTo}
 use Rattle.pauli.specs.Layout.{phaseByte, phaseOf, letterByte, letterOf, encodeString}
-use Rattle.pauli.specs.Rows.{phaseBytesProduct, RowTimes, copied, shorter}
+use Rattle.pauli.specs.Rows.{phaseBytesProduct, RowTimes, letterCount, copied, shorter}
 use Rattle.pauli.proofs.Records.{letter-there}
 use Rattle.pauli.proofs.Places.{from, from-is}
 use Rattle.pauli.proofs.StringProducts.{row-product, row-product-is}
-use Rattle.clifford.specs.Layout.{letterPlace, rowLength, lettersOf, encodeRow, rowOffset, recordLength, longestRecord, rowOf, widthOf, rowPart, tableauOf, rowQubit, rowLetter, readRow, letterIn, withPair}
+use Rattle.clifford.specs.Layout.{weightPlace, letterPlace, rowLength, lettersOf, encodeRow, decodeRow, rowOffset, recordLength, longestRecord, rowOf, widthOf, rowPart, tableauOf, rowQubit, rowLetter, readRow, letterIn, rowWith}
 use Rattle.clifford.specs.Inside.Rows.{Sized, RowIndex, RowInside, OwnRow, WorkOnRow, Finished, rowTimes, rowWritten, lettersIn, stringIn, rowLetters, OwnLetter}
 use Rattle.clifford.proofs.Records.{record-small}
 use lib.Dec.{leb}
-use Rattle.pauli.specs.declared.refusal.Refusal.the-variants.{BadByte}
+use Rattle.pauli.specs.declared.refusal.Refusal.the-variants.{BadByte, FalseWeight}
 use Rattle.pauli.specs.declared.refusal.Outcome.the-variants.{Done, Refused}
 use Rattle.pauli.specs.Questions.{ask, firstBad}
 use Rattle.pauli.proofs.Asking.{asked-yes, asked-no, refused, passed}
-use Rattle.clifford.specs.Questions.{rowQuestion}
+use Rattle.clifford.specs.Questions.{rowQuestion, weightQuestion}
 use lib.Bits.{bitXor}
-use Rattle.clifford.specs.Playing.{imageIn, readTable, tableOnRow}
-use Rattle.clifford.proofs.Rows.{place-is, row-some, letter-in-row, length-row, letters-from, row-letter, row-phase, row-inside, row-part, row-room, row-string, row-as-string, row-of-work, getD-part, capped-letter, capped-phase, read-own, read-wide, read-over, length-part, own-row, own-some, own-letter}
+use Rattle.clifford.specs.Playing.{entry, tableOnRow}
+use Rattle.clifford.proofs.Rows.{place-is, row-some, letter-in-row, length-row, letters-from, row-letter, row-phase, row-inside, row-part, row-room, row-string, row-as-string, row-of-work, getD-part, capped-letter, capped-phase, read-own, read-wide, read-over, length-part, own-row, own-some, own-more, own-letter, weight-counted}
 use Rattle.clifford.proofs.Asking.{bytes-bad, bytes-good}
 
 -- ---- the length of a record
-pub record-sized : (w : ℕ) → w ≤ 128 → Sized (recordLength w) (1 + 2 * w * (w + 1))
-record-sized w h = let e : 1 + 2 * w * (w + 1) ≡ recordLength w = unfolded in record { is = e; small = omega (arith, record-small w h) }
+pub record-sized : (w : ℕ) → w ≤ 128 → Sized (recordLength w) (1 + 2 * w * (w + 2))
+record-sized w h = let e : 1 + 2 * w * (w + 2) ≡ recordLength w = unfolded in record { is = e; small = omega (arith, record-small w h) }
   where
-    unfolded : 1 + 2 * w * (w + 1) ≡ recordLength w
+    unfolded : 1 + 2 * w * (w + 2) ≡ recordLength w
     unfolded = unfold recordLength rowLength letterPlace in omega arith
 
 -- it is counted without overflow
-pub record-fits : (w : ℕ) → w ≤ 128 → Fits w64 (2 * w * (w + 1))
+pub record-fits : (w : ℕ) → w ≤ 128 → Fits w64 (2 * w * (w + 2))
 record-fits w h = record { fits = omega (arith, record-sized w h .small) }
 
-pub record-one-fits : (w : ℕ) → w ≤ 128 → Fits w64 (1 + 2 * w * (w + 1))
+pub record-one-fits : (w : ℕ) → w ≤ 128 → Fits w64 (1 + 2 * w * (w + 2))
 record-one-fits w h = record { fits = omega (arith, record-sized w h .small) }
 
 -- ---- where rows are
-row-end : (w r : ℕ) → RowIndex w r → 1 + r * (w + 1) + (w + 1) ≤ longestRecord
+row-end : (w r : ℕ) → RowIndex w r → 1 + r * (w + 2) + (w + 2) ≤ longestRecord
 unfolding rowOffset recordLength rowLength letterPlace
 row-end w r i = omega (arith, row-room w r (i .own), record-small w (i .narrow))
 
-pub offset-fits : (w r : ℕ) → RowIndex w r → Fits w64 (r * (w + 1))
+pub offset-fits : (w r : ℕ) → RowIndex w r → Fits w64 (r * (w + 2))
 offset-fits w r i = record { fits = omega (arith, row-end w r i) }
 
-pub offset-one-fits : (w r : ℕ) → RowIndex w r → Fits w64 (1 + r * (w + 1))
+pub offset-one-fits : (w r : ℕ) → RowIndex w r → Fits w64 (1 + r * (w + 2))
 offset-one-fits w r i = record { fits = omega (arith, row-end w r i) }
 
-offset-is : (w r : ℕ) → 1 + r * (w + 1) ≡ rowOffset w r
+offset-is : (w r : ℕ) → 1 + r * (w + 2) ≡ rowOffset w r
 unfolding rowOffset rowLength letterPlace
 offset-is w r = omega arith
 
-pub offset-sized : (w r : ℕ) → RowIndex w r → Sized (rowOffset w r) (1 + r * (w + 1))
+pub offset-sized : (w r : ℕ) → RowIndex w r → Sized (rowOffset w r) (1 + r * (w + 2))
 offset-sized w r i = record { is = offset-is w r; small = omega (arith, row-end w r i) }
 
 pub own-inside : {b : List ℕ} {r : ℕ} → OwnRow b r → RowInside b r
 own-inside o = record { laid = record { narrow = o .tableau .narrow; long = o .tableau .long }; own = o .own }
 
-pub part-end : {b : List ℕ} {r n at : ℕ} → RowInside b r → n ≡ widthOf b → Sized (rowOffset n r) at → at + (n + 1) ≤ length b
+pub part-end : {b : List ℕ} {r n at : ℕ} → RowInside b r → n ≡ widthOf b → Sized (rowOffset n r) at → at + (n + 2) ≤ length b
 part-end {b} {r} {n} o e s =
     let long : length b ≡ recordLength n = o .laid .long ∙ ap recordLength (sym e) in
-    omega (arith, s .is, row-room n r (omega (arith, o .own)), (let z : rowLength n ≡ n + 1 = unfold rowLength letterPlace in omega arith in z))
+    omega (arith, s .is, row-room n r (omega (arith, o .own)), (let z : rowLength n ≡ n + 2 = unfold rowLength letterPlace in omega arith in z))
 
-pub part-is : {b : List ℕ} {r n at : ℕ} → RowInside b r → n ≡ widthOf b → Sized (rowOffset n r) at → take (at + (n + 1) - at) (drop at b) ≡ rowPart b r
+pub part-is : {b : List ℕ} {r n at : ℕ} → RowInside b r → n ≡ widthOf b → Sized (rowOffset n r) at → take (at + (n + 2) - at) (drop at b) ≡ rowPart b r
 unfolding rowPart rowLength letterPlace
 part-is {b} {r} {n} {at} o e s =
-    let size : at + (n + 1) - at ≡ suc n = omega arith in
-    ap₂ (λ (i : ℕ) (j : ℕ). take i (drop j b)) (size ∙ ap suc e) (s .is ∙ ap (λ (j : ℕ). rowOffset j r) e)
+    let size : at + (n + 2) - at ≡ suc (suc n) = omega arith in
+    ap₂ (λ (i : ℕ) (j : ℕ). take i (drop j b)) (size ∙ ap (λ (k : ℕ). suc (suc k)) e) (s .is ∙ ap (λ (j : ℕ). rowOffset j r) e)
 
 -- a row of b, and its part
 pub inside-index : {b : List ℕ} {r n : ℕ} → RowInside b r → n ≡ widthOf b → RowIndex n r
 inside-index o e = record { narrow = omega (arith, o .laid .narrow); own = omega (arith, o .own) }
 
+pub inside-long : {b p : List ℕ} {r : ℕ} → RowInside b r → p ≡ rowPart b r → length p ≡ rowLength (widthOf b)
+inside-long {b} {r = r} o e = ap length e ∙ length-part b (widthOf b) r refl (o .laid .long) (o .own)
+
 pub inside-some : {b p : List ℕ} {r : ℕ} → RowInside b r → p ≡ rowPart b r → 0 < length p
-unfolding rowLength letterPlace
-inside-some {b} {p} {r} o e = omega (arith, ap length e, length-part b (widthOf b) r refl (o .laid .long) (o .own))
+inside-some {b} o e = omega (arith, inside-long o e, row-some (widthOf b))
+
+pub inside-more : {b p : List ℕ} {r : ℕ} → RowInside b r → p ≡ rowPart b r → 1 < length p
+inside-more {b} o e = omega (arith, inside-long o e, row-some (widthOf b))
 
 -- ---- the phase and the letters of a row
-pub letters-read : (b : List ℕ) {p : List ℕ} (r : ℕ) → p ≡ rowPart b r → from 1 p ≡ rowLetters b r
+pub letters-read : (b : List ℕ) {p : List ℕ} (r : ℕ) → p ≡ rowPart b r → from 2 p ≡ rowLetters b r
 unfolding rowLetters
 letters-read b {p} r e = letters-from p ∙ ap lettersOf e
 
-pub ruleset row-reads = (own-some, letters-read, own-inside, needs)
+pub ruleset row-reads = (own-more, letters-read, own-inside, needs)
 
 -- ---- one letter of a row
 pub letter-row : {b : List ℕ} {r q : ℕ} → OwnLetter b r q → OwnRow b r
 letter-row o = o .row
 
-pub letter-inside : {b p : List ℕ} {r q : ℕ} → OwnLetter b r q → p ≡ rowPart b r → q + 1 < length p
+pub letter-inside : {b p : List ℕ} {r q : ℕ} → OwnLetter b r q → p ≡ rowPart b r → q + 2 < length p
 letter-inside {b} {p} {r} {q} o e = omega (arith, place-is q, letter-in-row (widthOf b) q (o .qubit), ap length e, own-row (o .row) .long)
 
-pub letter-read : {b p : List ℕ} {r q : ℕ} → OwnLetter b r q → p ≡ rowPart b r → getD p (q + 1) 0 ≡ letterByte (rowOf (tableauOf b) r .letters q)
+pub letter-read : {b p : List ℕ} {r q : ℕ} → OwnLetter b r q → p ≡ rowPart b r → getD p (q + 2) 0 ≡ letterByte (rowOf (tableauOf b) r .letters q)
 letter-read {b} {p} {r} {q} o e = ap₂ (λ (l : List ℕ) (j : ℕ). getD l j 0) e (sym (place-is q)) ∙ own-letter (o .row) q (o .qubit)
 
 pub ruleset letter-reads = (letter-row, letter-inside, letter-read, own-inside, needs)
@@ -117,24 +121,41 @@ module _ (b : List ℕ) (r : ℕ) {n start : ℕ} (en : n ≡ widthOf b) (s : Si
   unfolding rowQuestion
   row-bad-phase h = refused _ (asked-no (BadByte start) (lt-leb (getD p 0 0) 3 h)) refl ∙ question-is
 
-  module _ (h : getD p 0 0 ≤ 3) {k : ℕ} (ek : k ≡ firstBad (from 1 p)) where
+  module _ (h : getD p 0 0 ≤ 3) {k : ℕ} (ek : k ≡ firstBad (from 2 p)) where
     place : k ≡ firstBad (lettersOf p)
     place = ek ∙ ap firstBad (letters-from p)
 
     phase-good : Done ≡ ask (leb (getD p 0 0) 3) (BadByte start)
     phase-good = asked-yes (BadByte start) (le-leb (getD p 0 0) 3 h)
 
-    pub row-bad-letter : k < length (from 1 p) → Refused (BadByte (start + 1 + k)) ≡ rowQuestion (rowOffset (widthOf b) r) (rowPart b r)
+    pub row-bad-letter : k < length (from 2 p) → Refused (BadByte (start + 2 + k)) ≡ rowQuestion (rowOffset (widthOf b) r) (rowPart b r)
     unfolding rowQuestion letterPlace
     row-bad-letter l =
-        ap (λ (j : ℕ). Refused (BadByte (start + 1 + j))) place
-        ∙ passed phase-good refl (bytes-bad (start + 1) (lettersOf p) (omega (arith, place, ap length (letters-from p)))) ∙ question-is
+        ap (λ (j : ℕ). Refused (BadByte (start + 2 + j))) place
+        ∙ passed phase-good refl (bytes-bad (start + 2) (lettersOf p) (omega (arith, place, ap length (letters-from p)))) ∙ question-is
 
-    pub row-good : length (from 1 p) ≤ k → Done ≡ rowQuestion (rowOffset (widthOf b) r) (rowPart b r)
+    pub row-good : length (from 2 p) ≤ k → Done ≡ rowQuestion (rowOffset (widthOf b) r) (rowPart b r)
     unfolding rowQuestion letterPlace
-    row-good l = passed phase-good refl (bytes-good (start + 1) (lettersOf p) (omega (arith, place, ap length (letters-from p)))) ∙ question-is
+    row-good l = passed phase-good refl (bytes-good (start + 2) (lettersOf p) (omega (arith, place, ap length (letters-from p)))) ∙ question-is
 
-pub ruleset row-questions = (row-bad-phase, row-bad-letter, row-good, inside-index, inside-some, needs)
+  -- question 24
+  module _ (o : RowInside b r) {n′ : ℕ} (ec : n′ ≡ letterCount (from 2 p) % 256) where
+    weight-is : n′ ≡ weightTo (widthOf b) (decodeRow (widthOf b) p)
+    weight-is =
+        weight-counted (widthOf b) p (omega (arith, o .laid .narrow)) (inside-long o ep) (ec ∙ ap (λ (l : List ℕ). letterCount l % 256) (letters-from p))
+
+    weighed : weightQuestion (widthOf b) start p ≡ weightQuestion (widthOf b) (rowOffset (widthOf b) r) (rowPart b r)
+    weighed = ap₂ (weightQuestion (widthOf b)) (s .is ∙ ap (λ (j : ℕ). rowOffset j r) en) ep
+
+    pub weight-true : getD p 1 0 ≡ n′ → Done ≡ weightQuestion (widthOf b) (rowOffset (widthOf b) r) (rowPart b r)
+    unfolding weightQuestion
+    weight-true h = asked-yes (FalseWeight (start + weightPlace)) (eq-eqb _ _ (h ∙ weight-is)) ∙ weighed
+
+    pub weight-false : (getD p 1 0 ≡ n′ → ⊥) → Refused (FalseWeight (start + 1)) ≡ weightQuestion (widthOf b) (rowOffset (widthOf b) r) (rowPart b r)
+    unfolding weightQuestion
+    weight-false h = asked-no (FalseWeight (start + weightPlace)) (ne-eqb _ _ (λ e. h (e ∙ sym weight-is))) ∙ weighed
+
+pub ruleset row-questions = (row-bad-phase, row-bad-letter, row-good, weight-true, weight-false, inside-index, inside-some, inside-more, needs)
 
 -- ---- a row of any bytes, read by letter
 module _ (b : List ℕ) (r : ℕ) {n : ℕ} (e : n ≡ widthOf b) where
@@ -149,7 +170,7 @@ module _ (b : List ℕ) (r : ℕ) {n : ℕ} (e : n ≡ widthOf b) where
   pub phase-own : n ≤ 128 → r < 2 * n → {at p : ℕ} → Sized (rowOffset n r) at → p ≡ min (getD b at 0) 3 → p ≡ phaseByte (readRow b r .phase)
   phase-own k h {at} s ep =
       let place : at ≡ rowOffset (widthOf b) r + 0 = s .is ∙ ap (λ (j : ℕ). rowOffset j r) e ∙ omega arith in
-      ep ∙ ap (λ (j : ℕ). min (getD b j 0) 3) place ∙ ap (λ (j : ℕ). min j 3) (sym (getD-part b r 0 (row-some (widthOf b))))
+      ep ∙ ap (λ (j : ℕ). min (getD b j 0) 3) place ∙ ap (λ (j : ℕ). min j 3) (sym (getD-part b r 0 (omega (arith, row-some (widthOf b)))))
       ∙ capped-phase (getD (rowPart b r) 0 0) ∙ ap phaseByte (sym (row-phase b r) ∙ ap (λ x. x .phase) (sym (read-own b r (omega arith) (omega arith))))
 
   module _ (q : ℕ) where
@@ -166,11 +187,11 @@ module _ (b : List ℕ) (r : ℕ) {n : ℕ} (e : n ≡ widthOf b) where
     letter-beyond k h l =
         sym (ap letterByte (ap (λ s. s .letters q) (read-own b r (omega arith) (omega arith)) ∙ row-inside b r q (omega arith)))
 
-    pub letter-own : n ≤ 128 → r < 2 * n → q < n → {at x : ℕ} → Sized (rowOffset n r) at → x ≡ min (getD b (at + 1 + q) 0) 3
+    pub letter-own : n ≤ 128 → r < 2 * n → q < n → {at x : ℕ} → Sized (rowOffset n r) at → x ≡ min (getD b (at + 2 + q) 0) 3
         → x ≡ letterByte (readRow b r .letters q)
     unfolding letterIn
     letter-own k h l {at} s ex =
-        let place : at + 1 + q ≡ rowOffset (widthOf b) r + letterPlace q = omega (arith, s .is ∙ ap (λ (j : ℕ). rowOffset j r) e, place-is q) in
+        let place : at + 2 + q ≡ rowOffset (widthOf b) r + letterPlace q = omega (arith, s .is ∙ ap (λ (j : ℕ). rowOffset j r) e, place-is q) in
         ex ∙ ap (λ (j : ℕ). min (getD b j 0) 3) place ∙ ap (λ (j : ℕ). min j 3) (sym (getD-part b r (letterPlace q) (letter-in-row (widthOf b) q (omega arith))))
         ∙ capped-letter (getD (rowPart b r) (letterPlace q) 0)
         ∙ ap letterByte (sym (row-letter b r q (omega arith)) ∙ ap (λ x. x .letters q) (sym (read-own b r (omega arith) (omega arith))))
@@ -185,11 +206,11 @@ pub work-on : {b d : List ℕ} {r : ℕ} → WorkOnRow b d r → OwnRow b r
 work-on o = record { tableau = o .work .tableau; own = o .own }
 
 pub times-row : {b d f ys : List ℕ} {r p x : ℕ} → WorkOnRow b d r → f ≡ rowPart b r → p ≡ phaseBytesProduct (getD d 0 0) (getD f 0 0)
-    → RowTimes (from 1 d) (from 1 f) p ys x → set (putMid 1 (length d - 1) d ys) 0 x ≡ rowTimes d (rowOf (tableauOf b) r)
+    → RowTimes (from 1 d) (from 2 f) p ys x → set (putMid 1 (length d - 1) d ys) 0 x ≡ rowTimes d (rowOf (tableauOf b) r)
 unfolding rowTimes qubits
 times-row {b} {d} {f} {ys} {r} {p} {x} o ef ep m =
     let t : List ℕ = getD (rowPart b r) 0 0 ∷ lettersOf (rowPart b r) in
-    let lettered : from 1 f ≡ from 1 t = letters-from f ∙ ap lettersOf ef ∙ sym (from-is 1 t) in
+    let lettered : from 2 f ≡ from 1 t = letters-from f ∙ ap lettersOf ef ∙ sym (from-is 1 t) in
     row-product d t (some (o .work .wide)) (λ e. absurd (some-more e)) (ep ∙ ap (λ (l : List ℕ). phaseBytesProduct (getD d 0 0) (getD l 0 0)) ef)
     (subst (λ (z : List ℕ). RowTimes (from 1 d) z p ys x) lettered m)
     ∙ row-product-is (omega (arith, o .work .wide, o .work .row .long)) (omega (arith, o .work .narrow)) (o .work .row) (row-string (o .work .tableau .rows r (o .own)))
@@ -214,30 +235,43 @@ finished-some f = omega (arith, f .row .long)
 pub finished-room : {d out : List ℕ} → Finished d out → 0 < length out
 finished-room {d} f = omega (arith, f .room, row-some (lettersIn d))
 
--- what comes back of `&mut d[1..]`
-put-rest : (x : ℕ) (d ys : List ℕ) → putMid 1 (length (x ∷ d) - 1) (x ∷ d) ys ≡ x ∷ ys
-put-rest x d ys = rw (drop-of-length-le d {i = length (x ∷ d) - 1} (omega arith), append-nil)
+pub finished-next : {d out : List ℕ} (x : ℕ) → Finished d out → 1 < length (set out 0 x)
+finished-next {d} {out} x f = omega (arith, f .room, row-some (lettersIn d), length-set out 0 x)
 
-pub row-written : (d out : List ℕ) {ys : List ℕ} → Finished d out → ys ≡ copied (from 1 d) (from 1 (set out 0 (getD d 0 0)))
-    → putMid 1 (length (set out 0 (getD d 0 0)) - 1) (set out 0 (getD d 0 0)) ys ≡ rowWritten (lettersIn d) (stringIn d) out
+pub finished-letters : {d out : List ℕ} (x n : ℕ) → Finished d out → 2 ≤ length (set (set out 0 x) 1 n)
+finished-letters {d} {out} x n f = omega (arith, finished-next x f, length-set (set out 0 x) 1 n)
+
+-- what comes back of `&mut d[2..]`
+put-rest : (x n : ℕ) (d ys : List ℕ) → putMid 2 (length (x ∷ n ∷ d) - 2) (x ∷ n ∷ d) ys ≡ x ∷ n ∷ ys
+put-rest x n d ys = rw (drop-of-length-le d {i = length (x ∷ n ∷ d) - 2} (omega arith), append-nil)
+
+-- a row with its phase and weight written, and its letters copied
+abbrev withLetters : List ℕ → List ℕ → List ℕ
+withLetters e ys = putMid 2 (length e - 2) e ys
+
+pub row-written : (d out : List ℕ) {n : ℕ} {ys : List ℕ} → Finished d out → n ≡ letterCount (from 1 d) % 256
+    → ys ≡ copied (from 1 d) (from 2 (set (set out 0 (getD d 0 0)) 1 n))
+    → withLetters (set (set out 0 (getD d 0 0)) 1 n) ys ≡ rowWritten (lettersIn d) (stringIn d) out
 unfolding rowWritten rowLength letterPlace copied
-row-written d [] f h = absurd (not-suc-le-zero (f .room))
-row-written d (y ∷ out) {ys} f h =
+row-written d [] f c h = absurd (not-suc-le-zero (f .room))
+row-written d (y ∷ []) f c h = absurd (omega (arith, f .room))
+row-written d (y ∷ z ∷ out) {n} {ys} f c h =
     let x : ℕ = getD d 0 0 in
     let w : ℕ = lettersIn d in
     let long : length (drop 1 d) ≡ w = length-drop 1 d in
     let short : shorter (drop 1 d) out ≡ w = omega (arith, f .room) in
-    put-rest x out ys
-    ∙ ap (λ (l : List ℕ). x ∷ l)
-    (h ∙ ap₂ (λ (a b : List ℕ). take (shorter a b) a ++ drop (shorter a b) b) (from-is 1 d) (from-is 1 (x ∷ out))
+    put-rest x n out ys
+    ∙ ap (λ (l : List ℕ). x ∷ n ∷ l)
+    (h ∙ ap₂ (λ (a b : List ℕ). take (shorter a b) a ++ drop (shorter a b) b) (from-is 1 d) (from-is 2 (x ∷ n ∷ out))
     ∙ ap (λ (j : ℕ). take j (drop 1 d) ++ drop j out) short ∙ ap (λ (l : List ℕ). l ++ drop w out) (take-all w (drop 1 d) (omega arith)))
-    ∙ ap (λ (l : List ℕ). l ++ drop w out) (sym (row-of-work (f .row)))
+    ∙ ap (λ (l : List ℕ). l ++ drop w out) (sym (row-of-work (f .row) (omega (arith, f .narrow)) (c ∙ ap (λ (l : List ℕ). letterCount l % 256) (from-is 1 d))))
 
-pub written-length : {d out ys : List ℕ} → Finished d out → ys ≡ copied (from 1 d) (from 1 (set out 0 (getD d 0 0)))
-    → length (putMid 1 (length (set out 0 (getD d 0 0)) - 1) (set out 0 (getD d 0 0)) ys) ≡ length out
+pub written-length : {d out ys : List ℕ} {n : ℕ} → Finished d out → n ≡ letterCount (from 1 d) % 256
+    → ys ≡ copied (from 1 d) (from 2 (set (set out 0 (getD d 0 0)) 1 n))
+    → length (withLetters (set (set out 0 (getD d 0 0)) 1 n) ys) ≡ length out
 unfolding rowWritten
-written-length {d} {out} f h =
-    ap length (row-written d out f h) ∙ length-append (encodeRow (lettersIn d) (stringIn d)) (drop (rowLength (lettersIn d)) out)
+written-length {d} {out} f c h =
+    ap length (row-written d out f c h) ∙ length-append (encodeRow (lettersIn d) (stringIn d)) (drop (rowLength (lettersIn d)) out)
     ∙ omega (arith, length-row (lettersIn d) (stringIn d), length-drop (rowLength (lettersIn d)) out, f .room)
 
 -- ---- the generator of a row
@@ -274,49 +308,35 @@ pub ruleset row-access = (
   letter-z,
   work-on,
   own-some,
+  own-more,
   work-some,
   work-some-more,
   times-row,
   finished-some,
   finished-room,
+  finished-next,
+  finished-letters,
   row-written,
   written-length,
   needs,
 )
 
 -- ---- a row changed by a gate's table
--- a sign is put into a phase byte by the lowest bit
-sign-bit : (p : Phase) (k : ℕ) → k < 2 → bitXor (phaseByte p) k ≡ phaseByte (p · phaseOf k)
-unfolding phaseByte phaseOf _·_ negate turn
-sign-bit PlusOne zero h = refl
-sign-bit MinusOne zero h = refl
-sign-bit PlusI zero h = refl
-sign-bit MinusI zero h = refl
-sign-bit PlusOne (suc zero) h = refl
-sign-bit MinusOne (suc zero) h = refl
-sign-bit PlusI (suc zero) h = refl
-sign-bit MinusI (suc zero) h = refl
-sign-bit PlusOne (suc (suc k)) h = absurd (omega arith)
-sign-bit MinusOne (suc (suc k)) h = absurd (omega arith)
-sign-bit PlusI (suc (suc k)) h = absurd (omega arith)
-sign-bit MinusI (suc (suc k)) h = absurd (omega arith)
-
-pub row-changed : (e : List ℕ) (q s : ℕ) (b : List ℕ) {x y z : ℕ} → x ≡ min (getD b (q + 1) 0) 3 → y ≡ min (getD b (s + 1) 0) 3 → z ≡ min (getD b 0 0) 3
-    → set (set (set b 0 (bitXor z (getD e (4 * x + y) 0 / 16 % 2))) (q + 1) (getD e (4 * x + y) 0 / 4 % 4)) (s + 1) (getD e (4 * x + y) 0 % 4) ≡ tableOnRow e q s b
-unfolding tableOnRow withPair readTable imageIn letterIn
-row-changed e q s b {x} {y} {z} ex ey ez =
-    let v : ℕ = getD e (4 * x + y) 0 in
-    let same : v ≡ getD e (4 * letterByte (letterOf (getD b (letterPlace q) 0)) + letterByte (letterOf (getD b (letterPlace s) 0))) 0 =
-    ap₂ (λ (i j : ℕ). getD e (4 * i + j) 0)
+pub row-changed : (e : List (List ℕ)) (q s : ℕ) (b : List ℕ) {x y z v : ℕ} → x ≡ min (getD b (q + 2) 0) 3 → y ≡ min (getD b (s + 2) 0) 3 → z ≡ min (getD b 0 0) 3
+    → v ≡ (getD b 1 0 + getD (getD e 1 []) (4 * x + y) 0) % 256
+    → set (set (set (set b 0 (bitXor z (getD (getD e 0 []) (4 * x + y) 0))) 1 v) (q + 2) (getD (getD e 2 []) (4 * x + y) 0)) (s + 2) (getD (getD e 3 []) (4 * x + y) 0)
+    ≡ tableOnRow e q s b
+unfolding tableOnRow rowWith entry letterIn
+row-changed e q s b {x} {y} {z} {v} ex ey ez ev =
+    let at : ℕ → ℕ → ℕ = λ j k. getD (getD e j []) k 0 in
+    let k : ℕ = 4 * letterByte (letterOf (getD b (letterPlace q) 0)) + letterByte (letterOf (getD b (letterPlace s) 0)) in
+    let same : 4 * x + y ≡ k =
+    ap₂ (λ (i j : ℕ). 4 * i + j)
     (ex ∙ ap (λ (k : ℕ). min (getD b k 0) 3) (sym (place-is q)) ∙ capped-letter (getD b (letterPlace q) 0))
     (ey ∙ ap (λ (k : ℕ). min (getD b k 0) 3) (sym (place-is s)) ∙ capped-letter (getD b (letterPlace s) 0)) in
-    let sign : bitXor z (v / 16 % 2) ≡ phaseByte (phaseOf (getD b 0 0) · phaseOf (v / 16 % 2)) =
-    ap (λ (k : ℕ). bitXor k (v / 16 % 2)) (ez ∙ capped-phase (getD b 0 0)) ∙ sign-bit (phaseOf (getD b 0 0)) (v / 16 % 2) (omega arith) in
-    let first : v / 4 % 4 ≡ letterByte (letterOf (v / 4 % 4)) = sym (letter-there (v / 4 % 4) (omega arith)) in
-    let second : v % 4 ≡ letterByte (letterOf (v % 4)) = sym (letter-there (v % 4) (omega arith)) in
-    ap₂ (λ (j k : ℕ). set (set (set b 0 (bitXor z (v / 16 % 2))) j (v / 4 % 4)) k (v % 4)) (sym (place-is q)) (sym (place-is s))
-    ∙ ap (λ (k : ℕ). set (set (set b 0 k) (letterPlace q) (v / 4 % 4)) (letterPlace s) (v % 4)) sign
-    ∙ ap₂ (λ (j k : ℕ). set (set (set b 0 (phaseByte (phaseOf (getD b 0 0) · phaseOf (v / 16 % 2)))) (letterPlace q) j) (letterPlace s) k) first second
-    ∙ ap (λ (u : ℕ). set (set (set b 0 (phaseByte (phaseOf (getD b 0 0) · phaseOf (u / 16 % 2)))) (letterPlace q) (letterByte (letterOf (u / 4 % 4)))) (letterPlace s) (letterByte (letterOf (u % 4)))) same
+    ap₂ (λ (i j : ℕ). set (set (set (set b 0 (bitXor z (at 0 (4 * x + y)))) 1 v) i (at 2 (4 * x + y))) j (at 3 (4 * x + y))) (sym (place-is q)) (sym (place-is s))
+    ∙ ap₂ (λ (p u : ℕ). set (set (set (set b 0 (bitXor p (at 0 (4 * x + y)))) 1 u) (letterPlace q) (at 2 (4 * x + y))) (letterPlace s) (at 3 (4 * x + y)))
+    (ez ∙ capped-phase (getD b 0 0)) ev
+    ∙ ap (λ (j : ℕ). set (set (set (set b 0 (bitXor (phaseByte (phaseOf (getD b 0 0))) (at 0 j))) 1 ((getD b 1 0 + at 1 j) % 256)) (letterPlace q) (at 2 j)) (letterPlace s) (at 3 j)) same
 
 pub ruleset row-changes = (row-changed, needs)

@@ -1,8 +1,9 @@
 -- Laws of one row of a tableau: its bytes, its phase, its letters and its length, and row r of a record.
 use mathlib.Core.Path.{_≡_, refl, sym, ap, ap₂, _∙_, subst}
-use mathlib.Core.Bool.{cond, _&&_}
+use mathlib.Core.Bool.{Bool, true, false, cond, _&&_}
+use mathlib.Core.Logic.{_≢_}
 use mathlib.Core.List.{List, _∷_, _++_}
-use Prim.Native.Nat.{ℕ, zero, suc, min, _+_, _*_, _-_, _≤_, _<_}
+use Prim.Native.Nat.{ℕ, zero, suc, min, _+_, _*_, _-_, _%_, _≤_, _<_}
 use native.Mathlib.Nat.{mul-le-mul-right, zero-mul}
 use native.Mathlib.Numerals.{add-one}
 use native.Mathlib.Omega.{arith}
@@ -12,26 +13,28 @@ use lib.Dec.{ltb}
 use lib.Seq.{ext-getD, getD-take, getD-drop, length-take-le, set-append-left, getD-set-same, getD-set-other}
 use borrow.Author.Tests.{lt-ltb, le-ltb, le-leb, lt-leb}
 use Rattle.pauli_group.specs.Phase.{_·_}
-use Rattle.pauli_group.specs.Letter.{I}
-use Rattle.pauli_group.specs.PauliString.{PauliString, qubits, identityString, Within}
+use Rattle.pauli_group.specs.Letter.{Letter, I, notI}
+use Rattle.pauli_group.specs.PauliString.{PauliString, qubits, identityString, countTo, hasLetter, weightTo, Within}
+use Rattle.pauli_group.proofs.Products.{countTo-le, countTo-ext, count-changed}
 use Rattle.pauli_group.proofs.Strings.{string-ext}
 use Rattle.clifford_group.specs.Tableau.{Tableau, Proper, Same}
 use Rattle.clifford_gates.specs.Gates.{PairImage}
-use Rattle.clifford_gates.specs.Updates.{pairAt}
+use Rattle.clifford_gates.specs.Updates.{withLetter, pairAt}
 use Rattle.clifford_gates.proofs.OneQubitUpdates.{with-at, with-off}
 use Rattle.pauli.specs.Layout.{phaseByte, phaseOf, letterByte, letterOf, decodeString, WellFormed}
-use Rattle.pauli.specs.Rows.{letterAt}
+use Rattle.pauli.specs.Rows.{letterAt, letterCount}
 use Rattle.pauli.proofs.Places.{length-listed, getD-listed, from, from-is}
+use Rattle.pauli.proofs.RowProducts.{weight-of-row}
 use Rattle.pauli.proofs.Records.{phase-back, letter-back, phase-there, letter-there, phase-small, letter-small, decode-phase, decode-letter, decode-within}
-use Rattle.clifford.specs.Layout.{letterPlace, rowLength, encodeRow, decodeRow, letterIn, withPair, lettersOf, FormedRow, rowOffset, recordLength, rowOf, widthOf, rowPart, tableauOf, readRow}
+use Rattle.clifford.specs.Layout.{weightPlace, letterPlace, rowLength, encodeRow, decodeRow, letterIn, rowWith, pairWeight, weightChange, withPair, lettersOf, FormedRow, rowOffset, recordLength, rowOf, widthOf, rowPart, tableauOf, readRow}
 use Rattle.clifford.specs.Inside.Rows.{OwnRow, rowLetters}
 
--- ---- the bytes of a row: where the phase is, where the letters are, and how many they are
-pub place-is : (q : ℕ) → letterPlace q ≡ q + 1
+-- ---- the bytes of a row: where the phase, the weight and the letters are, and how many they are
+pub place-is : (q : ℕ) → letterPlace q ≡ q + 2
 unfolding letterPlace
-place-is q = sym (add-one q)
+place-is q = omega arith
 
-pub row-some : (w : ℕ) → 0 < rowLength w
+pub row-some : (w : ℕ) → 1 < rowLength w
 unfolding rowLength letterPlace
 row-some w = omega arith
 
@@ -41,32 +44,30 @@ letter-in-row w q h = omega arith
 
 pub length-row : (w : ℕ) (s : PauliString) → length (encodeRow w s) ≡ rowLength w
 unfolding encodeRow rowLength letterPlace
-length-row w s = ap suc (length-listed w _)
+length-row w s = ap (λ (n : ℕ). suc (suc n)) (length-listed w _)
 
 encoded-phase : (w : ℕ) (s : PauliString) → getD (encodeRow w s) 0 0 ≡ phaseByte (s .phase)
 unfolding encodeRow
 encoded-phase w s = refl
 
+encoded-weight : (w : ℕ) (s : PauliString) → getD (encodeRow w s) weightPlace 0 ≡ weightTo w s
+unfolding encodeRow
+encoded-weight w s = refl
+
 encoded-letter : (w : ℕ) (s : PauliString) (q : ℕ) → q < w → getD (encodeRow w s) (letterPlace q) 0 ≡ letterByte (s .letters q)
 unfolding encodeRow letterPlace
 encoded-letter w s q h = getD-listed w (λ q. letterByte (s .letters q)) q 0 h
 
--- a list is the row whose phase and letters it shows
-pub row-bytes : (w : ℕ) (b : List ℕ) (s : PauliString) → length b ≡ rowLength w → getD b 0 0 ≡ phaseByte (s .phase)
+-- a list is the row whose phase, weight and letters it shows
+pub row-bytes : (w : ℕ) (b : List ℕ) (s : PauliString) → length b ≡ rowLength w → getD b 0 0 ≡ phaseByte (s .phase) → getD b weightPlace 0 ≡ weightTo w s
     → ((q : ℕ) → q < w → getD b (letterPlace q) 0 ≡ letterByte (s .letters q)) → b ≡ encodeRow w s
 unfolding rowLength letterPlace
-row-bytes w b s long first rest = ext-getD 0 b (encodeRow w s) (long ∙ sym (length-row w s)) bytes
+row-bytes w b s long first second rest = ext-getD 0 b (encodeRow w s) (long ∙ sym (length-row w s)) bytes
   where
     bytes : (i : ℕ) → i < length b → getD b i 0 ≡ getD (encodeRow w s) i 0
     bytes zero h = first ∙ sym (encoded-phase w s)
-    bytes (suc q) h = let l : q < w = omega arith in rest q l ∙ sym (encoded-letter w s q l)
-
-pub encoded-row-formed : (w : ℕ) (s : PauliString) → FormedRow w (encodeRow w s)
-encoded-row-formed w s = record {
-  long = length-row w s;
-  phase = omega (arith, encoded-phase w s, phase-small (s .phase));
-  letters = λ q h. omega (arith, encoded-letter w s q h, letter-small (s .letters q));
-}
+    bytes (suc zero) h = second ∙ sym (encoded-weight w s)
+    bytes (suc (suc q)) h = let l : q < w = omega arith in rest q l ∙ sym (encoded-letter w s q l)
 
 -- ---- as it is read, whatever its bytes
 pub row-phase-at : (w : ℕ) (b : List ℕ) → decodeRow w b .phase ≡ phaseOf (getD b 0 0)
@@ -85,14 +86,14 @@ pub row-letter-byte : {w : ℕ} {b : List ℕ} → FormedRow w b → (q : ℕ) �
 unfolding letterIn
 row-letter-byte {w} {b} f q h = sym (letter-there (getD b (letterPlace q) 0) (f .letters q h)) ∙ ap letterByte (sym (row-letter-at w b q h))
 
--- its letter bytes, as `&row[1..]` and by place
-pub letters-from : (b : List ℕ) → from 1 b ≡ lettersOf b
+-- its letter bytes, as `&row[2..]` and by place
+pub letters-from : (b : List ℕ) → from 2 b ≡ lettersOf b
 unfolding lettersOf letterPlace
-letters-from b = from-is 1 b
+letters-from b = from-is 2 b
 
 pub letters-at : (b : List ℕ) (q : ℕ) → getD (lettersOf b) q 0 ≡ getD b (letterPlace q) 0
 unfolding lettersOf letterPlace
-letters-at b q = let e : 1 + q ≡ suc q = omega arith in getD-drop 1 b q 0 ∙ ap (λ (j : ℕ). getD b j 0) e
+letters-at b q = let e : 2 + q ≡ suc (suc q) = omega arith in getD-drop 2 b q 0 ∙ ap (λ (j : ℕ). getD b j 0) e
 
 pub letters-read : (b : List ℕ) (q : ℕ) → letterAt (lettersOf b) q ≡ letterIn b q
 unfolding letterAt letterIn
@@ -100,23 +101,54 @@ letters-read b q = ap letterOf (letters-at b q)
 
 pub letters-long : (w : ℕ) (b : List ℕ) → length b ≡ rowLength w → length (lettersOf b) ≡ w
 unfolding lettersOf rowLength letterPlace
-letters-long w b e = length-drop 1 b ∙ omega arith
+letters-long w b e = length-drop 2 b ∙ omega arith
+
+-- ---- its weight goes by its letters
+pub weight-ext : (w : ℕ) (s t : PauliString) → ((q : ℕ) → q < w → s .letters q ≡ t .letters q) → weightTo w s ≡ weightTo w t
+unfolding weightTo hasLetter
+weight-ext w s t e = countTo-ext w _ _ (λ q l. ap notI (e q l))
+
+pair-small : (a b : Letter) → pairWeight a b ≤ 2
+unfolding pairWeight
+pair-small a b = omega (arith, bit (notI a), bit (notI b))
+  where
+    bit : (c : Bool) → cond c 1 0 ≤ 1
+    bit true = omega arith
+    bit false = omega arith
+
+pub weight-small : (w : ℕ) (s : PauliString) → weightTo w s ≤ w
+unfolding weightTo
+weight-small w s = countTo-le w (hasLetter s)
+
+-- counted in its letter bytes
+pub weight-counted : (w : ℕ) (b : List ℕ) → w ≤ 255 → length b ≡ rowLength w → {n : ℕ} → n ≡ letterCount (lettersOf b) % 256 → n ≡ weightTo w (decodeRow w b)
+weight-counted w b h long e =
+    e ∙ weight-of-row (decodeRow w b) w (lettersOf b) h (letters-long w b long) (λ q l. letters-read b q ∙ sym (row-letter-at w b q l))
 
 -- ---- both round trips
+encoded-back : (w : ℕ) (s : PauliString) (q : ℕ) → q < w → decodeRow w (encodeRow w s) .letters q ≡ s .letters q
+unfolding letterIn
+encoded-back w s q l = row-letter-at w (encodeRow w s) q l ∙ ap letterOf (encoded-letter w s q l) ∙ letter-back (s .letters q)
+
+pub encoded-row-formed : (w : ℕ) (s : PauliString) → FormedRow w (encodeRow w s)
+encoded-row-formed w s = record {
+  long = length-row w s;
+  phase = omega (arith, encoded-phase w s, phase-small (s .phase));
+  letters = λ q h. omega (arith, encoded-letter w s q h, letter-small (s .letters q));
+  weight = encoded-weight w s ∙ sym (weight-ext w (decodeRow w (encodeRow w s)) s (encoded-back w s));
+}
+
 pub row-back : (w : ℕ) (s : PauliString) → Within w s → decodeRow w (encodeRow w s) ≡ s
 row-back w s within =
     string-ext (decodeRow w (encodeRow w s)) s (row-phase-at w (encodeRow w s) ∙ ap phaseOf (encoded-phase w s) ∙ phase-back (s .phase))
     (λ q. elim (decLt q w) [
-      | yes l ↦ row-letter-at w (encodeRow w s) q l ∙ read q l
+      | yes l ↦ encoded-back w s q l
       | no l ↦ let h : w ≤ q = omega arith in row-within w (encodeRow w s) q h ∙ sym (within q h)
     ])
-  where
-    read : (q : ℕ) → q < w → letterIn (encodeRow w s) q ≡ s .letters q
-    read q l = unfold letterIn in ap letterOf (encoded-letter w s q l) ∙ letter-back (s .letters q)
 
 pub row-there : {w : ℕ} {b : List ℕ} → FormedRow w b → encodeRow w (decodeRow w b) ≡ b
 row-there {w} {b} f = sym (
-    row-bytes w b (decodeRow w b) (f .long) (sym (phase-there (getD b 0 0) (f .phase)) ∙ ap phaseByte (sym (row-phase-at w b))) (row-letter-byte f))
+    row-bytes w b (decodeRow w b) (f .long) (sym (phase-there (getD b 0 0) (f .phase)) ∙ ap phaseByte (sym (row-phase-at w b))) (f .weight) (row-letter-byte f))
 
 -- ---- its phase and its letters are a string's bytes
 pub row-string : {w : ℕ} {b : List ℕ} → FormedRow w b → WellFormed w (getD b 0 0 ∷ lettersOf b)
@@ -139,93 +171,155 @@ row-as-string w b =
     read q = unfold letterIn in ap letterOf (letters-at b q)
 
 -- the bytes of a string of its letters, made a row
-pub row-of-work : {w : ℕ} {d : List ℕ} → WellFormed w d → encodeRow w (decodeString w d) ≡ getD d 0 0 ∷ drop 1 d
+pub row-of-work : {w n : ℕ} {d : List ℕ} → WellFormed w d → w ≤ 255 → n ≡ letterCount (drop 1 d) % 256 → encodeRow w (decodeString w d) ≡ getD d 0 0 ∷ n ∷ drop 1 d
 unfolding rowLength letterPlace
-row-of-work {w} {d} f = sym (
-    row-bytes w (getD d 0 0 ∷ drop 1 d) (decodeString w d) (ap suc (length-drop 1 d) ∙ omega (arith, f .long))
+row-of-work {w} {n} {d} f h e = sym (
+    row-bytes w (getD d 0 0 ∷ n ∷ drop 1 d) (decodeString w d) (ap (λ (k : ℕ). suc (suc k)) long)
     (sym (phase-there (getD d 0 0) (f .small 0 (omega (arith, f .long)))) ∙ ap phaseByte (sym (decode-phase w d)))
-    (λ q l.
-    let e : 1 + q ≡ suc q = omega arith in
-    getD-drop 1 d q 0 ∙ ap (λ (j : ℕ). getD d j 0) e ∙ sym (letter-there (getD d (suc q) 0) (f .small (suc q) (omega (arith, f .long))))
-    ∙ ap letterByte (sym (decode-letter w d q l))))
+    (e ∙ weight-of-row (decodeString w d) w (drop 1 d) h long read)
+    (λ q l. at q ∙ sym (letter-there (getD d (suc q) 0) (f .small (suc q) (omega (arith, f .long)))) ∙ ap letterByte (sym (decode-letter w d q l))))
+  where
+    long : length (drop 1 d) ≡ w
+    long = length-drop 1 d ∙ omega (arith, f .long)
 
--- ---- a row with its phase and two letters changed
+    at : (q : ℕ) → getD (drop 1 d) q 0 ≡ getD d (suc q) 0
+    at q = let z : 1 + q ≡ suc q = omega arith in getD-drop 1 d q 0 ∙ ap (λ (j : ℕ). getD d j 0) z
+
+    read : (q : ℕ) → q < w → letterAt (drop 1 d) q ≡ decodeString w d .letters q
+    read q l = unfold letterAt in ap letterOf (at q) ∙ sym (decode-letter w d q l)
+
+-- ---- a row with its phase, its weight and two letters changed
 pub letter-front : (w q : ℕ) (b : List ℕ) → q < w → letterIn b q ≡ letterIn (take (rowLength w) b) q
 unfolding letterIn
 letter-front w q b h = ap letterOf (sym (getD-take (rowLength w) b (letterPlace q) 0 (letter-in-row w q h)))
 
-module _ (q s : ℕ) (i : PairImage) where
-  pub length-pair : (b : List ℕ) → length (withPair q s i b) ≡ length b
-  unfolding withPair
-  length-pair b = simp length-set
-
-  pair-append : (b c : List ℕ) → 0 < length b → letterPlace q < length b → letterPlace s < length b → getD (b ++ c) 0 0 ≡ getD b 0 0
-      → withPair q s i (b ++ c) ≡ withPair q s i b ++ c
-  unfolding withPair
-  pair-append b c h hq hs e =
-      let p : ℕ = phaseByte (phaseOf (getD b 0 0) · i .phase) in
-      let b₁ : List ℕ = set b 0 p in
-      let b₂ : List ℕ = set b₁ (letterPlace q) (letterByte (i .first)) in
-      ap (λ (x : ℕ). set (set (set (b ++ c) 0 (phaseByte (phaseOf x · i .phase))) (letterPlace q) (letterByte (i .first))) (letterPlace s) (letterByte (i .second))) e
-      ∙ ap (λ (l : List ℕ). set (set l (letterPlace q) (letterByte (i .first))) (letterPlace s) (letterByte (i .second))) (set-append-left b c 0 p h)
-      ∙ ap (λ (l : List ℕ). set l (letterPlace s) (letterByte (i .second))) (set-append-left b₁ c (letterPlace q) (letterByte (i .first)) (omega (arith, length-set b 0 p)))
-      ∙ set-append-left b₂ c (letterPlace s) (letterByte (i .second)) (omega (arith, length-set b 0 p, length-set b₁ (letterPlace q) (letterByte (i .first))))
+module _ (q s p v x y : ℕ) where
+  pub length-with : (b : List ℕ) → length (rowWith q s p v x y b) ≡ length b
+  unfolding rowWith
+  length-with b = simp length-set
 
   -- at the front of b
-  pub pair-front : (w : ℕ) (b : List ℕ) → q < w → s < w → rowLength w ≤ length b
-      → withPair q s i b ≡ withPair q s i (take (rowLength w) b) ++ drop (rowLength w) b
-  pair-front w b hq hs h =
+  pub with-front : (w : ℕ) (b : List ℕ) → q < w → s < w → rowLength w ≤ length b
+      → rowWith q s p v x y b ≡ rowWith q s p v x y (take (rowLength w) b) ++ drop (rowLength w) b
+  unfolding rowWith
+  with-front w b hq hs h =
       let a : List ℕ = take (rowLength w) b in
+      let c : List ℕ = drop (rowLength w) b in
+      let a₀ : List ℕ = set a 0 p in
+      let a₁ : List ℕ = set a₀ weightPlace v in
+      let a₂ : List ℕ = set a₁ (letterPlace q) x in
       let long : length a ≡ rowLength w = length-take-le (rowLength w) b h in
-      let whole : a ++ drop (rowLength w) b ≡ b = take-append-drop (rowLength w) b in
-      ap (withPair q s i) (sym whole)
-      ∙ pair-append a (drop (rowLength w) b) (omega (arith, row-some w)) (omega (arith, letter-in-row w q hq)) (omega (arith, letter-in-row w s hs))
-      (ap (λ (l : List ℕ). getD l 0 0) whole ∙ sym (getD-take (rowLength w) b 0 0 (row-some w)))
+      let long₁ : length a₁ ≡ rowLength w = length-set a₀ weightPlace v ∙ length-set a 0 p ∙ long in
+      ap (λ (l : List ℕ). set (set (set (set l 0 p) weightPlace v) (letterPlace q) x) (letterPlace s) y) (sym (take-append-drop (rowLength w) b))
+      ∙ ap (λ (l : List ℕ). set (set (set l weightPlace v) (letterPlace q) x) (letterPlace s) y) (set-append-left a c 0 p (omega (arith, row-some w)))
+      ∙ ap (λ (l : List ℕ). set (set l (letterPlace q) x) (letterPlace s) y) (set-append-left a₀ c weightPlace v (omega (arith, row-some w, length-set a 0 p)))
+      ∙ ap (λ (l : List ℕ). set l (letterPlace s) y) (set-append-left a₁ c (letterPlace q) x (omega (arith, letter-in-row w q hq)))
+      ∙ set-append-left a₂ c (letterPlace s) y (omega (arith, letter-in-row w s hs, length-set a₁ (letterPlace q) x))
+
+-- its bytes
+abbrev headed : ℕ → ℕ → List ℕ → List ℕ
+headed p v b = set (set b 0 p) weightPlace v
+
+length-headed : (p v : ℕ) (b : List ℕ) → length (headed p v b) ≡ length b
+length-headed p v b = length-set (set b 0 p) weightPlace v ∙ length-set b 0 p
+
+apart : {i j : ℕ} → i ≢ j → letterPlace i ≡ letterPlace j → ⊥
+apart {i} {j} d e = d (omega (arith, place-is i, place-is j))
+
+module _ {w q s : ℕ} (p v x y : ℕ) {b : List ℕ} (f : FormedRow w b) (hq : q < w) (hs : s < w) where
+  before-letters : (k : ℕ) → k < 2 → getD (rowWith q s p v x y b) k 0 ≡ getD (headed p v b) k 0
+  unfolding rowWith
+  before-letters k h =
+      getD-set-other (set (headed p v b) (letterPlace q) x) (letterPlace s) k _ 0 (omega (arith, place-is s))
+      ∙ getD-set-other (headed p v b) (letterPlace q) k _ 0 (omega (arith, place-is q))
+
+  with-phase : getD (rowWith q s p v x y b) 0 0 ≡ p
+  with-phase = before-letters 0 (omega arith) ∙ getD-set-other (set b 0 p) weightPlace 0 _ 0 (omega arith) ∙ getD-set-same b 0 _ 0 (omega (arith, f .long, row-some w))
+
+  with-weight : getD (rowWith q s p v x y b) weightPlace 0 ≡ v
+  with-weight = before-letters weightPlace (omega arith) ∙ getD-set-same (set b 0 p) weightPlace _ 0 (omega (arith, f .long, row-some w, length-set b 0 p))
+
+  with-second : getD (rowWith q s p v x y b) (letterPlace s) 0 ≡ y
+  unfolding rowWith
+  with-second =
+      getD-set-same (set (headed p v b) (letterPlace q) x) (letterPlace s) _ 0
+      (omega (arith, f .long, length-headed p v b, length-set (headed p v b) (letterPlace q) x, letter-in-row w s hs))
+
+  with-first : q ≢ s → getD (rowWith q s p v x y b) (letterPlace q) 0 ≡ x
+  unfolding rowWith
+  with-first d =
+      getD-set-other (set (headed p v b) (letterPlace q) x) (letterPlace s) (letterPlace q) _ 0 (apart d)
+      ∙ getD-set-same (headed p v b) (letterPlace q) _ 0 (omega (arith, f .long, length-headed p v b, letter-in-row w q hq))
+
+  with-other : (k : ℕ) → k ≢ q → k ≢ s → getD (rowWith q s p v x y b) (letterPlace k) 0 ≡ getD b (letterPlace k) 0
+  unfolding rowWith
+  with-other k d e =
+      getD-set-other (set (headed p v b) (letterPlace q) x) (letterPlace s) (letterPlace k) _ 0 (apart e)
+      ∙ getD-set-other (headed p v b) (letterPlace q) (letterPlace k) _ 0 (apart d)
+      ∙ getD-set-other (set b 0 p) weightPlace (letterPlace k) _ 0 (omega (arith, place-is k)) ∙ getD-set-other b 0 (letterPlace k) _ 0 (omega (arith, place-is k))
+
+-- ---- the weight of a string after two letters changed
+one-changed : (w q : ℕ) (l : Letter) (f : ℕ → Letter) → q < w
+    → countTo w (λ k. notI (withLetter q l f k)) + cond (notI (f q)) 1 0 ≡ countTo w (λ k. notI (f k)) + cond (notI l) 1 0
+one-changed w q l f h =
+    count-changed w (λ k. notI (f k)) (λ k. notI (withLetter q l f k)) q h (λ k d. ap notI (sym (with-off q l f k d)))
+    ∙ ap (λ x. countTo w (λ k. notI (f k)) + cond (notI x) 1 0) (with-at q l f q refl)
+
+module _ {w q s : ℕ} (u : PauliString) (i : PairImage) (hq : q < w) (hs : s < w) (same : q ≡ s → i .first ≡ i .second)
+    (kept : q ≡ s → notI (i .first) ≡ notI (u .letters q)) where
+  weight-changed : weightTo w (pairAt q s i u) + pairWeight (u .letters q) (u .letters s) ≡ weightTo w u + pairWeight (i .first) (i .second)
+  unfolding weightTo hasLetter pairWeight pairAt
+  weight-changed =
+      let g : ℕ → Letter = withLetter s (i .second) (u .letters) in
+      let inner = one-changed w s (i .second) (u .letters) hs in
+      let outer = one-changed w q (i .first) g hq in
+      elim (ℕ-discrete q s) [
+        | yes e ↦ omega (arith, inner, outer, ap {B = ℕ} (λ x. cond (notI x) 1 0) (with-at s (i .second) (u .letters) q e ∙ sym (same e)), ap {B = ℕ} (λ c. cond c 1 0) (kept e), ap {B = ℕ} (λ (k : ℕ). cond (notI (u .letters k)) 1 0) e, ap {B = ℕ} (λ x. cond (notI x) 1 0) (same e))
+        | no d ↦ omega (arith, inner, outer, ap {B = ℕ} (λ x. cond (notI x) 1 0) (with-off s (i .second) (u .letters) q d))
+      ]
+
+  pub weight-by : w ≤ 255 → (weightTo w u + weightChange (u .letters q) (u .letters s) i) % 256 ≡ weightTo w (pairAt q s i u)
+  unfolding weightChange
+  weight-by h = omega (arith, weight-changed, weight-small w (pairAt q s i u), pair-small (u .letters q) (u .letters s))
 
 -- its bytes are changed as its string is
-module _ {w q s : ℕ} (i : PairImage) {b : List ℕ} (f : FormedRow w b) (hq : q < w) (hs : s < w) (same : q ≡ s → i .first ≡ i .second) where
+module _ {w q s : ℕ} (i : PairImage) {b : List ℕ} (f : FormedRow w b) (narrow : w ≤ 255) (hq : q < w) (hs : s < w) where
+  abbrev string : PauliString
+  string = decodeRow w b
+
   abbrev moved : PauliString
-  moved = pairAt q s i (decodeRow w b)
+  moved = pairAt q s i string
 
-  abbrev b₁ : List ℕ
-  b₁ = set b 0 (phaseByte (phaseOf (getD b 0 0) · i .phase))
+  module _ (same : q ≡ s → i .first ≡ i .second) (kept : q ≡ s → notI (i .first) ≡ notI (string .letters q)) where
+    at-letter : (k : ℕ) → k < w → getD (withPair q s i b) (letterPlace k) 0 ≡ letterByte (moved .letters k)
+    unfolding withPair pairAt
+    at-letter k h = elim (ℕ-discrete k s) [
+      | yes e ↦ ap (λ j. getD (withPair q s i b) (letterPlace j) 0) e ∙ with-second _ _ _ _ f hq hs
+          ∙ elim (ℕ-discrete k q) [
+            | yes d ↦ ap letterByte (sym (with-at q (i .first) _ k d ∙ same (sym d ∙ e)))
+            | no d ↦ ap letterByte (sym (with-off q (i .first) _ k d ∙ with-at s (i .second) _ k e))
+          ]
+      | no e ↦ elim (ℕ-discrete k q) [
+          | yes d ↦ ap (λ j. getD (withPair q s i b) (letterPlace j) 0) d ∙ with-first _ _ _ _ f hq hs (λ z. e (d ∙ z)) ∙ ap letterByte (sym (with-at q (i .first) _ k d))
+          | no d ↦ with-other _ _ _ _ f hq hs k d e ∙ row-letter-byte f k h ∙ ap letterByte (sym (with-off q (i .first) _ k d ∙ with-off s (i .second) _ k e))
+        ]
+    ]
 
-  abbrev b₂ : List ℕ
-  b₂ = set b₁ (letterPlace q) (letterByte (i .first))
+    pub pair-bytes : encodeRow w moved ≡ withPair q s i b
+    pair-bytes = sym (row-bytes w (withPair q s i b) moved long phase weight at-letter)
+      where
+        long : length (withPair q s i b) ≡ rowLength w
+        long = unfold withPair in length-with q s _ _ _ _ b ∙ f .long
 
-  at-phase : getD (withPair q s i b) 0 0 ≡ phaseByte (moved .phase)
-  unfolding withPair pairAt
-  at-phase =
-      getD-set-other b₂ (letterPlace s) 0 _ 0 (omega (arith, place-is s)) ∙ getD-set-other b₁ (letterPlace q) 0 _ 0 (omega (arith, place-is q))
-      ∙ getD-set-same b 0 _ 0 (omega (arith, f .long, row-some w)) ∙ ap (λ p. phaseByte (p · i .phase)) (sym (row-phase-at w b))
+        phase : getD (withPair q s i b) 0 0 ≡ phaseByte (moved .phase)
+        phase = unfold withPair pairAt in with-phase _ _ _ _ f hq hs ∙ ap (λ p. phaseByte (p · i .phase)) (sym (row-phase-at w b))
 
-  at-letter : (k : ℕ) → k < w → getD (withPair q s i b) (letterPlace k) 0 ≡ letterByte (moved .letters k)
-  unfolding withPair pairAt
-  at-letter k h = elim (ℕ-discrete k s) [
-    | yes e ↦ (let put : getD (set b₂ (letterPlace s) (letterByte (i .second))) (letterPlace k) 0 ≡ letterByte (i .second) =
-        ap (λ j. getD (set b₂ (letterPlace s) (letterByte (i .second))) (letterPlace j) 0) e
-        ∙ getD-set-same b₂ (letterPlace s) _ 0 (omega (arith, length-set b₁ (letterPlace q) (letterByte (i .first)), length-set b 0 (phaseByte (phaseOf (getD b 0 0) · i .phase)), f .long, letter-in-row w s hs)) in
-        elim (ℕ-discrete k q) [
-          | yes d ↦ put ∙ ap letterByte (sym (with-at q (i .first) _ k d ∙ same (sym d ∙ e)))
-          | no d ↦ put ∙ ap letterByte (sym (with-off q (i .first) _ k d ∙ with-at s (i .second) _ k e))
-        ])
-    | no e ↦ (let off : getD (set b₂ (letterPlace s) (letterByte (i .second))) (letterPlace k) 0 ≡ getD b₂ (letterPlace k) 0 =
-        getD-set-other b₂ (letterPlace s) (letterPlace k) _ 0 (λ x. e (apart k s x)) in
-        elim (ℕ-discrete k q) [
-          | yes d ↦ off ∙ ap (λ j. getD b₂ (letterPlace j) 0) d
-              ∙ getD-set-same b₁ (letterPlace q) _ 0 (omega (arith, length-set b 0 (phaseByte (phaseOf (getD b 0 0) · i .phase)), f .long, letter-in-row w q hq))
-              ∙ ap letterByte (sym (with-at q (i .first) _ k d))
-          | no d ↦ off ∙ getD-set-other b₁ (letterPlace q) (letterPlace k) _ 0 (λ x. d (apart k q x))
-              ∙ getD-set-other b 0 (letterPlace k) _ 0 (omega (arith, place-is k)) ∙ row-letter-byte f k h
-              ∙ ap letterByte (sym (with-off q (i .first) _ k d ∙ with-off s (i .second) _ k e))
-        ])
-  ]
-    where
-      apart : (x y : ℕ) → letterPlace x ≡ letterPlace y → x ≡ y
-      apart x y e = omega (arith, place-is x, place-is y)
-
-  pub pair-bytes : encodeRow w moved ≡ withPair q s i b
-  pair-bytes = sym (row-bytes w (withPair q s i b) moved (length-pair q s i b ∙ f .long) at-phase at-letter)
+        weight : getD (withPair q s i b) weightPlace 0 ≡ weightTo w moved
+        weight = unfold withPair in
+            with-weight _ _ _ _ f hq hs
+            ∙ ap (λ (n : ℕ). (n + weightChange (letterIn b q) (letterIn b s) i) % 256) (f .weight)
+            ∙ ap₂ (λ x y. (weightTo w string + weightChange x y i) % 256) (sym (row-letter-at w b q hq)) (sym (row-letter-at w b s hs))
+            ∙ weight-by string i hq hs same kept narrow
 
 -- ---- where the rows of a record are
 pub first-offset : (w : ℕ) → rowOffset w 0 ≡ 1
@@ -355,6 +449,9 @@ module _ {b : List ℕ} {r : ℕ} (o : OwnRow b r) where
 
   pub own-some : {p : List ℕ} → p ≡ rowPart b r → 0 < length p
   own-some e = omega (arith, ap length e, own-row .long, row-some (widthOf b))
+
+  pub own-more : {p : List ℕ} → p ≡ rowPart b r → 1 < length p
+  own-more e = omega (arith, ap length e, own-row .long, row-some (widthOf b))
 
   pub own-phase : {p : ℕ} → p ≡ phaseByte (readRow b r .phase) → phaseOf p ≡ rowOf (tableauOf b) r .phase
   own-phase e = ap phaseOf e ∙ phase-back _ ∙ ap (λ s. s .phase) (read-own b r (o .tableau .narrow) (o .own))

@@ -1,29 +1,34 @@
--- The bytes of a tableau record. Its layout stands here and nowhere else. Scope document, "Tableau record".
-use Prim.Native.Nat.{ℕ, zero, suc, _+_, _*_, _-_, _≤_, _<_}
+-- The bytes of a tableau record. Its layout stands here and nowhere else. Scope document, "Tableau record", and change requests,
+-- "Row weights stored".
+use Prim.Native.Nat.{ℕ, zero, suc, _+_, _*_, _-_, _%_, _≤_, _<_}
 use mathlib.Core.Path.{_≡_}
 use mathlib.Core.Bool.{cond, _&&_}
 use mathlib.Core.List.{List, [], _∷_, _++_}
 use lib.Dec.{ltb, leb}
 use lib.ListN.{length, take, drop, getD, set}
 use Rattle.pauli_group.specs.Phase.{_·_}
-use Rattle.pauli_group.specs.Letter.{Letter, I, X, Z}
-use Rattle.pauli_group.specs.PauliString.{PauliString, qubits, identityString}
+use Rattle.pauli_group.specs.Letter.{Letter, I, X, Z, notI}
+use Rattle.pauli_group.specs.PauliString.{PauliString, qubits, identityString, weightTo}
 use Rattle.clifford_group.specs.Tableau.{Tableau}
 use Rattle.clifford_gates.specs.Gates.{PairImage}
 use Rattle.pauli.specs.Places.{listed}
 use Rattle.pauli.specs.Layout.{phaseByte, phaseOf, letterByte, letterOf}
 
--- ---- rows: "a row is a phase and n letters". A row of a tableau has a codec of its own, apart from that of strings.
+-- ---- rows: "a row is a phase and n letters", and "a weight byte, the number of non-I letters in the row, between phase and letters".
+-- A row of a tableau has a codec of its own, apart from that of strings, which have no weight.
 
--- where the letter of qubit q stands in a row: the letters come last
+-- where the weight stands in a row, and where the letter of qubit q: the letters come last
+abbrev pub weightPlace : ℕ
+weightPlace = 1
+
 unfoldable pub letterPlace : ℕ → ℕ
-letterPlace q = suc q
+letterPlace q = suc (suc q)
 
 unfoldable pub rowLength : ℕ → ℕ
 rowLength w = letterPlace w
 
 unfoldable pub encodeRow : ℕ → PauliString → List ℕ
-encodeRow w s = phaseByte (s .phase) ∷ listed w (λ q. letterByte (s .letters q))
+encodeRow w s = phaseByte (s .phase) ∷ weightTo w s ∷ listed w (λ q. letterByte (s .letters q))
 
 -- Of a row of any bytes, where one above 3 is read as 3: the letter on qubit q.
 unfoldable pub letterIn : List ℕ → ℕ → Letter
@@ -35,10 +40,22 @@ decodeRow w b = record {
   letters = λ q. cond (ltb q w) (letterIn b q) I;
 }
 
--- Its phase times that of an image, and the image's letters on qubits q and r; every other byte stays.
+-- with these bytes as its phase, as its weight, and as its letters on qubits q and r; every other byte stays
+unfoldable pub rowWith : ℕ → ℕ → (phase weight first second : ℕ) → List ℕ → List ℕ
+rowWith q r p v x y b = set (set (set (set b 0 p) weightPlace v) (letterPlace q) x) (letterPlace r) y
+
+-- how many of two letters are other than I; what is added to a row's weight, modulo 256, where a and b become the letters of an image
+unfoldable pub pairWeight : Letter → Letter → ℕ
+pairWeight a b = cond (notI a) 1 0 + cond (notI b) 1 0
+
+unfoldable pub weightChange : Letter → Letter → PairImage → ℕ
+weightChange a b i = (256 + pairWeight (i .first) (i .second) - pairWeight a b) % 256
+
+-- Its phase times that of an image, the image's letters on qubits q and r, and its weight by the difference.
 unfoldable pub withPair : ℕ → ℕ → PairImage → List ℕ → List ℕ
 withPair q r i b =
-    set (set (set b 0 (phaseByte (phaseOf (getD b 0 0) · i .phase))) (letterPlace q) (letterByte (i .first))) (letterPlace r) (letterByte (i .second))
+    rowWith q r (phaseByte (phaseOf (getD b 0 0) · i .phase))
+    ((getD b weightPlace 0 + weightChange (letterIn b q) (letterIn b r) i) % 256) (letterByte (i .first)) (letterByte (i .second)) b
 
 -- its letter bytes
 unfoldable pub lettersOf : List ℕ → List ℕ
@@ -49,6 +66,7 @@ pub record FormedRow (w : ℕ) (b : List ℕ) : Type 0 where
   pub long : length b ≡ rowLength w
   pub phase : getD b 0 0 ≤ 3
   pub letters : (q : ℕ) → q < w → getD b (letterPlace q) 0 ≤ 3
+  pub weight : getD b weightPlace 0 ≡ weightTo w (decodeRow w b)
 
 -- ---- records: "Byte 0 is the width n, 0 to 128. X rows 0 to n−1 follow, then Z rows"
 
@@ -56,13 +74,13 @@ pub record FormedRow (w : ℕ) (b : List ℕ) : Type 0 where
 unfoldable pub rowOffset : ℕ → ℕ → ℕ
 rowOffset w r = 1 + r * rowLength w
 
--- "Length 1 + 2n(n+1)"
+-- "record length becomes 1 + 2n(n+2)"
 unfoldable pub recordLength : ℕ → ℕ
 recordLength w = 1 + 2 * w * rowLength w
 
--- "at most 33,025 bytes": a record of width 128
+-- "at most 33,281" bytes: a record of width 128
 abbrev pub longestRecord : ℕ
-longestRecord = 33025
+longestRecord = 33281
 
 -- the rows of a tableau in the order of its record
 unfoldable pub rowOf : Tableau → ℕ → PauliString

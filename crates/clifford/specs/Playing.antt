@@ -2,8 +2,9 @@
 use Prim.Native.Nat.{ℕ, _+_, _*_, _/_, _%_}
 use mathlib.Core.Path.{_≡_}
 use mathlib.Core.Bool.{Bool, true, cond, not, _&&_}
-use mathlib.Core.List.{List, []}
+use mathlib.Core.List.{List, [], _∷_}
 use lib.Dec.{ltb, leb, eqb}
+use lib.Bits.{bitXor}
 use lib.ListN.{length, getD}
 use Rattle.pauli_group.specs.Letter.{Letter}
 use Rattle.clifford_gates.specs.Gates.{Image, PairImage}
@@ -11,7 +12,7 @@ use Rattle.clifford_gates.specs.GateNumbers.{oneQubitGate, twoQubitGate}
 use Rattle.clifford_gates.specs.Updates.{letterImage, pairImage}
 use Rattle.pauli.specs.Places.{listed}
 use Rattle.pauli.specs.Layout.{phaseByte, phaseOf, letterByte, letterOf}
-use Rattle.clifford.specs.Layout.{recordLength, widthOf, letterIn, withPair, eachRow}
+use Rattle.clifford.specs.Layout.{recordLength, widthOf, weightPlace, letterIn, weightChange, rowWith, withPair, eachRow}
 
 -- an image with its letter as the first and as the second
 unfoldable pub twice : Image → PairImage
@@ -50,32 +51,37 @@ pub record GatePlayed (g q r : ℕ) (t e : List ℕ) (b : Bool) : Type 0 where
 
 -- ---- the gates' tables
 
--- what a gate makes of the letters a and b is entry 4a + b: 16 for the sign -1, and 4 times the first letter, and the second letter
-unfoldable pub tableEntry : PairImage → ℕ
-tableEntry i = 16 * phaseByte (i .phase) + 4 * letterByte (i .first) + letterByte (i .second)
+-- what gate g makes of the letters a and b, at 4a + b
+unfoldable pub column : ℕ → (Letter → Letter → PairImage → ℕ) → List ℕ
+column g f = listed 16 (λ k. f (letterOf (k / 4)) (letterOf (k % 4)) (movedBy g (letterOf (k / 4)) (letterOf (k % 4))))
 
-unfoldable pub tableOf : ℕ → List ℕ
-tableOf g = listed 16 (λ k. tableEntry (movedBy g (letterOf (k / 4)) (letterOf (k % 4))))
+-- the signs, what is added to the weight, the first letters and the second ones
+unfoldable pub tableOf : ℕ → List (List ℕ)
+tableOf g =
+    column g (λ a b i. phaseByte (i .phase)) ∷
+    column g weightChange ∷
+    column g (λ a b i. letterByte (i .first)) ∷
+    column g (λ a b i. letterByte (i .second)) ∷
+    []
 
-unfoldable pub gateTables : List (List ℕ)
+unfoldable pub gateTables : List (List (List ℕ))
 gateTables = listed 38 tableOf
 
--- the way back from an entry of any value; the image that a table has for two letters
-unfoldable pub imageIn : ℕ → PairImage
-imageIn e = record { phase = phaseOf (e / 16 % 2); first = letterOf (e / 4 % 4); second = letterOf (e % 4) }
+-- what row j of a table of any bytes has for two letters
+unfoldable pub entry : List (List ℕ) → ℕ → Letter → Letter → ℕ
+entry e j a b = getD (getD e j []) (4 * letterByte a + letterByte b) 0
 
-unfoldable pub readTable : List ℕ → Letter → Letter → PairImage
-readTable e a b = imageIn (getD e (4 * letterByte a + letterByte b) 0)
+-- a row changed on qubits q and s as a table says; a sign is put into the phase's byte by its bits
+unfoldable pub tableOnRow : List (List ℕ) → ℕ → ℕ → List ℕ → List ℕ
+tableOnRow e q s b =
+    let at : ℕ → ℕ = λ j. entry e j (letterIn b q) (letterIn b s) in
+    rowWith q s (bitXor (phaseByte (phaseOf (getD b 0 0))) (at 0)) ((getD b weightPlace 0 + at 1) % 256) (at 2) (at 3) b
 
--- a row changed on qubits q and s as a table says
-unfoldable pub tableOnRow : List ℕ → ℕ → ℕ → List ℕ → List ℕ
-tableOnRow e q s b = withPair q s (readTable e (letterIn b q) (letterIn b s)) b
-
--- the record after gate g by tables of any entries; `gate-played`: by the gates' own it is `played`
-unfoldable pub playedBy : List (List ℕ) → ℕ → ℕ → ℕ → List ℕ → List ℕ
+-- the record after gate g by tables of any bytes; `gate-played`: by the gates' own it is `played`
+unfoldable pub playedBy : List (List (List ℕ)) → ℕ → ℕ → ℕ → List ℕ → List ℕ
 playedBy ts g q r t = cond (playable g q r t) (eachRow (tableOnRow (getD ts g []) q (secondQubit g q r)) t) t
 
 -- what the kernel promises where it is lent the tables ts
-pub record PlayedBy (ts : List (List ℕ)) (g q r : ℕ) (t e : List ℕ) (b : Bool) : Type 0 where
+pub record PlayedBy (ts : List (List (List ℕ))) (g q r : ℕ) (t e : List ℕ) (b : Bool) : Type 0 where
   pub flag : b ≡ playable g q r t
   pub bytes : e ≡ playedBy ts g q r t

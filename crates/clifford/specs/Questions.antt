@@ -4,14 +4,14 @@ use mathlib.Core.Bool.{_&&_}
 use mathlib.Core.List.{List}
 use lib.Dec.{ltb, leb, eqb}
 use lib.ListN.{length, getD}
-use Rattle.pauli_group.specs.PauliString.{PauliString, qubits, hasLetter}
-use Rattle.pauli.specs.declared.refusal.Refusal.the-variants.{Width, Length, BadByte, ImageWidth, Slot}
+use Rattle.pauli_group.specs.PauliString.{PauliString, qubits, hasLetter, weightTo}
+use Rattle.pauli.specs.declared.refusal.Refusal.the-variants.{Width, Length, BadByte, ImageWidth, Slot, FalseWeight}
 use Rattle.pauli.specs.declared.refusal.Outcome.{Outcome}
 use Rattle.pauli.specs.declared.refusal.Outcome.the-variants.{Done}
 use Rattle.pauli.specs.Places.{firstPlace}
 use Rattle.pauli.specs.Layout.{stringLength, stringOf}
 use Rattle.pauli.specs.Questions.{ask, _andThen_, bytesQuestion, stringQuestions, roomQuestion}
-use Rattle.clifford.specs.Layout.{letterPlace, lettersOf, rowOffset, rowPart, widthOf, tableauOf, recordLength}
+use Rattle.clifford.specs.Layout.{weightPlace, letterPlace, lettersOf, decodeRow, rowOffset, rowPart, widthOf, tableauOf, recordLength}
 use Rattle.clifford.specs.Support.{supportQubits}
 use Rattle.clifford.specs.Images.{pauliWidth}
 
@@ -27,15 +27,25 @@ lengthQuestion b = ask (eqb (length b) (recordLength (widthOf b))) Length
 unfoldable pub rowQuestion : ℕ → List ℕ → Outcome
 rowQuestion start b = ask (leb (getD b 0 0) 3) (BadByte start) andThen bytesQuestion (start + letterPlace 0) (lettersOf b)
 
--- of the first k rows of a record, in their order
-unfoldable pub rowsQuestion : ℕ → List ℕ → Outcome
-rowsQuestion zero b = Done
-rowsQuestion (suc k) b = rowsQuestion k b andThen rowQuestion (rowOffset (widthOf b) k) (rowPart b k)
+-- "It refuses 24 for a false weight, with the first one's offset": of a row of w letters that starts there
+unfoldable pub weightQuestion : ℕ → ℕ → List ℕ → Outcome
+weightQuestion w start b = ask (eqb (getD b weightPlace 0) (weightTo w (decodeRow w b))) (FalseWeight (start + weightPlace))
 
--- "a tableau of no bytes has no width and gives 2"; then 1, 2, and 3
+-- a question of a row, put to the first k rows of a record in their order
+unfoldable pub rowsAsked : (ℕ → List ℕ → Outcome) → ℕ → List ℕ → Outcome
+rowsAsked question zero b = Done
+rowsAsked question (suc k) b = rowsAsked question k b andThen question (rowOffset (widthOf b) k) (rowPart b k)
+
+unfoldable pub codesQuestion : List ℕ → Outcome
+codesQuestion b = rowsAsked rowQuestion (2 * widthOf b) b
+
+unfoldable pub weightsQuestion : List ℕ → Outcome
+weightsQuestion b = rowsAsked (weightQuestion (widthOf b)) (2 * widthOf b) b
+
+-- "a tableau of no bytes has no width and gives 2"; then 1, 2 and 3, and 24 "directly after question 3 on the same tableau"
 unfoldable pub tableauQuestions : List ℕ → Outcome
 tableauQuestions b =
-    ask (ltb 0 (length b)) Length andThen widthQuestion (widthOf b) andThen lengthQuestion b andThen rowsQuestion (2 * widthOf b) b
+    ask (ltb 0 (length b)) Length andThen widthQuestion (widthOf b) andThen lengthQuestion b andThen codesQuestion b andThen weightsQuestion b
 
 -- "Is the slot (also of an image handed out) [inside the width]? 15, the slot"
 unfoldable pub slotQuestion : ℕ → ℕ → Outcome
@@ -68,14 +78,14 @@ unfoldable pub setQuestions : List ℕ → ℕ → List ℕ → Outcome
 setQuestions t slot s =
     applyQuestions t s andThen insideQuestion (widthOf t) (stringOf s) andThen slotQuestion slot (widthOf t)
 
--- "The first three are all put to the first record before the second"
+-- "The first three are all put to the first record before the second", and 24 "before any second record"
 unfoldable pub composeQuestions : List ℕ → List ℕ → Outcome
 composeQuestions a b = tableauQuestions a andThen tableauQuestions b
 
 unfoldable pub composeAnswer : List ℕ → List ℕ → ℕ → Outcome
 composeAnswer a b room = composeQuestions a b andThen roomQuestion (recordLength (max (widthOf a) (widthOf b))) room
 
--- "A width given beside a tableau meets 1 after that tableau's 3"
+-- "A width given beside a tableau meets 1 after that tableau's 3", and so after its 24
 unfoldable pub extendQuestions : List ℕ → ℕ → Outcome
 extendQuestions t n = tableauQuestions t andThen widthQuestion n
 

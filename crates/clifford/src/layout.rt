@@ -5,12 +5,13 @@ ghost use lib.ListN.{getD};
 ghost use Rattle.pauli.specs.Layout.{phaseByte, letterByte};
 ghost use Rattle.clifford.specs.Playing.{tableOnRow};
 ghost use Rattle.clifford.specs.Layout.{widthOf, recordLength, rowOffset, rowOf, rowPart, readRow, tableauOf, rowQubit, rowLetter};
-ghost use Rattle.clifford.specs.Questions.{rowQuestion};
+ghost use Rattle.clifford.specs.Questions.{rowQuestion, weightQuestion};
 ghost use Rattle.clifford.specs.Inside.Rows.{Sized, RowIndex, RowInside, OwnRow, OwnLetter, WorkOnRow, Finished, rowTimes, rowWritten, rowLetters, lettersIn, stringIn, OnRow};
 use pauli::QUBITS;
 use pauli::refusal::Outcome;
 use pauli::refusal::Refusal;
 use pauli::rows::copy;
+use pauli::rows::count_letters;
 use pauli::rows::first_bad;
 use pauli::rows::multiply_letters;
 use pauli::rows::phase_times;
@@ -32,14 +33,14 @@ pub fn width(t: &[u8]) -> usize
 }
 
 // The length of a record of width 128.
-pub const LONGEST_RECORD: usize = 33025;
+pub const LONGEST_RECORD: usize = 33281;
 
 // The length of a record.
 pub(crate) fn record_length(width: usize) -> usize
     requires { ⌜ width ≤ 128 ⌝ }
     ensures { λ r. ⌜ Sized (recordLength width) r ⌝ }
 {
-    1 + 2 * width * (width + 1)
+    1 + 2 * width * (width + 2)
 }
 
 // Where row r starts.
@@ -47,7 +48,7 @@ pub(crate) fn row_offset(width: usize, r: usize) -> usize
     requires { ⌜ RowIndex width r ⌝ }
     ensures { λ s. ⌜ Sized (rowOffset width r) s ⌝ }
 {
-    1 + r * (width + 1)
+    1 + r * (width + 2)
 }
 
 // The row's own part of the record.
@@ -57,7 +58,7 @@ pub(crate) fn row(t: &[u8], r: usize) -> &[u8]
 {
     let n = width(t);
     let at = row_offset(n, r);
-    &t[at..at + (n + 1)]
+    &t[at..at + (n + 2)]
 }
 
 // Question 3, put to row r.
@@ -70,12 +71,25 @@ pub(crate) fn check_row(t: &[u8], r: usize) -> Outcome
     if 3 < whole[0] {
         return Outcome::Refused(Refusal::BadByte { offset: at });
     }
-    let letters = &whole[1..];
+    let letters = &whole[2..];
     let k = first_bad(letters);
     if k < letters.len() {
-        return Outcome::Refused(Refusal::BadByte { offset: at + 1 + k });
+        return Outcome::Refused(Refusal::BadByte { offset: at + 2 + k });
     }
     Outcome::Done
+}
+
+// Question 24, put to row r.
+pub(crate) fn check_weight(t: &[u8], r: usize) -> Outcome
+    requires { ⌜ RowInside (now t) r ⌝ }
+    ensures { λ o. ⌜ o ≡ weightQuestion (widthOf (now (t .entry))) (rowOffset (widthOf (now (t .entry))) r) (rowPart (now (t .entry)) r) ⌝ }
+{
+    let at = row_offset(width(t), r);
+    let whole = row(t, r);
+    if whole[1] == count_letters(&whole[2..]) {
+        return Outcome::Done;
+    }
+    Outcome::Refused(Refusal::FalseWeight { offset: at + 1 })
 }
 
 // The letters of row r.
@@ -84,7 +98,7 @@ pub(crate) fn row_letters(t: &[u8], r: usize) -> &[u8]
     ensures { λ l. ⌜ now l ≡ rowLetters (now (t .entry)) r ⌝ }
 {
     let whole = row(t, r);
-    &whole[1..]
+    &whole[2..]
 }
 
 // A work row, multiplied by row r of the record.
@@ -94,17 +108,18 @@ pub(crate) fn multiply_by(work: &mut [u8], t: &[u8], r: usize)
 {
     let factor = row(t, r);
     let p = phase_times(work[0], factor[0]);
-    let phase = multiply_letters(&mut work[1..], &factor[1..], p);
+    let phase = multiply_letters(&mut work[1..], &factor[2..], p);
     work[0] = phase;
 }
 
-// A finished work row, written as the row at the front of dst.
+// A finished work row, written with its weight as the row at the front of dst.
 pub(crate) fn write_row(work: &[u8], dst: &mut [u8])
     requires { ⌜ Finished (now work) (now dst) ⌝ }
     ensures { λ _. ⌜ now (dst .exit) ≡ rowWritten (lettersIn (now (work .entry))) (stringIn (now (work .entry))) (now (dst .entry)) ⌝ }
 {
     dst[0] = work[0];
-    copy(&work[1..], &mut dst[1..]);
+    dst[1] = count_letters(&work[1..]);
+    copy(&work[1..], &mut dst[2..]);
 }
 
 // The qubit of row r, and its letter: X rows come first.
@@ -125,7 +140,7 @@ pub(crate) fn letter_in_row(t: &[u8], r: usize, q: usize) -> u8
     requires { ⌜ OwnLetter (now t) r q ⌝ }
     ensures { λ l. ⌜ l ≡ letterByte (rowOf (tableauOf (now (t .entry))) r .letters q) ⌝ }
 {
-    row(t, r)[q + 1]
+    row(t, r)[q + 2]
 }
 
 // A phase or a letter as it is read: a byte above 3 as 3.
@@ -173,17 +188,19 @@ pub fn letter_at(t: &[u8], r: usize, q: usize) -> u8
     if n <= q {
         return 0;
     }
-    read_at(t, row_offset(n, r) + 1 + q)
+    read_at(t, row_offset(n, r) + 2 + q)
 }
 
 // The row at the front of b, changed on qubits q and s as the table says.
-pub(crate) fn change_row(b: &mut [u8], q: usize, s: usize, table: &[u8; 16])
+pub(crate) fn change_row(b: &mut [u8], q: usize, s: usize, table: &[[u8; 16]; 4])
     requires { ⌜ OnRow q s (now b) ⌝ }
     ensures { λ _. ⌜ now (b .exit) ≡ tableOnRow (now (table .entry)) q s (now (b .entry)) ⌝ }
 {
-    let k = 4 * read(b[q + 1]) + read(b[s + 1]);
-    let e = table[k as usize];
-    b[0] = read(b[0]) ^ (e / 16 % 2);
-    b[q + 1] = e / 4 % 4;
-    b[s + 1] = e % 4;
+    let k = wide(4 * read(b[q + 2]) + read(b[s + 2]));
+    let phase = read(b[0]) ^ table[0][k];
+    let weight = std::num::wrapping_add_u8(b[1], table[1][k]);
+    b[0] = phase;
+    b[1] = weight;
+    b[q + 2] = table[2][k];
+    b[s + 2] = table[3][k];
 }

@@ -12,5 +12,6 @@ pub mod playing;
 pub mod questions;
 mod setting;
 mod support;
+pub mod tables;
 mod validity;
 mod writing;

@@ -1,12 +1,13 @@
 // The questions on entry that are put to tableaux and to gates. Each answers Done, or the refusal.
 ghost use mathlib.Core.Path.{_≡_};
-ghost use Prim.Native.Nat.{_*_, min};
-ghost use Rattle.clifford.specs.Layout.{recordLength, widthOf};
+ghost use Prim.Native.Nat.{min};
+ghost use Rattle.clifford.specs.Layout.{recordLength};
 ghost use Rattle.clifford.specs.Inside.Rows.{Laid};
-ghost use Rattle.clifford.specs.Questions.{widthQuestion, slotQuestion, rowsQuestion, tableauQuestions, composeQuestions};
+ghost use Rattle.clifford.specs.Questions.{widthQuestion, slotQuestion, codesQuestion, weightsQuestion, tableauQuestions, composeQuestions};
 ghost use Rattle.clifford.specs.GateQuestions.{gateQuestion, differentQuestion};
 use crate::layout::LONGEST_RECORD;
 use crate::layout::check_row;
+use crate::layout::check_weight;
 use crate::layout::record_length;
 use crate::layout::width;
 use pauli::QUBITS;
@@ -43,14 +44,31 @@ pub fn check_slot(slot: usize, width: usize) -> Outcome
 }
 
 // Question 3, put row by row.
-fn check_rows(t: &[u8]) -> Outcome
+fn check_codes(t: &[u8]) -> Outcome
     requires { ⌜ Laid (now t) ⌝ }
-    ensures { λ r. ⌜ r ≡ rowsQuestion (2 * widthOf (now (t .entry))) (now (t .entry)) ⌝ }
+    ensures { λ r. ⌜ r ≡ codesQuestion (now (t .entry)) ⌝ }
 {
     let rows = 2 * width(t);
     let mut r = 0;
     while r < rows {
         let answer = check_row(t, r);
+        let Outcome::Done = answer else {
+            return answer;
+        };
+        r += 1;
+    }
+    Outcome::Done
+}
+
+// Question 24, put row by row.
+fn check_weights(t: &[u8]) -> Outcome
+    requires { ⌜ Laid (now t) ⌝ }
+    ensures { λ r. ⌜ r ≡ weightsQuestion (now (t .entry)) ⌝ }
+{
+    let rows = 2 * width(t);
+    let mut r = 0;
+    while r < rows {
+        let answer = check_weight(t, r);
         let Outcome::Done = answer else {
             return answer;
         };
@@ -74,7 +92,11 @@ pub fn check_tableau(t: &[u8]) -> Outcome
     if t.len() != record_length(n) {
         return Outcome::Refused(Refusal::Length);
     }
-    check_rows(t)
+    let codes = check_codes(t);
+    let Outcome::Done = codes else {
+        return codes;
+    };
+    check_weights(t)
 }
 
 // Two tableau records, the first one first.

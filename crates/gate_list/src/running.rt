@@ -6,9 +6,9 @@ use crate::reading::next;
 use crate::reading::wide;
 use crate::reading::width;
 use clifford::clifford_rep::identity;
-use clifford::playing::gate_tables;
 use clifford::playing::play_with;
 use clifford::questions::record_size;
+use clifford::tables::gate_tables;
 
 // The gate of record i, by the gates' tables.
 fn play_record(list: &[u8], i: usize, tables: &[[u8; 16]; 38], t: &mut [u8])

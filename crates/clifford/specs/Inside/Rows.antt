@@ -130,8 +130,8 @@ pub record OwnLetter (b : List ℕ) (r q : ℕ) : Type 0 where
 
 -- the row at the front of b has qubits q and r
 pub record OnRow (q r : ℕ) (b : List ℕ) : Type 0 where
-  pub first : q + 1 < length b
-  pub second : r + 1 < length b
+  pub first : q + 2 < length b
+  pub second : r + 2 < length b
 
 -- a row of any content, to be cleared
 pub record ClearRow (d : List ℕ) (p : ℕ) : Type 0 where
@@ -141,6 +141,7 @@ pub record ClearRow (d : List ℕ) (p : ℕ) : Type 0 where
 -- a finished row, and room for it
 pub record Finished (d out : List ℕ) : Type 0 where
   pub row : WellFormed (lettersIn d) d
+  pub narrow : length d ≤ 129
   pub room : rowLength (lettersIn d) ≤ length out
 
 -- the record b to be applied to a string s, into a work row d of any content
