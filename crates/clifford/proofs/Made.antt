@@ -225,7 +225,7 @@ module _ {m : Made} {a b : List ℕ} {w r : ℕ} {s k out : List ℕ} (o : Makes
   -- the work row written
   module _ {k′ : List ℕ} (ek : k′ ≡ encodeString w row) where
     pub made-finished : Finished k′ out
-    made-finished = put-room w row ek (o .row .room)
+    made-finished = put-room w row ek (o .row .makes .narrow) (o .row .room)
 
     pub made-put : {e′ : List ℕ} → e′ ≡ rowWritten (lettersIn k′) (stringIn k′) out → e′ ≡ rowWritten w row out
     made-put ee = put-row w out row ek (made-within m a b w r (o .row .makes) (o .row .own)) ee

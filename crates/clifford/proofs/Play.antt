@@ -3,18 +3,19 @@ use mathlib.Core.Path.{_≡_, refl, sym, ap, ap₂, _∙_, subst}
 use mathlib.Core.Bool.{Bool, true, false, cond, not, _&&_}
 use mathlib.Core.Logic.{_≢_}
 use mathlib.Core.List.{List, [], _∷_, _++_}
-use Prim.Native.Nat.{ℕ, _+_, _*_, _-_, _≤_, _<_}
+use Prim.Native.Nat.{ℕ, zero, suc, _+_, _*_, _-_, _%_, _≤_, _<_}
 use native.Mathlib.Omega.{arith}
 use native.Mathlib.Decide.{decLt}
 use lib.Dec.{T, ltb, leb, eqb}
+use lib.Bits.{bitXor}
 use lib.ListN.{length, getD, take, drop}
+use lib.Seq.{getD-take}
 use borrow.Author.Needs.{needs}
 use borrow.Author.Tests.{lt-ltb, le-ltb, le-leb, eq-eqb, ne-eqb, ltb-true, leb-true, eqb-true, eqb-false, not-true, not-false}
 use borrow.Rule.Slice.PartMut.{putMid}
-use Rattle.pauli_group.specs.Phase.{_·_, negate, turn}
-use Rattle.pauli_group.specs.Letter.{Letter, letterMul, letterPhase, letterProduct}
-use Rattle.pauli_group.proofs.Finite.{letters, phases}
-use Rattle.pauli_group.proofs.PaperForms.{both}
+use Rattle.pauli_group.specs.Phase.{Phase, PlusOne, MinusOne, PlusI, MinusI, _·_, negate, turn}
+use Rattle.pauli_group.specs.Letter.{Letter, notI, letterMul, letterPhase, letterProduct}
+use Rattle.pauli_group.proofs.Finite.{letters}
 use Rattle.clifford_group.specs.Tableau.{allTo}
 use Rattle.clifford_group.proofs.Valid.{and-both, all-each}
 use Rattle.clifford_gates.specs.Gates.{PairImage, oneQubitGates, twoQubitGates}
@@ -23,61 +24,89 @@ use Rattle.clifford_gates.specs.Updates.{timesI, letterImage, pairTimes, pairTi
 use Rattle.pauli.specs.Places.{listed}
 use Rattle.pauli.specs.Layout.{phaseByte, phaseOf, letterByte, letterOf}
 use Rattle.pauli.proofs.Places.{from, getD-listed}
-use Rattle.clifford.specs.Layout.{rowLength, rowOffset, recordLength, joined, widthOf, rowPart, letterIn, withPair, eachRow}
+use Rattle.pauli.proofs.Records.{phase-back}
+use Rattle.clifford.specs.Layout.{rowLength, rowOffset, recordLength, joined, widthOf, weightPlace, rowPart, letterIn, rowWith, pairWeight, weightChange, withPair, eachRow}
 use Rattle.clifford.specs.Inside.Rows.{Sized, RowIndex, OnRow}
-use Rattle.clifford.specs.Playing.{twice, movedBy, secondQubit, gateOnRow, secondFits, playable, played, GatePlayed, tableEntry, tableOf, gateTables, PlayedBy, imageIn, readTable, tableOnRow, playedBy}
+use Rattle.clifford.specs.Playing.{twice, movedBy, secondQubit, gateOnRow, secondFits, playable, played, GatePlayed, column, tableOf, gateTables, PlayedBy, entry, tableOnRow, playedBy}
 use Rattle.clifford.specs.Inside.Playing.{OnRows}
 use Rattle.clifford.proofs.Joining.{joined-ext}
-use Rattle.clifford.proofs.Rows.{place-is, letter-in-row, letter-front, length-pair, pair-front, length-part}
+use Rattle.clifford.proofs.Rows.{place-is, row-some, letter-in-row, letter-front, length-with, with-front, length-part}
 use Rattle.clifford.proofs.RowBytes.{BytesTo, bytes-none, bytes-index, bytes-room, bytes-start, bytes-rest, bytes-more, bytes-end}
 
 -- ---- the table says what the gate makes of two letters
-abbrev same-pair : PairImage → PairImage → Bool
-same-pair i j = phases .same (i .phase) (j .phase) && (letters .same (i .first) (j .first) && letters .same (i .second) (j .second))
+-- a sign is put into a phase byte by the lowest bit
+sign-bit : (p : Phase) (k : ℕ) → k < 2 → bitXor (phaseByte p) k ≡ phaseByte (p · phaseOf k)
+unfolding phaseByte phaseOf _·_ negate turn
+sign-bit PlusOne zero h = refl
+sign-bit MinusOne zero h = refl
+sign-bit PlusI zero h = refl
+sign-bit MinusI zero h = refl
+sign-bit PlusOne (suc zero) h = refl
+sign-bit MinusOne (suc zero) h = refl
+sign-bit PlusI (suc zero) h = refl
+sign-bit MinusI (suc zero) h = refl
+sign-bit p (suc (suc k)) h = absurd (omega arith)
 
-same-pair-is : (i j : PairImage) → T (same-pair i j) → i ≡ j
-same-pair-is i j t =
-    let parts = both (phases .same (i .phase) (j .phase)) (letters .same (i .first) (j .first) && letters .same (i .second) (j .second)) t in
-    let rest = both (letters .same (i .first) (j .first)) (letters .same (i .second) (j .second)) (parts .1) in
-    let phase : i .phase ≡ j .phase = phases .equal _ _ (parts .0) in
-    let first : i .first ≡ j .first = letters .equal _ _ (rest .0) in
-    let second : i .second ≡ j .second = letters .equal _ _ (rest .1) in
-    λ n. record { phase = phase n; first = first n; second = second n }
+-- by one computed test over the gates and the pairs of letters: the entries, and that the phase is a sign
+abbrev entries : ℕ → Letter → Letter → List ℕ
+entries g a b =
+    let i : PairImage = movedBy g a b in
+    phaseByte (i .phase) ∷ weightChange a b i ∷ letterByte (i .first) ∷ letterByte (i .second) ∷ []
 
 abbrev reads : ℕ → Letter → Letter → Bool
-reads g a b = same-pair (readTable (tableOf g) a b) (movedBy g a b)
+reads g a b = ltb (phaseByte (movedBy g a b .phase)) 2 && allTo 4 (λ j. eqb (entry (tableOf g) j a b) (getD (entries g a b) j 0))
 
-pub table-reads : (g : ℕ) → g < 38 → (a b : Letter) → readTable (tableOf g) a b ≡ movedBy g a b
-unfolding allTo readTable tableOf listed imageIn tableEntry movedBy twice letterImage timesI pairImage pairTimes pairTimesI ownImage oneQubitGate oneQubitGates twoQubitGate twoQubitGates phaseByte phaseOf letterByte letterOf letterMul letterPhase letterProduct _·_ negate turn
-table-reads g h a b =
-    same-pair-is _ _
+table-test : (g : ℕ) → g < 38 → (a b : Letter) → reads g a b ≡ true
+unfolding allTo entry tableOf column weightChange pairWeight notI listed movedBy twice letterImage timesI pairImage pairTimes pairTimesI ownImage oneQubitGate oneQubitGates twoQubitGate twoQubitGates phaseByte letterByte letterOf letterMul letterPhase letterProduct _·_ negate turn
+table-test g h a b =
+    holds (reads g a b)
     (letters .each (reads g a)
     (letters .each (λ a. letters .all (reads g a)) (subst T (sym (all-each 38 (λ g. letters .all (λ a. letters .all (reads g a))) refl g h)) tt) a) b)
+  where
+    holds : (c : Bool) → T c → c ≡ true
+    holds true t = refl
+    holds false t = absurd t
+
+module _ (g : ℕ) (h : g < 38) (a b : Letter) where
+  tests : (ltb (phaseByte (movedBy g a b .phase)) 2 ≡ true) × (allTo 4 (λ j. eqb (entry (tableOf g) j a b) (getD (entries g a b) j 0)) ≡ true)
+  tests = and-both (ltb (phaseByte (movedBy g a b .phase)) 2) _ (table-test g h a b)
+
+  entry-is : (j : ℕ) → j < 4 → entry (tableOf g) j a b ≡ getD (entries g a b) j 0
+  entry-is j l = eqb-true _ _ (all-each 4 (λ j. eqb (entry (tableOf g) j a b) (getD (entries g a b) j 0)) (tests .1) j l)
+
+  sign-is : (p : Phase) → bitXor (phaseByte p) (phaseByte (movedBy g a b .phase)) ≡ phaseByte (p · movedBy g a b .phase)
+  sign-is p = sign-bit p _ (ltb-true _ 2 (tests .0)) ∙ ap (λ x. phaseByte (p · x)) (phase-back (movedBy g a b .phase))
 
 -- ---- one row, at the front of b
-row-front : (e : List ℕ) (q s w : ℕ) (b : List ℕ) → q < w → s < w → rowLength w ≤ length b
+row-front : (e : List (List ℕ)) (q s w : ℕ) (b : List ℕ) → q < w → s < w → rowLength w ≤ length b
     → tableOnRow e q s b ≡ tableOnRow e q s (take (rowLength w) b) ++ drop (rowLength w) b
 unfolding tableOnRow
 row-front e q s w b hq hs h =
-    ap₂ (λ (x y : Letter). withPair q s (readTable e x y) b) (letter-front w q b hq) (letter-front w s b hs) ∙ pair-front q s _ w b hq hs h
+    let a : List ℕ = take (rowLength w) b in
+    let row : ℕ → ℕ → Letter → Letter → List ℕ → List ℕ = λ p v x y l.
+    rowWith q s (bitXor (phaseByte (phaseOf p)) (entry e 0 x y)) ((v + entry e 1 x y) % 256) (entry e 2 x y) (entry e 3 x y) l in
+    let first : (k : ℕ) → k < 2 → getD b k 0 ≡ getD a k 0 = λ k l. sym (getD-take (rowLength w) b k 0 (omega (arith, row-some w))) in
+    ap₂ (λ (x y : Letter). row (getD b 0 0) (getD b weightPlace 0) x y b) (letter-front w q b hq) (letter-front w s b hs)
+    ∙ ap₂ (λ (p v : ℕ). row p v (letterIn a q) (letterIn a s) b) (first 0 (omega arith)) (first weightPlace (omega arith))
+    ∙ with-front q s _ _ _ _ w b hq hs h
 
-length-on-row : (e : List ℕ) (q s : ℕ) (b : List ℕ) → length (tableOnRow e q s b) ≡ length b
+length-on-row : (e : List (List ℕ)) (q s : ℕ) (b : List ℕ) → length (tableOnRow e q s b) ≡ length b
 unfolding tableOnRow
-length-on-row e q s b = length-pair q s (readTable e (letterIn b q) (letterIn b s)) b
+length-on-row e q s b = length-with q s _ _ _ _ b
 
 -- ---- all rows
 -- the rows before i are changed
-pub record PlayedTo (e : List ℕ) (q s w : ℕ) (t₀ : List ℕ) (i : ℕ) (t : List ℕ) : Type 0 where
+pub record PlayedTo (e : List (List ℕ)) (q s w : ℕ) (t₀ : List ℕ) (i : ℕ) (t : List ℕ) : Type 0 where
   pub on : OnRows q s w t₀
   pub rows : BytesTo w (λ k. tableOnRow e q s (rowPart t₀ k)) t₀ i t
 
-pub played-none : (e : List ℕ) {q s w : ℕ} {t : List ℕ} → OnRows q s w t → PlayedTo e q s w t 0 t
+pub played-none : (e : List (List ℕ)) {q s w : ℕ} {t : List ℕ} → OnRows q s w t → PlayedTo e q s w t 0 t
 played-none e {q} {s} {w} {t} o = record {
   on = o;
   rows = bytes-none w _ t (o .narrow) (omega (arith, o .long)) (sym (o .wide)) (λ i h. length-on-row e q s (rowPart t i) ∙ length-part t w i (o .wide) (o .long) h);
 }
 
-module _ {e : List ℕ} {q s w : ℕ} {t₀ : List ℕ} {i : ℕ} {t : List ℕ} (m : PlayedTo e q s w t₀ i t) where
+module _ {e : List (List ℕ)} {q s w : ℕ} {t₀ : List ℕ} {i : ℕ} {t : List ℕ} (m : PlayedTo e q s w t₀ i t) where
   pub played-length : length t ≡ length t₀
   played-length = m .rows .long
 
@@ -233,8 +262,15 @@ pub ruleset playables = (no-gate, no-first, no-second, no-width, playable-long, 
 
 -- ---- the gate on the record
 table-on-row : (g q s : ℕ) (b : List ℕ) → g < 38 → tableOnRow (tableOf g) q s b ≡ gateOnRow g q s b
-unfolding tableOnRow gateOnRow
-table-on-row g q s b h = ap (λ i. withPair q s i b) (table-reads g h (letterIn b q) (letterIn b s))
+unfolding tableOnRow gateOnRow withPair
+table-on-row g q s b h =
+    let x : Letter = letterIn b q in
+    let y : Letter = letterIn b s in
+    let p : ℕ = phaseByte (phaseOf (getD b 0 0)) in
+    let v : ℕ = getD b weightPlace 0 in
+    ap₂ (λ (i j : ℕ). rowWith q s (bitXor p i) ((v + j) % 256) (entry (tableOf g) 2 x y) (entry (tableOf g) 3 x y) b) (entry-is g h x y 0 (omega arith)) (entry-is g h x y 1 (omega arith))
+    ∙ ap₂ (λ (i j : ℕ). rowWith q s (bitXor p (phaseByte (movedBy g x y .phase))) ((v + weightChange x y (movedBy g x y)) % 256) i j b) (entry-is g h x y 2 (omega arith)) (entry-is g h x y 3 (omega arith))
+    ∙ ap (λ (i : ℕ). rowWith q s i ((v + weightChange x y (movedBy g x y)) % 256) (letterByte (movedBy g x y .first)) (letterByte (movedBy g x y .second)) b) (sign-is g h x y (phaseOf (getD b 0 0)))
 
 table-on-rows : (g q s : ℕ) (t : List ℕ) → g < 38 → eachRow (tableOnRow (tableOf g) q s) t ≡ eachRow (gateOnRow g q s) t
 unfolding eachRow
@@ -250,16 +286,16 @@ module _ (g q r : ℕ) (t : List ℕ) {b : Bool} (e : b ≡ playable g q r t) wh
   pub play-on : b ≡ true → {s n : ℕ} → s ≡ secondQubit g q r → n ≡ widthOf t → OnRows q s n t
   play-on h {s} {n} es en = subst (λ (v : ℕ). OnRows q s v t) (sym en) (subst (λ (v : ℕ). OnRows q v (widthOf t) t) (sym es) (fits h .on))
 
-  pub play-made : b ≡ true → {ts : List (List ℕ)} {s : ℕ} {p d : List ℕ} → s ≡ secondQubit g q r → p ≡ getD ts g []
+  pub play-made : b ≡ true → {ts : List (List (List ℕ))} {s : ℕ} {p : List (List ℕ)} {d : List ℕ} → s ≡ secondQubit g q r → p ≡ getD ts g []
       → d ≡ eachRow (tableOnRow p q s) t → PlayedBy ts g q r t d b
   unfolding playedBy
   play-made h {ts = ts} es ep ed = record {
     flag = e;
-    bytes = ed ∙ ap₂ (λ (l : List ℕ) (j : ℕ). eachRow (tableOnRow l q j) t) ep es
+    bytes = ed ∙ ap₂ (λ (l : List (List ℕ)) (j : ℕ). eachRow (tableOnRow l q j) t) ep es
         ∙ ap (λ c. cond c (eachRow (tableOnRow (getD ts g []) q (secondQubit g q r)) t) t) (sym (sym e ∙ h));
   }
 
-  pub play-not : b ≡ false → {ts : List (List ℕ)} → PlayedBy ts g q r t t b
+  pub play-not : b ≡ false → {ts : List (List (List ℕ))} → PlayedBy ts g q r t t b
   unfolding playedBy
   play-not h {ts} = record { flag = e; bytes = ap (λ c. cond c (eachRow (tableOnRow (getD ts g []) q (secondQubit g q r)) t) t) (sym (sym e ∙ h)) }
 
@@ -274,15 +310,15 @@ played-by g q r t = by (playable g q r t) refl
         → cond b (eachRow (tableOnRow (getD (listed 38 tableOf) g []) q (secondQubit g q r)) t) t ≡ cond b (eachRow (gateOnRow g q (secondQubit g q r)) t) t
     by true e =
         let h = playable-is g q r t e .gate in
-        ap (λ (l : List ℕ). eachRow (tableOnRow l q (secondQubit g q r)) t) (getD-listed 38 tableOf g [] h)
+        ap (λ (l : List (List ℕ)). eachRow (tableOnRow l q (secondQubit g q r)) t) (getD-listed 38 tableOf g [] h)
         ∙ table-on-rows g q (secondQubit g q r) t h
     by false e = refl
 
-pub gate-played : {ts : List (List ℕ)} {g q r : ℕ} {t e : List ℕ} {b : Bool} → ts ≡ gateTables → PlayedBy ts g q r t e b
+pub gate-played : {ts : List (List (List ℕ))} {g q r : ℕ} {t e : List ℕ} {b : Bool} → ts ≡ gateTables → PlayedBy ts g q r t e b
     → GatePlayed g q r t e b
 gate-played {ts} {g} {q} {r} {t} h p = record {
   flag = p .flag;
-  bytes = p .bytes ∙ ap (λ (l : List (List ℕ)). playedBy l g q r t) h ∙ played-by g q r t;
+  bytes = p .bytes ∙ ap (λ (l : List (List (List ℕ))). playedBy l g q r t) h ∙ played-by g q r t;
 }
 
 pub ruleset gate-plays = (gate-played, needs)

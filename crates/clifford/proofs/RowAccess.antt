@@ -21,7 +21,7 @@ use Rattle.pauli.proofs.Records.{letter-there}
 use Rattle.pauli.proofs.Places.{from, from-is}
 use Rattle.pauli.proofs.StringProducts.{row-product, row-product-is}
 use Rattle.clifford.specs.Layout.{weightPlace, letterPlace, rowLength, lettersOf, encodeRow, decodeRow, rowOffset, recordLength, longestRecord, rowOf, widthOf, rowPart, tableauOf, rowQubit, rowLetter, readRow, letterIn, rowWith}
-use Rattle.clifford.specs.Inside.Rows.{Sized, RowIndex, RowInside, OwnRow, WorkOnRow, Finished, rowTimes, rowWritten, lettersIn, stringIn, rowLetters, OwnLetter}
+use Rattle.clifford.specs.Inside.Rows.{Sized, RowIndex, RowInside, OwnRow, OnRow, PairPlace, WorkOnRow, Finished, rowTimes, rowWritten, lettersIn, stringIn, rowLetters, OwnLetter}
 use Rattle.clifford.proofs.Records.{record-small}
 use lib.Dec.{leb}
 use Rattle.pauli.specs.declared.refusal.Refusal.the-variants.{BadByte, FalseWeight}
@@ -322,21 +322,29 @@ pub ruleset row-access = (
 )
 
 -- ---- a row changed by a gate's table
-pub row-changed : (e : List (List ℕ)) (q s : ℕ) (b : List ℕ) {x y z v : ℕ} → x ≡ min (getD b (q + 2) 0) 3 → y ≡ min (getD b (s + 2) 0) 3 → z ≡ min (getD b 0 0) 3
-    → v ≡ (getD b 1 0 + getD (getD e 1 []) (4 * x + y) 0) % 256
-    → set (set (set (set b 0 (bitXor z (getD (getD e 0 []) (4 * x + y) 0))) 1 v) (q + 2) (getD (getD e 2 []) (4 * x + y) 0)) (s + 2) (getD (getD e 3 []) (4 * x + y) 0)
-    ≡ tableOnRow e q s b
-unfolding tableOnRow rowWith entry letterIn
-row-changed e q s b {x} {y} {z} {v} ex ey ez ev =
-    let at : ℕ → ℕ → ℕ = λ j k. getD (getD e j []) k 0 in
-    let k : ℕ = 4 * letterByte (letterOf (getD b (letterPlace q) 0)) + letterByte (letterOf (getD b (letterPlace s) 0)) in
-    let same : 4 * x + y ≡ k =
-    ap₂ (λ (i j : ℕ). 4 * i + j)
-    (ex ∙ ap (λ (k : ℕ). min (getD b k 0) 3) (sym (place-is q)) ∙ capped-letter (getD b (letterPlace q) 0))
-    (ey ∙ ap (λ (k : ℕ). min (getD b k 0) 3) (sym (place-is s)) ∙ capped-letter (getD b (letterPlace s) 0)) in
-    ap₂ (λ (i j : ℕ). set (set (set (set b 0 (bitXor z (at 0 (4 * x + y)))) 1 v) i (at 2 (4 * x + y))) j (at 3 (4 * x + y))) (sym (place-is q)) (sym (place-is s))
-    ∙ ap₂ (λ (p u : ℕ). set (set (set (set b 0 (bitXor p (at 0 (4 * x + y)))) 1 u) (letterPlace q) (at 2 (4 * x + y))) (letterPlace s) (at 3 (4 * x + y)))
-    (ez ∙ capped-phase (getD b 0 0)) ev
-    ∙ ap (λ (j : ℕ). set (set (set (set b 0 (bitXor (phaseByte (phaseOf (getD b 0 0))) (at 0 j))) 1 ((getD b 1 0 + at 1 j) % 256)) (letterPlace q) (at 2 j)) (letterPlace s) (at 3 j)) same
+pub row-second : {q s : ℕ} {b : List ℕ} (p : ℕ) → OnRow q s b → 1 < length (set b 0 p)
+row-second {b = b} p o = omega (arith, o .first, length-set b 0 p)
 
-pub ruleset row-changes = (row-changed, needs)
+pub pair-here : (q s : ℕ) (b : List ℕ) {x y k : ℕ} → x ≡ min (getD b (q + 2) 0) 3 → y ≡ min (getD b (s + 2) 0) 3 → k ≡ 4 * x + y → PairPlace b q s k
+unfolding letterIn
+pair-here q s b {x} {y} ex ey ek = record { is = ek ∙ ap₂ (λ (i j : ℕ). 4 * i + j) (letter q ex) (letter s ey); small = omega arith }
+  where
+    letter : (j : ℕ) {l : ℕ} → l ≡ min (getD b (j + 2) 0) 3 → l ≡ letterByte (letterOf (getD b (letterPlace j) 0))
+    letter j h = h ∙ ap (λ (i : ℕ). min (getD b i 0) 3) (sym (place-is j)) ∙ capped-letter (getD b (letterPlace j) 0)
+
+pub pair-inside : {b : List ℕ} {q s k : ℕ} → PairPlace b q s k → k < 16
+pair-inside o = o .small
+
+module _ (e : List (List ℕ)) (b : List ℕ) (q s : ℕ) where
+  abbrev by-entry : ℕ → ℕ → ℕ → ℕ → ℕ → List ℕ
+  by-entry i j p v k = set (set (set (set b 0 (bitXor p (getD (getD e 0 []) k 0))) 1 v) i (getD (getD e 2 []) k 0)) j (getD (getD e 3 []) k 0)
+
+  pub row-changed : {k z v : ℕ} → PairPlace b q s k → z ≡ min (getD b 0 0) 3 → v ≡ (getD b 1 0 + getD (getD e 1 []) k 0) % 256
+      → by-entry (q + 2) (s + 2) z v k ≡ tableOnRow e q s b
+  unfolding tableOnRow rowWith entry
+  row-changed {k} {z} {v} o ez ev =
+      ap₂ (λ (i j : ℕ). by-entry i j z v k) (sym (place-is q)) (sym (place-is s))
+      ∙ ap₂ (λ (p u : ℕ). by-entry (letterPlace q) (letterPlace s) p u k) (ez ∙ capped-phase (getD b 0 0)) ev
+      ∙ ap (λ (j : ℕ). by-entry (letterPlace q) (letterPlace s) (phaseByte (phaseOf (getD b 0 0))) ((getD b 1 0 + getD (getD e 1 []) j 0) % 256) j) (o .is)
+
+pub ruleset row-changes = (row-second, pair-here, pair-inside, row-changed, needs)

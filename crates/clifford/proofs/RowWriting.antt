@@ -129,11 +129,11 @@ put-row w {k} out s ek h e =
     let same : lettersIn k ≡ w = omega arith in
     e ∙ ap₂ (λ (j : ℕ) (u : PauliString). rowWritten j u out) same (encoded-row w s long ek h)
 
-pub put-room : (w : ℕ) {k out : List ℕ} (s : PauliString) → k ≡ encodeString w s → rowLength w ≤ length out → Finished k out
-put-room w {k} {out} s ek h =
+pub put-room : (w : ℕ) {k out : List ℕ} (s : PauliString) → k ≡ encodeString w s → w ≤ 128 → rowLength w ≤ length out → Finished k out
+put-room w {k} {out} s ek n h =
     let long : length k ≡ suc w = ap length ek ∙ length-encode w s in
     let same : w ≡ lettersIn k = omega arith in
-    record { row = encoded-formed w s ek; room = subst (λ (j : ℕ). rowLength j ≤ length out) same h }
+    record { row = encoded-formed w s ek; narrow = omega arith; room = subst (λ (j : ℕ). rowLength j ≤ length out) same h }
 
 -- ---- the apply routine for rows
 module _ {t s k out : List ℕ} (o : AppliesRow t s k out) where
@@ -150,7 +150,7 @@ module _ {t s k out : List ℕ} (o : AppliesRow t s k out) where
   image-applies = o .applies
 
   pub image-room : {k′ : List ℕ} → k′ ≡ encodeString (lettersIn k) S → Finished k′ out
-  image-room e = put-room (lettersIn k) S e (o .room)
+  image-room e = put-room (lettersIn k) S e (omega (arith, o .applies .narrow)) (o .room)
 
   pub image-written : {k′ e′ : List ℕ} → k′ ≡ encodeString (lettersIn k) S → e′ ≡ rowWritten (lettersIn k′) (stringIn k′) out
       → e′ ≡ rowWritten (lettersIn k) S out

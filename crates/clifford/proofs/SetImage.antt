@@ -182,6 +182,7 @@ module _ {t : List ℕ} {r : ℕ} {s : List ℕ} (o : SetsRow t r s) where
           long = omega arith;
           small = λ i l. omega (arith, getD-take (n + 1 - 0) s i 0 (omega arith), o .sets .string .small i (omega (arith, o .sets .string .long, formed .narrow)));
         };
+        narrow = omega (arith, formed .narrow);
         room = subst (λ (j : ℕ). rowLength j ≤ length (from at t)) (sym same)
             (omega (arith, length-from at t, k .is ∙ ap (λ (j : ℕ). rowOffset j r) e, formed .long, row-room w r (o .own)));
       }

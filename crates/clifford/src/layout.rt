@@ -6,7 +6,7 @@ ghost use Rattle.pauli.specs.Layout.{phaseByte, letterByte};
 ghost use Rattle.clifford.specs.Playing.{tableOnRow};
 ghost use Rattle.clifford.specs.Layout.{widthOf, recordLength, rowOffset, rowOf, rowPart, readRow, tableauOf, rowQubit, rowLetter};
 ghost use Rattle.clifford.specs.Questions.{rowQuestion, weightQuestion};
-ghost use Rattle.clifford.specs.Inside.Rows.{Sized, RowIndex, RowInside, OwnRow, OwnLetter, WorkOnRow, Finished, rowTimes, rowWritten, rowLetters, lettersIn, stringIn, OnRow};
+ghost use Rattle.clifford.specs.Inside.Rows.{Sized, RowIndex, RowInside, OwnRow, OwnLetter, WorkOnRow, Finished, rowTimes, rowWritten, rowLetters, lettersIn, stringIn, OnRow, PairPlace};
 use pauli::QUBITS;
 use pauli::refusal::Outcome;
 use pauli::refusal::Refusal;
@@ -191,12 +191,20 @@ pub fn letter_at(t: &[u8], r: usize, q: usize) -> u8
     read_at(t, row_offset(n, r) + 2 + q)
 }
 
+// Where a table has its entry for the letters on qubits q and s of the row at the front of b.
+fn pair_place(b: &[u8], q: usize, s: usize) -> usize
+    requires { ⌜ OnRow q s (now b) ⌝ }
+    ensures { λ k. ⌜ PairPlace (now (b .entry)) q s k ⌝ }
+{
+    wide(4 * read(b[q + 2]) + read(b[s + 2]))
+}
+
 // The row at the front of b, changed on qubits q and s as the table says.
 pub(crate) fn change_row(b: &mut [u8], q: usize, s: usize, table: &[[u8; 16]; 4])
     requires { ⌜ OnRow q s (now b) ⌝ }
     ensures { λ _. ⌜ now (b .exit) ≡ tableOnRow (now (table .entry)) q s (now (b .entry)) ⌝ }
 {
-    let k = wide(4 * read(b[q + 2]) + read(b[s + 2]));
+    let k = pair_place(b, q, s);
     let phase = read(b[0]) ^ table[0][k];
     let weight = std::num::wrapping_add_u8(b[1], table[1][k]);
     b[0] = phase;

@@ -9,8 +9,8 @@ use Rattle.pauli_group.specs.Phase.{sign}
 use Rattle.pauli_group.specs.Letter.{anticommute}
 use Rattle.pauli_group.specs.PauliString.{PauliString, mul, scale, identityString}
 use Rattle.clifford_group.specs.Tableau.{Tableau, apply}
-use Rattle.pauli.specs.Layout.{phaseByte, phaseOf, letterOf, encodeString, decodeString, WellFormed}
-use Rattle.clifford.specs.Layout.{rowLength, encodeRow, lettersOf, rowPart, recordLength, longestRecord, widthOf, tableauOf, FormedTableau}
+use Rattle.pauli.specs.Layout.{phaseByte, phaseOf, letterByte, letterOf, encodeString, decodeString, WellFormed}
+use Rattle.clifford.specs.Layout.{rowLength, encodeRow, letterIn, lettersOf, rowPart, recordLength, longestRecord, widthOf, tableauOf, FormedTableau}
 
 -- r is the size or offset n in a record
 pub record Sized (n r : ℕ) : Type 0 where
@@ -132,6 +132,11 @@ pub record OwnLetter (b : List ℕ) (r q : ℕ) : Type 0 where
 pub record OnRow (q r : ℕ) (b : List ℕ) : Type 0 where
   pub first : q + 2 < length b
   pub second : r + 2 < length b
+
+-- k is where a table has its entry for the letters there
+pub record PairPlace (b : List ℕ) (q r k : ℕ) : Type 0 where
+  pub is : k ≡ 4 * letterByte (letterIn b q) + letterByte (letterIn b r)
+  pub small : k < 16
 
 -- a row of any content, to be cleared
 pub record ClearRow (d : List ℕ) (p : ℕ) : Type 0 where

@@ -15,4 +15,6 @@ check-weight-spec =
     (λ c. search row-questions)
     (λ c. search row-questions)
     (λ c. search row-questions)
+    (λ c. search row-questions)
+    (λ c. search row-questions)
     (λ c. search row-questions))

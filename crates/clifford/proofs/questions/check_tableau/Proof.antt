@@ -10,4 +10,5 @@ check-tableau-spec =
     (λ c. search tableau-questions) (λ c. search tableau-questions) (λ c. search tableau-questions)
     (λ c. search tableau-questions) (λ c. search tableau-questions) (λ c. search tableau-questions)
     (λ c. search tableau-questions) (λ c. search tableau-questions) (λ c. search tableau-questions)
-    (λ c. search tableau-questions))
+    (λ c. search tableau-questions) (λ c. search tableau-questions) (λ c. search tableau-questions)
+    (λ c. search tableau-questions) (λ c. search tableau-questions))
