@@ -9,8 +9,9 @@ use native.Mathlib.Decide.{ℕ-discrete, decLt}
 use lib.Dec.{eqb}
 use borrow.Author.Tests.{eq-eqb, ne-eqb}
 use Rattle.pauli_group.specs.Phase.{PlusOne, PlusI, _·_}
-use Rattle.pauli_group.specs.Letter.{Letter, I, X, Z, Y, letterPhase, letterMul}
+use Rattle.pauli_group.specs.Letter.{Letter, I, X, Z, Y, notI, letterProduct, letterPhase, letterMul, anticommute}
 use Rattle.pauli_group.specs.PauliString.{PauliString, qubits, mul, scale, single, phaseOfLetters, Within}
+use Rattle.pauli_group.proofs.Finite.{letters, bools, law3}
 use Rattle.pauli_group.proofs.Laws.{·-one, letterMul-I, I-letterMul, letterPhase-I, I-letterPhase}
 use Rattle.pauli_group.proofs.Products.{productTo-one}
 use Rattle.pauli_group.proofs.Strings.{string-ext, scale-one, scale-scale}
@@ -23,7 +24,7 @@ use Rattle.clifford_group.proofs.Images.{image-own, image-above, image-row, ima
 use Rattle.clifford_group.proofs.Apply.{apply-local, apply-single}
 use Rattle.clifford_group.proofs.Conjugation.{apply-mul}
 use Rattle.clifford_group.proofs.Identity.{apply-identityTableau}
-use Rattle.clifford_gates.specs.Gates.{Image, plus, OneQubit, ValidImages}
+use Rattle.clifford_gates.specs.Gates.{Image, plus, OneQubit, oneQubit, ValidImages}
 use Rattle.clifford_gates.specs.GateTableaux.{imageString, gateOnEach, unchanged, onQubit}
 use Rattle.clifford_gates.specs.Updates.{timesI, letterImage, withLetter, imageAt}
 use Rattle.clifford_gates.proofs.GateTableaux.{image-phase, image, clifford-on-qubit}
@@ -36,6 +37,26 @@ with-at q l f k e = ap (λ b. cond b l (f k)) (eq-eqb k q e)
 pub with-off : (q : ℕ) (l : Letter) (f : ℕ → Letter) (k : ℕ) → k ≢ q → withLetter q l f k ≡ f k
 unfolding withLetter
 with-off q l f k d = ap (λ b. cond b l (f k)) (ne-eqb k q d)
+
+-- ---- a letter other than I becomes one, and I stays
+pub image-notI : (g : OneQubit) → ValidImages g → (a : Letter) → notI (letterImage g a .letter) ≡ notI a
+unfolding letterImage timesI
+image-notI g v a = by a
+  where
+    by-letters : (x z a : Letter) → cond (anticommute x z) (notI (letterImage (oneQubit (plus x) (plus z)) a .letter)) (notI a) ≡ notI a
+    by-letters = unfold anticommute notI letterMul letterPhase letterProduct in
+        law3 letters letters letters bools (λ x z a. cond (anticommute x z) (notI (letterImage (oneQubit (plus x) (plus z)) a .letter)) (notI a)) (λ x z a. notI a) tt
+
+    own : (a : Letter) → notI (letterImage (oneQubit (plus (g .x .letter)) (plus (g .z .letter))) a .letter) ≡ notI a
+    own a =
+        sym (ap (λ b. cond b (notI (letterImage (oneQubit (plus (g .x .letter)) (plus (g .z .letter))) a .letter)) (notI a)) (v .anticommuting))
+        ∙ by-letters (g .x .letter) (g .z .letter) a
+
+    by : (a : Letter) → notI (letterImage g a .letter) ≡ notI a
+    by I = own I
+    by X = own X
+    by Z = own Z
+    by Y = own Y
 
 -- ---- strings
 -- on each qubit one of the two has I, or they have the same letter: only the phases multiply

@@ -8,7 +8,7 @@ use native.Mathlib.Omega.{arith}
 use native.Mathlib.Decide.{ℕ-discrete, decLt}
 use lib.ListN.{length}
 use borrow.Author.Tests.{lt-ltb, le-ltb}
-use Rattle.pauli_group.specs.Letter.{Letter}
+use Rattle.pauli_group.specs.Letter.{Letter, notI}
 use Rattle.pauli_group.specs.PauliString.{PauliString, qubits, Within}
 use Rattle.pauli_group.proofs.Strings.{string-ext}
 use Rattle.clifford_group.specs.Tableau.{Tableau, rowImage, imageOf, apply, compose, Clifford, Same}
@@ -20,7 +20,7 @@ use Rattle.clifford_gates.specs.Gates.{Image}
 use Rattle.clifford_gates.specs.GateNumbers.{oneQubitGate, twoQubitGate, gateTableau}
 use Rattle.clifford_gates.specs.Updates.{letterImage, pairImage, imageAt, pairAt}
 use Rattle.clifford_gates.proofs.GateTableaux.{clifford-on-qubit}
-use Rattle.clifford_gates.proofs.OneQubitUpdates.{with-at, with-off, apply-on-qubit}
+use Rattle.clifford_gates.proofs.OneQubitUpdates.{image-notI, with-at, with-off, apply-on-qubit}
 use Rattle.clifford_gates.proofs.TwoQubitUpdates.{apply-on-qubits}
 use Rattle.clifford_gates.proofs.GateNames.{gate-valid, pair-gate-valid, gate-one, gate-two, gate-clifford}
 use Rattle.clifford.specs.Layout.{rowLength, encodeRow, decodeRow, rowOf, joined, tableauRecord, widthOf, rowPart, tableauOf, withPair, eachRow, recordLength, FormedTableau, rowQubit, rowLetter}
@@ -29,7 +29,7 @@ use Rattle.clifford.specs.GateQuestions.{gateWidth}
 use Rattle.clifford.specs.GateAnswers.{gateRecord}
 use Rattle.clifford.specs.Playing.{twice, movedBy, secondQubit, gateOnRow, playable, played, GatePlayed}
 use Rattle.clifford.proofs.Joining.{joined-ext, length-below}
-use Rattle.clifford.proofs.Rows.{length-pair, pair-bytes, row-letter-at, row-within, row-part, length-part, width-of}
+use Rattle.clifford.proofs.Rows.{length-with, pair-bytes, row-letter-at, row-within, row-part, length-part, width-of}
 use Rattle.clifford.proofs.Records.{record-back, proper-of, record-formed, same-record}
 use Rattle.clifford.proofs.RowWriting.{row-made, qubit-below}
 use Rattle.clifford.proofs.RecordLaws.{compose-formed}
@@ -81,6 +81,14 @@ module _ (g q r : ℕ) (hg : g < 38) (hq : q < qubits) (hr : 24 ≤ g → r < qu
   moved-same : (a b : Letter) → q ≡ secondQubit g q r → movedBy g a b .first ≡ movedBy g a b .second
   moved-same a b e = elim (decLt g 24) [
     | yes l ↦ ap (λ i. i .first) (moved-one g a b l) ∙ both-same (letterImage (oneQubitGate g) a) ∙ sym (ap (λ i. i .second) (moved-one g a b l))
+    | no l ↦ let m : 24 ≤ g = omega arith in absurd (d m (e ∙ sym (second-two q r m)))
+  ]
+
+  -- and a letter other than I stays one
+  moved-kept : (a b : Letter) → q ≡ secondQubit g q r → notI (movedBy g a b .first) ≡ notI a
+  unfolding twice
+  moved-kept a b e = elim (decLt g 24) [
+    | yes l ↦ ap (λ i. notI (i .first)) (moved-one g a b l) ∙ image-notI (oneQubitGate g) (gate-valid g l) a
     | no l ↦ let m : 24 ≤ g = omega arith in absurd (d m (e ∙ sym (second-two q r m)))
   ]
 
@@ -143,8 +151,9 @@ module _ (g q r : ℕ) (t : List ℕ) (f : FormedTableau t) (hg : g < 38) (hq : 
       let b : List ℕ = rowPart t i in
       let u : PauliString = decodeRow w b in
       ap₂ (λ (x y : Letter). withPair q s (movedBy g x y) b) (sym (row-letter-at w b q hq)) (sym (row-letter-at w b s own-second))
-      ∙ sym (pair-bytes (movedBy g (u .letters q) (u .letters s)) (f .rows i l) hq own-second
-      (moved-same g q r hg first-qubit second-qubit d (u .letters q) (u .letters s)))
+      ∙ sym (pair-bytes (movedBy g (u .letters q) (u .letters s)) (f .rows i l) (omega (arith, f .narrow)) hq own-second
+      (moved-same g q r hg first-qubit second-qubit d (u .letters q) (u .letters s))
+      (moved-kept g q r hg first-qubit second-qubit d (u .letters q) (u .letters s)))
       ∙ ap (encodeRow w)
       (sym (apply-gate g q r hg first-qubit second-qubit d u (λ k h. row-within w b k (omega (arith, narrow))))
       ∙ ap (apply G) (sym (row-part t i l)) ∙ sym (row-composed G f inside i l))
@@ -189,7 +198,7 @@ length-played g q r t = by (playable g q r t) refl
     s = secondQubit g q r
 
     same : (b : List ℕ) → length (gateOnRow g q s b) ≡ length b
-    same b = unfold gateOnRow in length-pair q s _ b
+    same b = unfold gateOnRow withPair in length-with q s _ _ _ _ b
 
     by : (b : Bool) → playable g q r t ≡ b → length (cond b (eachRow (gateOnRow g q s) t) t) ≡ length t
     by true e = length-each (gateOnRow g q s) same t (playable-is g q r t e .on .long)

@@ -10,14 +10,14 @@ use Rattle.pauli.specs.declared.refusal.Refusal.{Refusal}
 use Rattle.pauli.specs.declared.refusal.Refusal.the-variants.{BadByte, Room}
 use Rattle.pauli.specs.declared.refusal.Outcome.the-variants.{Done, Refused}
 use Rattle.pauli_group.specs.Phase.{_·_, negate, turn, isReal}
-use Rattle.pauli_group.specs.Letter.{letterProduct, letterPhase, letterMul, anticommute}
-use Rattle.pauli_group.specs.PauliString.{qubits, productTo, countTo, anticommutingPlaces, commute, phaseOfLetters, mul, identityString, scale, single}
+use Rattle.pauli_group.specs.Letter.{notI, letterProduct, letterPhase, letterMul, anticommute}
+use Rattle.pauli_group.specs.PauliString.{qubits, productTo, countTo, hasLetter, weightTo, anticommutingPlaces, commute, phaseOfLetters, mul, identityString, scale, single}
 use Rattle.clifford_group.specs.Tableau.{identityTableau, rowImage, imageOf, applyTo, apply, widen, compose, allTo, validQubit, validPair, isValid}
 use Rattle.pauli.specs.Places.{listed, firstPlace}
 use Rattle.pauli.specs.Layout.{phaseByte, phaseOf, letterByte, letterOf}
 use Rattle.pauli.specs.Questions.{ask, _andThen_, firstBad, bytesQuestion, roomQuestion}
 use Rattle.clifford.specs.Layout.{letterPlace, letterIn, lettersOf, rowLength, rowOffset, recordLength, rowOf, joined, encodeRow, decodeRow, tableauRecord, rowPart, tableauOf, widthOf}
-use Rattle.clifford.specs.Questions.{widthQuestion, lengthQuestion, rowQuestion, rowsQuestion, tableauQuestions, composeQuestions, composeAnswer}
+use Rattle.clifford.specs.Questions.{widthQuestion, lengthQuestion, rowQuestion, weightQuestion, rowsAsked, codesQuestion, weightsQuestion, tableauQuestions, composeQuestions, composeAnswer}
 use Rattle.clifford.specs.Tableaux.{recordValid, identityRecord, composeRecord}
 use Rattle.clifford.specs.GateAnswers.{gateRecord}
 use Rattle.clifford_gates.specs.Gates.{oneQubitGates, twoQubitGates}
@@ -78,7 +78,7 @@ record Compositions : Type 0 where
   cx-first : composeRecord cxRecord (identityRecord 2) ≡ cxRecord
 
 compositions : Compositions
-unfolding gateRecord gateTableau oneQubitGate oneQubitGates twoQubitGate twoQubitGates onQubit onQubits gateOnEach imageString pairString pairRow composeRecord identityRecord tableauRecord tableauOf letterPlace letterIn rowLength rowPart rowOffset encodeRow decodeRow rowOf joined listed compose widen apply applyTo imageOf rowImage identityTableau identityString single scale mul phaseOfLetters productTo letterPhase letterMul letterProduct _·_ negate turn phaseByte phaseOf letterByte letterOf qubits
+unfolding gateRecord gateTableau oneQubitGate oneQubitGates twoQubitGate twoQubitGates onQubit onQubits gateOnEach imageString pairString pairRow composeRecord identityRecord tableauRecord tableauOf letterPlace letterIn rowLength rowPart rowOffset encodeRow decodeRow rowOf joined listed compose widen apply applyTo imageOf rowImage identityTableau identityString single scale mul phaseOfLetters productTo letterPhase letterMul letterProduct _·_ negate turn phaseByte phaseOf letterByte letterOf qubits weightTo hasLetter notI countTo
 compositions = record {
   h-first = same-is (composeRecord hRecord (identityRecord 1)) hRecord tt;
   fdg-is = same-is (composeRecord szRecord hRecord) fdgRecord tt;
@@ -98,7 +98,7 @@ pub record Replies : Type 0 where
   pub third : callAnswer afterTwo (call szRecord (recordLength 2 + 1)) ≡ Done
 
 pub replies : Replies
-unfolding gateRecord gateTableau oneQubitGate oneQubitGates twoQubitGate twoQubitGates onQubit onQubits gateOnEach imageString pairString pairRow composeRecord tableauOf letterIn decodeRow compose widen apply applyTo imageOf rowImage identityString scale mul phaseOfLetters productTo letterPhase letterMul letterProduct _·_ negate turn phaseOf letterOf callAnswer composeAnswer composeQuestions tableauQuestions widthQuestion lengthQuestion rowsQuestion rowQuestion rowPart rowOffset letterPlace lettersOf bytesQuestion firstBad ask _andThen_ roomQuestion recordLength rowLength firstPlace identityRecord tableauRecord encodeRow rowOf joined listed identityTableau single phaseByte letterByte qubits
+unfolding gateRecord gateTableau oneQubitGate oneQubitGates twoQubitGate twoQubitGates onQubit onQubits gateOnEach imageString pairString pairRow composeRecord tableauOf letterIn decodeRow compose widen apply applyTo imageOf rowImage identityString scale mul phaseOfLetters productTo letterPhase letterMul letterProduct _·_ negate turn phaseOf letterOf callAnswer composeAnswer composeQuestions tableauQuestions widthQuestion lengthQuestion rowsAsked codesQuestion weightsQuestion weightQuestion rowQuestion rowPart rowOffset letterPlace lettersOf bytesQuestion firstBad ask _andThen_ roomQuestion recordLength rowLength firstPlace identityRecord tableauRecord encodeRow rowOf joined listed identityTableau single phaseByte letterByte qubits weightTo hasLetter notI countTo
 replies = record { one = refl; one-bad = refl; one-short = refl; first = refl; short = refl; second = refl; bad = refl; third = refl }
 
 record Valids : Type 0 where
@@ -110,7 +110,7 @@ record Valids : Type 0 where
   cx-width : widthOf cxRecord ≡ 2
 
 valids : Valids
-unfolding gateRecord gateTableau oneQubitGate oneQubitGates twoQubitGate twoQubitGates onQubit onQubits gateOnEach imageString pairString pairRow tableauRecord encodeRow rowOf joined listed phaseByte letterByte identityString single scale mul phaseOfLetters productTo letterPhase letterMul letterProduct _·_ negate turn recordValid isValid allTo validQubit validPair tableauOf rowPart rowOffset letterPlace letterIn rowLength decodeRow phaseOf letterOf isReal commute anticommutingPlaces countTo anticommute qubits
+unfolding gateRecord gateTableau oneQubitGate oneQubitGates twoQubitGate twoQubitGates onQubit onQubits gateOnEach imageString pairString pairRow tableauRecord encodeRow rowOf joined listed phaseByte letterByte identityString single scale mul phaseOfLetters productTo letterPhase letterMul letterProduct _·_ negate turn recordValid isValid allTo validQubit validPair tableauOf rowPart rowOffset letterPlace letterIn rowLength decodeRow phaseOf letterOf isReal commute anticommutingPlaces countTo anticommute qubits weightTo hasLetter notI
 valids = record { h-valid = refl; sz-valid = refl; cx-valid = refl; h-width = refl; sz-width = refl; cx-width = refl }
 
 abbrev good-step : {n : ℕ} {a : List ℕ} → recordValid a ≡ true → widthOf a ≤ n → Step n a
@@ -143,7 +143,7 @@ record Bytes : Type 0 where
   now-letter : getD afterThree (firstLetter 2) 0 ≡ 2
 
 bytes : Bytes
-unfolding gateRecord gateTableau oneQubitGate oneQubitGates twoQubitGate twoQubitGates onQubit onQubits gateOnEach imageString pairString pairRow composeRecord tableauRecord tableauOf letterPlace letterIn rowLength rowPart rowOffset encodeRow decodeRow rowOf joined listed compose widen apply applyTo imageOf rowImage identityString single scale mul phaseOfLetters productTo letterPhase letterMul letterProduct _·_ negate turn phaseByte phaseOf letterByte letterOf qubits
+unfolding gateRecord gateTableau oneQubitGate oneQubitGates twoQubitGate twoQubitGates onQubit onQubits gateOnEach imageString pairString pairRow composeRecord tableauRecord tableauOf letterPlace letterIn rowLength rowPart rowOffset encodeRow decodeRow rowOf joined listed compose widen apply applyTo imageOf rowImage identityString single scale mul phaseOfLetters productTo letterPhase letterMul letterProduct _·_ negate turn phaseByte phaseOf letterByte letterOf qubits weightTo hasLetter notI countTo
 bytes = record { fdg-first = refl; f4dg-first = refl; then-letter = refl; now-letter = refl }
 
 pub order-matters : composeRecord szRecord hRecord ≡ composeRecord hRecord szRecord → ⊥
