@@ -37,8 +37,8 @@ one g q r z n = 0 ∷ 2 ∷ 0 ∷ 0 ∷ 1 ∷ 0 ∷ g ∷ q ∷ r ∷ z ∷ n �
 
 abbrev pub readings : List Reading
 readings =
-    reading example 13 0 0
-    ∷ reading example 12 7 0
+    reading example 17 0 0
+    ∷ reading example 16 7 0
     ∷ reading [] 0 16 0
     ∷ reading (0 ∷ 129 ∷ 0 ∷ 0 ∷ 0 ∷ 0 ∷ 0 ∷ []) 0 16 0
     ∷ reading (1 ∷ 129 ∷ 0 ∷ 0 ∷ 0 ∷ 0 ∷ []) 0 1 0

@@ -6,7 +6,7 @@ use native.Mathlib.Omega.{arith}
 use lib.ListN.{length, length-append}
 use borrow.Author.Needs.{needs}
 use Rattle.pauli.specs.declared.refusal.Refusal.{Refusal}
-use Rattle.pauli.specs.declared.refusal.Refusal.the-variants.{Width, Length, BadByte, Gate, Qubit, SameQubit, Room, NotAscii, NotLetter, NoIndex, NotNumeral, Duplicate, TextQubit, ImageWidth, Slot, ListLength, ListRecord, StepGate, StepQubit, StepSameQubit, Link, Loop}
+use Rattle.pauli.specs.declared.refusal.Refusal.the-variants.{Width, Length, BadByte, Gate, Qubit, SameQubit, Room, NotAscii, NotLetter, NoIndex, NotNumeral, Duplicate, TextQubit, ImageWidth, Slot, ListLength, ListRecord, StepGate, StepQubit, StepSameQubit, Link, Loop, FalseWeight}
 use Rattle.pauli.specs.Answers.{refusalNumber, refusalDetail}
 use Rattle.pauli.specs.SparseText.{decimal}
 use Rattle.pauli.specs.TextWriting.{Stored}
@@ -17,7 +17,7 @@ use Rattle.clifford.specs.Display.{newline}
 use Rattle.gate_list.specs.Reports.{refusedText, atText, refusalText}
 
 -- ---- its number
-number-small : (r : Refusal) → refusalNumber r ≤ 19
+number-small : (r : Refusal) → refusalNumber r < 100
 unfolding refusalNumber
 number-small Width = omega arith
 number-small Length = omega arith
@@ -41,6 +41,7 @@ number-small (StepQubit at) = omega arith
 number-small (StepSameQubit at) = omega arith
 number-small (Link at) = omega arith
 number-small (Loop at) = omega arith
+number-small (FalseWeight offset) = omega arith
 
 -- ---- its length
 pub number-short : (r : Refusal) → length (decimal (refusalNumber r)) ≤ 2

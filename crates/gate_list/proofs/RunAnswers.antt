@@ -78,7 +78,7 @@ module _ {l d : List ℕ} {n k : ℕ} {e : List ℕ} {r : Outcome}
   pub run-room : k ≤ length e
   run-room = omega (arith, own, o .room, begun-long)
 
-  pub run-part : {ts : List (List ℕ)} → ts ≡ gateTables → Begins l ts (take (k - 0) e)
+  pub run-part : {ts : List (List (List ℕ))} → ts ≡ gateTables → Begins l ts (take (k - 0) e)
   run-part h = record {
     asked = o .asked;
     tables = h;

@@ -11,7 +11,7 @@ use clifford::questions::record_size;
 use clifford::tables::gate_tables;
 
 // The gate of record i, by the gates' tables.
-fn play_record(list: &[u8], i: usize, tables: &[[u8; 16]; 38], t: &mut [u8])
+fn play_record(list: &[u8], i: usize, tables: &[[[u8; 16]; 4]; 38], t: &mut [u8])
     requires { ⌜ Plays (now list) i (now tables) ⌝ }
     ensures { λ _. ⌜ now (t .exit) ≡ recordPlayed (now (list .entry)) i (now (t .entry)) ⌝ }
 {
@@ -21,7 +21,7 @@ fn play_record(list: &[u8], i: usize, tables: &[[u8; 16]; 38], t: &mut [u8])
 }
 
 // The gates on the chain, on the identity. The answer is their number.
-fn play_chain(list: &[u8], tables: &[[u8; 16]; 38], t: &mut [u8]) -> usize
+fn play_chain(list: &[u8], tables: &[[[u8; 16]; 4]; 38], t: &mut [u8]) -> usize
     requires { ⌜ Begins (now list) (now tables) (now t) ⌝ }
     ensures { λ r. ⌜ Ran (now (list .entry)) (now (t .exit)) r ⌝ }
 {

@@ -14,7 +14,7 @@ use Rattle.gate_list.specs.Runs.{runRecord, stepCount}
 use Rattle.gate_list.specs.Inside.Reading.{OwnRecord}
 
 -- record i of the list, beside the gates' own tables; and a record t after its gate
-pub record Plays (l : List ℕ) (i : ℕ) (ts : List (List ℕ)) : Type 0 where
+pub record Plays (l : List ℕ) (i : ℕ) (ts : List (List (List ℕ))) : Type 0 where
   pub own : OwnRecord l i
   pub tables : ts ≡ gateTables
 
@@ -22,7 +22,7 @@ unfoldable pub recordPlayed : List ℕ → ℕ → List ℕ → List ℕ
 recordPlayed l i t = played (byteOf l i 0) (byteOf l i 1) (byteOf l i 2) t
 
 -- an admitted list, the gates' own tables, and the identity
-pub record Begins (l : List ℕ) (ts : List (List ℕ)) (t : List ℕ) : Type 0 where
+pub record Begins (l : List ℕ) (ts : List (List (List ℕ))) (t : List ℕ) : Type 0 where
   pub asked : listQuestions l ≡ Done
   pub tables : ts ≡ gateTables
   pub bytes : t ≡ identityRecord (listWidth l)
