@@ -86,12 +86,12 @@ all-bare = refl
 no-detail : (n : ℕ) → sentence n ≡ bytesOf "unknown" → isWidthError n ≡ false → hasDetail n ≡ false
 unfolding isBare
 no-detail n u e = elim (decLt n 25) [
-  | yes h ↦ by (hasDetail n) refl (sym (steady-at isBare 0 25 all-bare (omega arith) h ∙ (λ i. (not (hasDetail n) || e i) || not (eqb (getD (u i) 0 0) 117))))
-  | no h ↦ sym (detail-high n (omega arith) (λ e. omega arith))
+  | yes h ↦ by (hasDetail n) refl (steady-at isBare 0 25 all-bare (omega arith) h ∙ (λ i. (not (hasDetail n) || e i) || not (eqb (getD (u i) 0 0) 117)))
+  | no h ↦ sym (detail-high n (omega arith) (λ k. omega arith))
 ]
   where
-    by : (b : Bool) → hasDetail n ≡ b → ((not b || false) || false) ≡ true → hasDetail n ≡ false
-    by true p h = absurd (false≢true h)
+    by : (b : Bool) → hasDetail n ≡ b → true ≡ ((not b || false) || false) → hasDetail n ≡ false
+    by true p h = absurd (false≢true (sym h))
     by false p h = p
 
 pub unknown-bare : (n d w : ℕ) → sentence n ≡ bytesOf "unknown" → isWidthError n ≡ false → refusalLine n d w ≡ decimal n ++ bytesOf ": unknown"
