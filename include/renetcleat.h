@@ -8,7 +8,9 @@
  *   phase byte    0 is +1, 1 is -1, 2 is +i, 3 is -i
  *   letter byte   0 I, 1 X, 2 Z, 3 Y
  *   string        129 bytes: a phase, then the letters of qubits 0 to 127
- *   tableau       1 + 2 n (n + 1) bytes: the width n (0 to 128), n X rows, n Z rows; a row is a phase and n letters
+ *   tableau       1 + 2 n (n + 2) bytes: the width n (0 to 128), n X rows, n Z rows; a row is a phase, a weight and n letters
+ *   weight byte   the number of letters other than I of its row. To read that of row r, take byte 2 + r (n + 2) (RC_WEIGHT_AT);
+ *                 r is q for the X row of qubit q, n + q for its Z row
  *   entries       pairs of bytes: letter, qubit
  *   gate list     1 to 4096 records of six bytes: gate, qubit, second qubit (0 for a one-qubit gate), 0, next index low, high;
  *                 record 0 is the head: 0, width, 0, 0, next low, high; next 0 ends the chain
@@ -62,7 +64,8 @@ enum rc_refusal {
     RC_REFUSED_LIST_LENGTH = 16, /* a list is no multiple of 6 bytes, or not from 6 to 24576 */
     RC_REFUSED_LIST_RECORD = 17, /* the head or a fixed zero is wrong; the record */
     RC_REFUSED_LINK = 18,        /* a next index is not below the record count; the record holding it */
-    RC_REFUSED_LOOP = 19         /* the chain does not end; the record met again */
+    RC_REFUSED_LOOP = 19,        /* the chain does not end; the record met again */
+    RC_REFUSED_WEIGHT = 24       /* a row's weight is false, asked directly after 3; the offset of the first such weight */
 };
 
 /* Gates by number, named as in PECOS's `Clifford`; DG is the inverse. */
@@ -112,13 +115,16 @@ enum rc_gate {
 
 /* Lengths in bytes. */
 #define RC_STRING_LENGTH 129
-#define RC_TABLEAU_LENGTH(n) (1 + 2 * (size_t)(n) * ((size_t)(n) + 1))
+#define RC_ROW_LENGTH(n) ((size_t)(n) + 2)
+#define RC_TABLEAU_LENGTH(n) (1 + 2 * (size_t)(n) * RC_ROW_LENGTH(n))
 /* The most that is ever written: a tableau, sparse text, display text, the program's text, the line of a refusal. */
-#define RC_TABLEAU_MOST 33025
+#define RC_TABLEAU_MOST 33281
 #define RC_SPARSE_MOST 531
 #define RC_DISPLAY_MOST 138813
 #define RC_REPORT_MOST 138557
 #define RC_REFUSAL_LINE_MOST 140
+/* The offset of the weight of row r in a tableau of width n; the rows are those of X_0, X_1, .. and then of Z_0, Z_1, .. */
+#define RC_WEIGHT_AT(n, r) (2 + (size_t)(r) * RC_ROW_LENGTH(n))
 
 /* ---- phases and letters */
 
@@ -158,13 +164,13 @@ struct rc_reply rc_to_sparse_str(const uint8_t *s, size_t s_len, char *dst, size
 
 /* Writes the identity of width n, RC_TABLEAU_LENGTH(n) bytes. */
 struct rc_reply rc_identity(size_t n, uint8_t *dst, size_t dst_len);
-/* The offset in t of the X row of a slot; the row has 1 + n bytes. */
+/* The offset in t of the X row of a slot, 1 + slot (n + 2). The row has n + 2 bytes: phase, weight, letters. */
 struct rc_reply rc_x_image(const uint8_t *t, size_t t_len, size_t slot);
-/* The offset in t of the Z row of a slot; the row has 1 + n bytes. */
+/* The offset in t of the Z row of a slot, 1 + (n + slot) (n + 2). The row has n + 2 bytes: phase, weight, letters. */
 struct rc_reply rc_z_image(const uint8_t *t, size_t t_len, size_t slot);
-/* Puts the string s in the place of the X row of a slot, in t itself; every other byte of t stays. */
+/* Puts the string s, with its weight, in the place of the X row of a slot, in t itself; every other byte of t stays. */
 struct rc_reply rc_set_x_image(uint8_t *t, size_t t_len, size_t slot, const uint8_t *s, size_t s_len);
-/* Puts the string s in the place of the Z row of a slot, in t itself; every other byte of t stays. */
+/* Puts the string s, with its weight, in the place of the Z row of a slot, in t itself; every other byte of t stays. */
 struct rc_reply rc_set_z_image(uint8_t *t, size_t t_len, size_t slot, const uint8_t *s, size_t s_len);
 /* Writes the string that the tableau t sends s to, 129 bytes. */
 struct rc_reply rc_apply(const uint8_t *t, size_t t_len, const uint8_t *s, size_t s_len, uint8_t *dst, size_t dst_len);

@@ -1,5 +1,5 @@
-/* A Bell pair: H on qubit 0, then CX from 0 to 1. Composes the two, shows the tableau, sends strings through it, and undoes it; and
- * shows refusals by their lines. */
+/* A Bell pair: H on qubit 0, then CX from 0 to 1. Composes the two, shows the tableau, reads its weights, sends strings through it,
+ * and undoes it; and shows refusals by their lines. */
 #include "renetcleat.h"
 
 #include <stdio.h>
@@ -52,6 +52,16 @@ static void show(const uint8_t pair[LENGTH]) {
     expect("text", length == strlen(EXPECTED) && memcmp(text, EXPECTED, length) == 0);
 }
 
+/* The images of X0, X1, Z0 and Z1 have 1, 1, 2 and 2 letters. A row handed out has its weight behind its phase. */
+static void weigh(const uint8_t pair[LENGTH]) {
+    static const uint8_t weights[2 * WIDTH] = {1, 1, 2, 2};
+    size_t row, z0 = value("z_image", rc_z_image(pair, LENGTH, 0));
+    for (row = 0; row < 2 * WIDTH; row++) {
+        expect("weight", pair[RC_WEIGHT_AT(WIDTH, row)] == weights[row]);
+    }
+    expect("row", z0 + 1 == RC_WEIGHT_AT(WIDTH, WIDTH));
+}
+
 /* The pair sends X0 to Z0 and Z1 to Z0 Z1, so the product X0 Z1 to Z1. */
 static void send(const uint8_t pair[LENGTH]) {
     uint8_t s[RC_STRING_LENGTH], image[RC_STRING_LENGTH];
@@ -87,7 +97,8 @@ static void expect_line(const char *expected, struct rc_reply refusal) {
     expect(expected, length == strlen(expected) && memcmp(line, expected, length) == 0);
 }
 
-/* A destination short by one byte is refused, and keeps its bytes; so does a tableau whose new image reaches outside it. */
+/* A destination short by one byte is refused, and keeps its bytes; so does a tableau whose new image reaches outside it. A tableau
+ * with a false weight is refused too. */
 static void refused(const uint8_t pair[LENGTH]) {
     uint8_t small[LENGTH - 1], before[LENGTH - 1];
     memset(small, 0xaa, sizeof small);
@@ -104,6 +115,9 @@ static void refused(const uint8_t pair[LENGTH]) {
     expect("copy", memcmp(copy, pair, LENGTH) == 0);
     print_refusal(stdout, "set_x_image", reply, WIDTH);
     expect_line("14: qubit 2 is outside num_qubits 2; pass a width greater than the maximum qubit index (max qubit + 1)", reply);
+
+    copy[RC_WEIGHT_AT(WIDTH, 0)]++;
+    expect_line("24: a row weight is false, at offset 2", rc_is_valid(copy, sizeof copy));
 }
 
 int main(void) {
@@ -111,6 +125,7 @@ int main(void) {
     bell(pair);
     expect("valid", value("is_valid", rc_is_valid(pair, sizeof pair)) == 1);
     show(pair);
+    weigh(pair);
     send(pair);
     commute(pair);
     undo(pair);

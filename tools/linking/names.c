@@ -1,5 +1,5 @@
-/* The names of include/renetcleat.h against the library: what each gate does, and a call that is refused with each refusal, whose
- * line is not that of an unknown number. It is C99 and C++11, and hands text over as literals. */
+/* The names of include/renetcleat.h against the library: what each gate does, the lengths and weights of tableaux, and a call that
+ * is refused with each refusal, whose line is not that of an unknown number. It is C99 and C++11, and hands text over as literals. */
 #include "renetcleat.h"
 
 #include <stdio.h>
@@ -78,6 +78,28 @@ static void expect_gate(size_t number) {
                && memcmp(text, expected, length) == 0);
 }
 
+/* The identity of each width, in no byte less: each row has one letter. The last row is that of the last Z. */
+static void expect_widths(void) {
+    static uint8_t t[RC_TABLEAU_MOST];
+    size_t n, row;
+
+    for (n = 0; n <= 128; n++) {
+        size_t length = RC_TABLEAU_LENGTH(n);
+        expect("width", n,
+               rc_identity(n, t, length - 1).number == RC_REFUSED_ROOM && rc_identity(n, t, length).number == 0
+                   && rc_is_valid(t, length).value == 1);
+        for (row = 0; row < 2 * n; row++) {
+            expect("weight in width", n, t[RC_WEIGHT_AT(n, row)] == 1);
+        }
+        if (n > 0) {
+            expect("row of width", n,
+                   rc_z_image(t, length, n - 1).value == length - RC_ROW_LENGTH(n)
+                       && RC_WEIGHT_AT(n, 2 * n - 1) == length - RC_ROW_LENGTH(n) + 1);
+        }
+    }
+    expect("width", 128, RC_TABLEAU_LENGTH(128) == RC_TABLEAU_MOST);
+}
+
 static void expect_refusal(enum rc_refusal name, uint64_t detail, struct rc_reply reply) {
     char line[RC_REFUSAL_LINE_MOST], unknown[RC_REFUSAL_LINE_MOST];
     struct rc_reply told = rc_refusal_line(reply.number, reply.value, 1, line, sizeof line);
@@ -116,6 +138,8 @@ static void expect_refusals(void) {
     expect_refusal(RC_REFUSED_LIST_RECORD, 0, rc_run(no_head, sizeof no_head, dst, sizeof dst));
     expect_refusal(RC_REFUSED_LINK, 0, rc_run(no_link, sizeof no_link, dst, sizeof dst));
     expect_refusal(RC_REFUSED_LOOP, 1, rc_run(loop, sizeof loop, dst, sizeof dst));
+    one[RC_WEIGHT_AT(1, 1)] = 0;
+    expect_refusal(RC_REFUSED_WEIGHT, RC_WEIGHT_AT(1, 1), rc_is_valid(one, sizeof one));
 }
 
 int main(void) {
@@ -128,6 +152,7 @@ int main(void) {
     }
     expect("gate", COUNT(GATES), rc_gate_inverse((uint8_t)COUNT(GATES)).number == RC_REFUSED_GATE);
     expect("gate", RC_NO_GATE, rc_identity(0, nothing, 1).number == 0 && rc_from_clifford_rep(nothing, 1).value == RC_NO_GATE);
+    expect_widths();
     expect_refusals();
     expect("line", 0, rc_refusal_line(0, 5, 5, text, sizeof text).value == 10 && memcmp(text, "0: unknown", 10) == 0);
     return failures != 0;

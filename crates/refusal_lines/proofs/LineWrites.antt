@@ -15,7 +15,7 @@ use Rattle.pauli.specs.TextWriting.{Stored}
 use Rattle.pauli.specs.Inside.TextWriting.{TextWritten}
 use Rattle.pauli.proofs.TextWrites.{stored-none, stored-join, stored-as, stored-same, whole-text}
 use Rattle.refusal_wording.specs.RefusalLines.{Sentence, sentences, sentenceAmong, sentence, hasDetail, detailText, isWidthError, widthErrorText, wording, refusalLine}
-use Rattle.refusal_wording.proofs.NumberRanges.{detail-low, detail-first, detail-room, detail-second, detail-list, detail-third, detail-high, error-below, error-here, error-above}
+use Rattle.refusal_wording.proofs.NumberRanges.{detail-low, detail-first, detail-room, detail-second, detail-list, detail-third, detail-later, detail-high, error-below, error-here, error-above}
 use Rattle.refusal_wording.proofs.LineParts.{worded, detailed}
 use Rattle.refusal_wording.proofs.LineText.{line-most}
 use Rattle.refusal_lines.specs.Inside.Sentences.{sentenceFrom}
@@ -51,14 +51,18 @@ module _ {d e : List ℕ} {k r : ℕ} where
   unfolding sentenceFrom sentences
   list-next n h a = sentence-next 7 6 n h a
 
-  pub sentence-unknown : (n : ℕ) → NoneOf (Unit {0}) (drop 13 sentences) n → Stored k (bytesOf "unknown") d e r → Stored k (sentenceFrom 13 n) d e r
-  unfolding sentenceFrom sentences sentenceAmong
-  sentence-unknown n h a = sentence-next 13 4 n h a
+  pub later-next : (n : ℕ) → NoneOf (Unit {0}) (take 4 (drop 13 sentences)) n → Stored k (sentenceFrom 17 n) d e r → Stored k (sentenceFrom 13 n) d e r
+  unfolding sentenceFrom sentences
+  later-next n h a = sentence-next 13 4 n h a
 
-pub ruleset sentence-arms = (sentence-arm, text-next, list-next, sentence-unknown, stored-same, needs)
+  pub sentence-unknown : (n : ℕ) → NoneOf (Unit {0}) (drop 17 sentences) n → Stored k (bytesOf "unknown") d e r → Stored k (sentenceFrom 17 n) d e r
+  unfolding sentenceFrom sentences sentenceAmong
+  sentence-unknown n h a = sentence-next 17 1 n h a
+
+pub ruleset sentence-arms = (sentence-arm, text-next, list-next, later-next, sentence-unknown, stored-same, needs)
 
 -- ---- whether a detail has a meaning, and whether a number has the wording of `PauliWidthError`
-pub ruleset meanings = (detail-low, detail-first, detail-room, detail-second, detail-list, detail-third, detail-high, needs)
+pub ruleset meanings = (detail-low, detail-first, detail-room, detail-second, detail-list, detail-third, detail-later, detail-high, needs)
 
 pub ruleset error-numbers = (error-below, error-here, error-above, needs)
 

@@ -13,8 +13,18 @@ use pauli::refusal::Outcome;
 use pauli::text_writer::put_decimal;
 use pauli::text_writer::put_text;
 
-// The sentences stand in three functions, each with the rest of them behind it: the check of a function grows faster than its text.
-// These are those of lists, and a number that has none is unknown.
+// The sentences stand in four functions, each with the rest of them behind it: the check of a function grows faster than its text.
+// These are those of later numbers, and a number that has none is unknown.
+fn put_later_sentence(dst: &mut [u8], at: usize, number: u64) -> usize
+    ensures { λ r. ⌜ Stored at (sentenceFrom 17 number) (now (dst .entry)) (now (dst .exit)) r ⌝ }
+{
+    match number {
+        24 => put_text(dst, at, b"a row weight is false, at offset"),
+        _ => put_text(dst, at, b"unknown"),
+    }
+}
+
+// Those of lists, and then of later numbers.
 fn put_list_sentence(dst: &mut [u8], at: usize, number: u64) -> usize
     ensures { λ r. ⌜ Stored at (sentenceFrom 13 number) (now (dst .entry)) (now (dst .exit)) r ⌝ }
 {
@@ -27,7 +37,7 @@ fn put_list_sentence(dst: &mut [u8], at: usize, number: u64) -> usize
             at,
             b"the chain does not end; it comes back to list record",
         ),
-        _ => put_text(dst, at, b"unknown"),
+        _ => put_later_sentence(dst, at, number),
     }
 }
 
@@ -78,6 +88,7 @@ fn has_detail(number: u64) -> bool
         3..=6 => true,
         8..=15 => true,
         17..=19 => true,
+        24 => true,
         _ => false,
     }
 }

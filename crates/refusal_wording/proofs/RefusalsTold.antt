@@ -1,23 +1,21 @@
 -- The refusals of the library: each has a sentence, and its line tells the whole reply.
 use mathlib.Core.Path.{_≡_, refl, sym, ap, ap₂, _∙_}
-use mathlib.Core.Bool.{Bool, true, false, not, _&&_, _||_, false≢true}
+use mathlib.Core.Bool.{Bool, true, false, not, _||_, false≢true}
 use mathlib.Core.List.{List, _++_, append-cancel-left}
-use Prim.Native.Nat.{ℕ, zero, suc, _<_}
-use native.Mathlib.Nat.{not-suc-le-zero}
-use native.Mathlib.Decide.{ℕ-discrete, decLt}
+use Prim.Native.Nat.{ℕ}
+use native.Mathlib.Decide.{decLt}
 use native.Mathlib.Omega.{arith}
 use lib.Dec.{eqb}
 use lib.ListN.{getD}
 use borrow.Author.Tests.{eqb-false}
-use Rattle.pauli_group.proofs.Finite.{and-both}
 use Rattle.pauli.specs.declared.refusal.Refusal.{Refusal}
-use Rattle.pauli.specs.declared.refusal.Refusal.the-variants.{Width, Length, BadByte, Gate, Qubit, SameQubit, Room, NotAscii, NotLetter, NoIndex, NotNumeral, Duplicate, TextQubit, ImageWidth, Slot, ListLength, ListRecord, StepGate, StepQubit, StepSameQubit, Link, Loop}
+use Rattle.pauli.specs.declared.refusal.Refusal.the-variants.{Width, Length, BadByte, Gate, Qubit, SameQubit, Room, NotAscii, NotLetter, NoIndex, NotNumeral, Duplicate, TextQubit, ImageWidth, Slot, ListLength, ListRecord, StepGate, StepQubit, StepSameQubit, Link, Loop, FalseWeight}
 use Rattle.pauli.specs.Answers.{refusalNumber, refusalDetail, refusalReply, reply}
 use Rattle.pauli.specs.QuotedText.{bytesOf}
 use Rattle.pauli.specs.SparseText.{decimal}
 use Rattle.refusal_wording.specs.RefusalLines.{sentences, sentenceAmong, sentence, hasDetail, isWidthError, widthErrorText, wording, refusalLine}
 use Rattle.refusal_wording.specs.LineLaws.{ShownAlike}
-use Rattle.refusal_wording.proofs.NumberRanges.{detail-high}
+use Rattle.refusal_wording.proofs.NumberRanges.{steady, steady-at, detail-high}
 use Rattle.refusal_wording.proofs.LineParts.{worded, detailed}
 use Rattle.refusal_wording.proofs.LineTells.{lines-differ}
 
@@ -53,6 +51,7 @@ told (StepQubit at) d w = record { own = refl; hidden = shown refl }
 told (StepSameQubit at) d w = record { own = refl; hidden = shown refl }
 told (Link at) d w = record { own = refl; hidden = shown refl }
 told (Loop at) d w = record { own = refl; hidden = shown refl }
+told (FalseWeight offset) d w = record { own = refl; hidden = shown refl }
 
 -- none begins with "unknown"
 pub refusal-known : (r : Refusal) (d w : ℕ) (t : List ℕ) → refusalLine (refusalNumber r) d w ≡ decimal (refusalNumber r) ++ (bytesOf ": unknown" ++ t) → ⊥
@@ -76,34 +75,23 @@ reply-told r s v w h = ap₂ reply (alike .number) (by (hasDetail (refusalNumber
     by false p = told r v v .hidden p ∙ sym (told s w w .hidden (ap hasDetail (sym (alike .number)) ∙ p))
 
 -- ---- a number without a meaning shows no detail: where one is shown, the sentence is not "unknown"
-unfoldable tested : (ℕ → Bool) → ℕ → Bool
-tested f zero = true
-tested f (suc n) = f n && tested f n
-
-tested-at : (f : ℕ → Bool) (n : ℕ) {k : ℕ} → tested f n ≡ true → k < n → f k ≡ true
-unfolding tested
-tested-at f zero h l = absurd (not-suc-le-zero l)
-tested-at f (suc n) {k} h l =
-    let both = and-both (f n) (tested f n) h in
-    elim (ℕ-discrete k n) [ yes e ↦ ap f e ∙ both .0 | no e ↦ tested-at f n (both .1) (omega arith) ]
-
 -- no detail, or the wording of `PauliWidthError`, or no u at the front
 unfoldable isBare : ℕ → Bool
 isBare n = (not (hasDetail n) || isWidthError n) || not (eqb (getD (sentence n) 0 0) 117)
 
-all-bare : tested isBare 20 ≡ true
-unfolding tested isBare hasDetail sentence sentenceAmong sentences
+all-bare : steady isBare true 0 25 ≡ true
+unfolding steady isBare hasDetail sentence sentenceAmong sentences
 all-bare = refl
 
 no-detail : (n : ℕ) → sentence n ≡ bytesOf "unknown" → isWidthError n ≡ false → hasDetail n ≡ false
 unfolding isBare
-no-detail n u e = elim (decLt n 20) [
-  | yes h ↦ by (hasDetail n) refl (sym (λ i. (not (hasDetail n) || e i) || not (eqb (getD (u i) 0 0) 117)) ∙ tested-at isBare 20 all-bare h)
-  | no h ↦ sym (detail-high n (omega arith))
+no-detail n u e = elim (decLt n 25) [
+  | yes h ↦ by (hasDetail n) refl (steady-at isBare 0 25 all-bare (omega arith) h ∙ (λ i. (not (hasDetail n) || e i) || not (eqb (getD (u i) 0 0) 117)))
+  | no h ↦ sym (detail-high n (omega arith) (λ k. omega arith))
 ]
   where
-    by : (b : Bool) → hasDetail n ≡ b → ((not b || false) || false) ≡ true → hasDetail n ≡ false
-    by true p h = absurd (false≢true h)
+    by : (b : Bool) → hasDetail n ≡ b → true ≡ ((not b || false) || false) → hasDetail n ≡ false
+    by true p h = absurd (false≢true (sym h))
     by false p h = p
 
 pub unknown-bare : (n d w : ℕ) → sentence n ≡ bytesOf "unknown" → isWidthError n ≡ false → refusalLine n d w ≡ decimal n ++ bytesOf ": unknown"

@@ -25,8 +25,11 @@ lineReadings =
     lineReading 15 7 2 "15: qubit 7 is outside num_qubits 2; pass a width greater than the maximum qubit index (max qubit + 1)" ∷
     lineReading 16 7 0 "16: the list has a wrong length" ∷
     lineReading 17 0 0 "17: wrong head or fixed zero, list record 0" ∷
-    -- numbers without a meaning
+    lineReading 24 5 2 "24: a row weight is false, at offset 5" ∷
+    -- numbers without a meaning, 23 and 25 on either side of 24
     lineReading 0 5 5 "0: unknown" ∷
+    lineReading 23 5 5 "23: unknown" ∷
+    lineReading 25 5 5 "25: unknown" ∷
     lineReading 29 5 5 "29: unknown" ∷
     lineReading 33 5 5 "33: unknown" ∷
     []

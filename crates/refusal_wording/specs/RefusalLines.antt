@@ -38,6 +38,7 @@ sentences =
     17 says "wrong head or fixed zero, list record" ∷
     18 says "the next index is outside the list, list record" ∷
     19 says "the chain does not end; it comes back to list record" ∷
+    24 says "a row weight is false, at offset" ∷
     []
 
 -- "A number without a meaning has the sentence "unknown""
@@ -53,9 +54,10 @@ sentence n = sentenceAmong sentences n
 abbrev pub between : ℕ → ℕ → ℕ → Bool
 between low high n = leb low n && leb n high
 
--- "The detail has a meaning for 3 to 6, 8 to 15 and 17 to 19."
+-- "The detail has a meaning for 3 to 6, 8 to 15 and 17 to 19." "Later numbers join as they come, with a detail where their request
+-- names one": so far 24.
 unfoldable pub hasDetail : ℕ → Bool
-hasDetail n = between 3 6 n || between 8 15 n || between 17 19 n
+hasDetail n = between 3 6 n || between 8 15 n || between 17 19 n || eqb n 24
 
 unfoldable pub detailText : ℕ → ℕ → List ℕ
 detailText n d = cond (hasDetail n) (bytesOf " " ++ decimal d) []

@@ -8,8 +8,10 @@ const DETAIL: u64 = 5;
 
 const WIDTH: u64 = 4;
 
-// The last number that a refusal has.
+// Up to here each number from 1 is that of a refusal; the later ones have gaps.
 const LAST: u64 = 19;
+
+const FALSE_WEIGHT: u64 = 24;
 
 fn write_in(number: u64, room: &mut [u8]) {
     let answer = refusal_line(number, DETAIL, WIDTH, room);
@@ -29,4 +31,5 @@ fn main() {
     for number in 0..=LAST {
         write_line(number);
     }
+    write_line(FALSE_WEIGHT);
 }

@@ -9,8 +9,19 @@ pub const STRING_LENGTH: usize = 129;
 /// The value of [`from_clifford_rep`] where no gate has the tableau.
 pub const NO_GATE: u64 = 255;
 
+/// The bytes of a tableau's row: phase, weight, letters.
+pub const fn row_length(width: usize) -> usize {
+    width + 2
+}
+
 pub const fn tableau_length(width: usize) -> usize {
-    1 + 2 * width * (width + 1)
+    1 + 2 * width * row_length(width)
+}
+
+/// The offset in a tableau of a row's weight, the number of its letters other than I. The row is q for the image of X_q, and the
+/// width + q for that of Z_q.
+pub const fn weight_at(width: usize, row: usize) -> usize {
+    2 + row * row_length(width)
 }
 
 /// The most bytes that the line of a refusal has.
@@ -178,28 +189,28 @@ pub fn identity(n: usize, dst: &mut [u8]) -> Answer {
     answer(unsafe { raw::rc_identity(n, dst.as_mut_ptr(), dst.len()) })
 }
 
-/// The offset in t of the X row of a slot; the row has 1 + n bytes.
+/// The offset in t of the X row of a slot; the row has [`row_length`] bytes.
 pub fn x_image(t: &[u8], slot: usize) -> Answer {
     answer_of(width_of(t), unsafe {
         raw::rc_x_image(t.as_ptr(), t.len(), slot)
     })
 }
 
-/// The offset in t of the Z row of a slot; the row has 1 + n bytes.
+/// The offset in t of the Z row of a slot; the row has [`row_length`] bytes.
 pub fn z_image(t: &[u8], slot: usize) -> Answer {
     answer_of(width_of(t), unsafe {
         raw::rc_z_image(t.as_ptr(), t.len(), slot)
     })
 }
 
-/// Puts the string s in the place of the X row of a slot, in t itself.
+/// Puts the string s, with its weight, in the place of the X row of a slot, in t itself.
 pub fn set_x_image(t: &mut [u8], slot: usize, s: &[u8]) -> Answer {
     answer_of(width_of(t), unsafe {
         raw::rc_set_x_image(t.as_mut_ptr(), t.len(), slot, s.as_ptr(), s.len())
     })
 }
 
-/// Puts the string s in the place of the Z row of a slot, in t itself.
+/// Puts the string s, with its weight, in the place of the Z row of a slot, in t itself.
 pub fn set_z_image(t: &mut [u8], slot: usize, s: &[u8]) -> Answer {
     answer_of(width_of(t), unsafe {
         raw::rc_set_z_image(t.as_mut_ptr(), t.len(), slot, s.as_ptr(), s.len())

@@ -58,6 +58,33 @@ fn a_bell_pair_is_undone() {
 }
 
 #[test]
+fn a_row_has_its_weight() {
+    let (mut pair, mut s) = (bell(), [0; STRING_LENGTH]);
+    let weights = |t: &[u8]| [0, 1, 2, 3].map(|row| t[weight_at(2, row)]);
+    assert_eq!(weights(&pair), [1, 1, 2, 2]);
+    // The image of Z_0 is X0 X1.
+    let start = z_image(&pair, 0).unwrap() as usize;
+    assert_eq!(pair[start..start + row_length(2)], [0, 2, 1, 1]);
+    from_str(b"-Y0 Y1", &mut s).unwrap();
+    assert_eq!(set_x_image(&mut pair, 1, &s), Ok(0));
+    assert_eq!(weights(&pair), [1, 2, 2, 2]);
+}
+
+#[test]
+fn a_false_weight_is_refused() {
+    let mut pair = bell();
+    pair[weight_at(2, 3)] = 1;
+    let refusal = is_valid(&pair);
+    assert_eq!(refusal, refused(24, weight_at(2, 3) as u64));
+    let line = refusal.unwrap_err().to_string();
+    assert_eq!(line, "24: a row weight is false, at offset 14");
+    // It is asked before the slot, and after every phase and letter.
+    assert_eq!(x_image(&pair, 7), refused(24, 14));
+    pair[tableau_length(2) - 1] = 4;
+    assert_eq!(is_valid(&pair), refused(3, 16));
+}
+
+#[test]
 fn strings_are_read_multiplied_and_written() {
     let (mut s, mut t) = ([0; STRING_LENGTH], [0; STRING_LENGTH]);
     let (mut product, mut text) = ([0; STRING_LENGTH], [0; 20]);
@@ -150,7 +177,7 @@ fn a_gate_is_named_by_its_own_tableau() {
         on_qubit(gate, 0, &mut t).unwrap();
         assert_eq!(from_clifford_rep(&t), Ok(gate.into()));
     }
-    let imaginary = [1, 2, 1, 0, 2];
+    let imaginary = [1, 2, 1, 1, 0, 1, 2];
     assert_eq!(is_valid(&imaginary), Ok(0));
     assert_eq!(from_clifford_rep(&imaginary), Ok(NO_GATE));
 }

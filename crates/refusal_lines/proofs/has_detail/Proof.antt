@@ -8,4 +8,4 @@ has-detail-spec =
     tie.close
     (tie.spec
     (λ c. search meanings) (λ c. search meanings) (λ c. search meanings) (λ c. search meanings) (λ c. search meanings)
-    (λ c. search meanings) (λ c. search meanings))
+    (λ c. search meanings) (λ c. search meanings) (λ c. search meanings))

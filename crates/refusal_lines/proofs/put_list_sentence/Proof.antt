@@ -12,6 +12,6 @@ put-list-sentence-spec =
     (tie.spec
     (λ c. search sentence-arms) (λ c κs. search sentence-arms) (λ c. search sentence-arms) (λ c κs. search sentence-arms)
     (λ c. search sentence-arms) (λ c κs. search sentence-arms) (λ c. search sentence-arms) (λ c κs. search sentence-arms)
-    (λ c. search sentence-arms) (λ c κs. search sentence-arms) (λ c. search sentence-arms) (λ c. search sentence-arms)
+    (λ c κs. search sentence-arms) (λ c. search sentence-arms) (λ c. search sentence-arms) (λ c. search sentence-arms)
     (λ c. search sentence-arms) (λ c. search sentence-arms) (λ c. search sentence-arms) (λ c. search sentence-arms)
-    (λ c. search sentence-arms) (λ c. search sentence-arms) (λ c. search sentence-arms) (λ c. search sentence-arms))
+    (λ c. search sentence-arms) (λ c. search sentence-arms) (λ c. search sentence-arms))
