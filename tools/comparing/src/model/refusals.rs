@@ -2,9 +2,9 @@
 
 const PAGE: &str = include_str!("../../../../docs/REFUSALS.md");
 
-/// "The detail has a meaning for 3 to 6, 8 to 15 and 17 to 19."
+/// "The detail has a meaning for 3 to 6, 8 to 15 and 17 to 19." Of 24 it is an offset.
 fn has_detail(number: u64) -> bool {
-    matches!(number, 3..=6 | 8..=15 | 17..=19)
+    matches!(number, 3..=6 | 8..=15 | 17..=19 | 24)
 }
 
 /// What the page has behind the number, the colon and the space.
