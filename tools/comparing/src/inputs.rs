@@ -196,8 +196,8 @@ pub fn bad_string(random: &mut Random) -> Vec<u8> {
     }
 }
 
-/// Copies that are refused, for their width, their length, a byte or a weight, or for two of these; of width 0 some are not, having
-/// no row to spoil.
+/// Copies that are refused, for their width, their length, a byte or a weight, or for two of these. Some may not be: width 0 has no
+/// row to spoil, and a weight may be changed back.
 pub fn bad_tableaux(random: &mut Random, record: &[u8]) -> Vec<Vec<u8>> {
     let once = spoiled(random, record);
     let other = damaged(random, record);
