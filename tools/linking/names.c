@@ -139,7 +139,7 @@ static void expect_refusals(void) {
     expect_refusal(RC_REFUSED_LINK, 0, rc_run(no_link, sizeof no_link, dst, sizeof dst));
     expect_refusal(RC_REFUSED_LOOP, 1, rc_run(loop, sizeof loop, dst, sizeof dst));
     one[RC_WEIGHT_AT(1, 1)] = 0;
-    expect_refusal(RC_REFUSED_WEIGHT, RC_WEIGHT_AT(1, 1), rc_is_valid(one, sizeof one));
+    expect_refusal(RC_REFUSED_FALSE_WEIGHT, RC_WEIGHT_AT(1, 1), rc_is_valid(one, sizeof one));
 }
 
 int main(void) {

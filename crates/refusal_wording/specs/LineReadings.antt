@@ -26,10 +26,8 @@ lineReadings =
     lineReading 16 7 0 "16: the list has a wrong length" ∷
     lineReading 17 0 0 "17: wrong head or fixed zero, list record 0" ∷
     lineReading 24 5 2 "24: a row weight is false, at offset 5" ∷
-    -- numbers without a meaning, 23 and 25 on either side of 24
+    -- numbers without a meaning
     lineReading 0 5 5 "0: unknown" ∷
-    lineReading 23 5 5 "23: unknown" ∷
-    lineReading 25 5 5 "25: unknown" ∷
     lineReading 29 5 5 "29: unknown" ∷
     lineReading 33 5 5 "33: unknown" ∷
     []

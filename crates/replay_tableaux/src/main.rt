@@ -79,7 +79,7 @@ fn is_row(t: &[u8], at: usize, part: &[u8]) -> bool {
     if 255 < part.len() {
         return false;
     }
-    if part.len() as u8 != std::num::wrapping_add_u8(t[0], 1) {
+    if part.len() as u8 != std::num::wrapping_add_u8(t[0], 2) {
         return false;
     }
     if t.len() - at < part.len() {
@@ -172,32 +172,45 @@ fn call_other(line: &[u8], case: Case, a: &[u8], d: &mut [u8]) -> Reply {
     call_one(line, case, a, d)
 }
 
-// The record of width 1 of a number: its four bytes after the width, two bits each.
-fn one_qubit(number: u8) -> [u8; 5] {
-    [1, number / 64, number / 16 % 4, number / 4 % 4, number % 4]
+// The weight of a row of one letter.
+fn weight(letter: u8) -> u8 {
+    if letter == 0 { 0 } else { 1 }
 }
 
-// The number of a record of width 1; bytes that are no such record have none.
+// The record of width 1 of a number: its two phases and letters, two bits each. Its weights are true.
+fn one_qubit(number: u8) -> [u8; 7] {
+    let x = number / 16 % 4;
+    let z = number % 4;
+    [1, number / 64, weight(x), x, number / 4 % 4, weight(z), z]
+}
+
+// The number of a record of width 1; bytes that are no such record, also for a false weight, have none.
 enum Numbered {
     Number(u8),
     NoRecord,
 }
 
 fn number_of(record: &[u8]) -> Numbered {
-    if record.len() != 5 {
+    if record.len() != 7 {
         return Numbered::NoRecord;
     }
     if record[0] != 1 {
         return Numbered::NoRecord;
     }
-    if 3 < record[1] | record[2] | record[3] | record[4] {
+    if 3 < record[1] | record[3] | record[4] | record[6] {
         return Numbered::NoRecord;
     }
-    Numbered::Number(record[1] % 4 * 64 + record[2] % 4 * 16 + record[3] % 4 * 4 + record[4] % 4)
+    if record[2] != weight(record[3]) {
+        return Numbered::NoRecord;
+    }
+    if record[5] != weight(record[6]) {
+        return Numbered::NoRecord;
+    }
+    Numbered::Number(record[1] % 4 * 64 + record[3] % 4 * 16 + record[4] % 4 * 4 + record[6] % 4)
 }
 
 fn compose_one(a: &[u8], number: u8) -> Numbered {
-    let mut out = [0u8; 5];
+    let mut out = [0u8; 7];
     let answer = clifford_rep::compose(a, &one_qubit(number), &mut out);
     let refusal::Outcome::Done = answer else {
         return Numbered::NoRecord;

@@ -61,14 +61,12 @@ fn valid_tableau(random: &mut Random, width: usize, gates: usize) -> Vec<u8> {
     record
 }
 
-/// The share of a tableau's letters that are not I, in percent.
+/// The share of a tableau's letters that are not I, in percent: each row's weight is the byte behind its phase.
 fn letters(record: &[u8]) -> usize {
     let width = usize::from(record[0]);
-    let rows = record[1..].chunks(width + 1);
-    let letters = rows
-        .flat_map(|row| &row[1..])
-        .filter(|letter| **letter != 0);
-    100 * letters.count() / (2 * width * width)
+    let rows = record[1..].chunks(width + 2);
+    let letters: usize = rows.map(|row| usize::from(row[1])).sum();
+    100 * letters / (2 * width * width)
 }
 
 fn size(record: &[u8]) -> String {

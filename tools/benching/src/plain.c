@@ -30,12 +30,24 @@ static unsigned places(const uint8_t *left, const uint8_t *right, size_t n) {
     return count;
 }
 
-static const uint8_t *row(const uint8_t *t, size_t n, size_t place) { return t + 1 + place * (n + 1); }
+/* A tableau's row: its phase, its weight (the number of its letters other than I), its letters. */
+enum { WEIGHT = 1, LETTERS = 2 };
+
+static size_t row_at(size_t n, size_t place) { return 1 + place * (LETTERS + n); }
+
+static const uint8_t *row(const uint8_t *t, size_t n, size_t place) { return t + row_at(n, place); }
+
+/* The weight of n letters, at most 128. */
+static uint8_t weight(const uint8_t *letters, size_t n) {
+    uint8_t count = 0;
+    for (size_t q = 0; q < n; q++) count = (uint8_t)(count + (letters[q] != 0));
+    return count;
+}
 
 /* letters becomes letters times the row; the answer is the turns met. */
 static unsigned by_row(uint8_t *letters, const uint8_t *t, size_t n, size_t place) {
     const uint8_t *image = row(t, n, place);
-    return PHASE[image[0]] + multiply(letters, image + 1, n);
+    return PHASE[image[0]] + multiply(letters, image + LETTERS, n);
 }
 
 /* Sends n letters through the tableau into dst, which is another buffer; the answer is the turns met. */
@@ -69,8 +81,9 @@ void plain_compose(const uint8_t *a, const uint8_t *b, uint8_t *dst) {
     dst[0] = b[0];
     for (size_t r = 0; r < 2 * n; r++) {
         const uint8_t *from = row(b, n, r);
-        uint8_t *to = dst + 1 + r * (n + 1);
-        to[0] = PHASE[(PHASE[from[0]] + send(a, n, from + 1, to + 1)) & 3];
+        uint8_t *to = dst + row_at(n, r);
+        to[0] = PHASE[(PHASE[from[0]] + send(a, n, from + LETTERS, to + LETTERS)) & 3];
+        to[WEIGHT] = weight(to + LETTERS, n);
     }
 }
 
@@ -80,15 +93,16 @@ void plain_inverse(const uint8_t *t, uint8_t *dst) {
     size_t n = t[0];
     dst[0] = t[0];
     for (size_t r = 0; r < 2 * n; r++) {
-        uint8_t *to = dst + 1 + r * (n + 1);
+        uint8_t *to = dst + row_at(n, r);
         size_t q = r % (n ? n : 1);
         unsigned shift = r < n ? 1 : 0;
         for (size_t c = 0; c < n; c++) {
-            unsigned x = row(t, n, n + c)[1 + q] >> shift & 1;
-            unsigned z = row(t, n, c)[1 + q] >> shift & 1;
-            to[1 + c] = (uint8_t)(x | z << 1);
+            unsigned x = row(t, n, n + c)[LETTERS + q] >> shift & 1;
+            unsigned z = row(t, n, c)[LETTERS + q] >> shift & 1;
+            to[LETTERS + c] = (uint8_t)(x | z << 1);
         }
-        to[0] = PHASE[(4 - (send(t, n, to + 1, sent) & 3)) & 3];
+        to[0] = PHASE[(4 - (send(t, n, to + LETTERS, sent) & 3)) & 3];
+        to[WEIGHT] = weight(to + LETTERS, n);
     }
 }
 
@@ -98,7 +112,7 @@ int plain_is_valid(const uint8_t *t) {
         const uint8_t *left = row(t, n, r);
         if (left[0] > 1) return 0;
         for (size_t other = r + 1; other < 2 * n; other++) {
-            unsigned count = places(left + 1, row(t, n, other) + 1, n);
+            unsigned count = places(left + LETTERS, row(t, n, other) + LETTERS, n);
             if ((count & 1) != (other == r + n)) return 0;
         }
     }
@@ -108,6 +122,8 @@ int plain_is_valid(const uint8_t *t) {
 /* By gate and letter, or two letters: the letters that they become, and 16 where the sign turns. */
 static uint8_t one_letter[ONE_QUBIT_GATES][4];
 static uint8_t two_letters[GATES][16];
+/* What two letters add to their row's weight: 0, 1 or 255, which takes 1 away. A one-qubit gate leaves the weight as it is. */
+static uint8_t two_weights[GATES][16];
 
 /* Fills in a gate's table from its tableau on qubit 0, or on 0 and 1. */
 void plain_gate(unsigned gate, const uint8_t *tableau) {
@@ -116,43 +132,49 @@ void plain_gate(unsigned gate, const uint8_t *tableau) {
         uint8_t letters[2] = {pair & 3, pair >> 2}, image[2] = {0, 0};
         unsigned minus = send(tableau, n, letters, image) & 2;
         uint8_t entry = (uint8_t)(image[0] | image[1] << 2 | minus << 3);
-        if (n == 1)
+        if (n == 1) {
             one_letter[gate][pair] = entry;
-        else
+        } else {
             two_letters[gate][pair] = entry;
+            two_weights[gate][pair] = (uint8_t)(weight(image, 2) - weight(letters, 2));
+        }
     }
 }
 
 /* A gate and its qubits, on every row of a tableau of width n. */
 void plain_play(const uint8_t *gate, uint8_t *dst, size_t n) {
-    uint8_t *end = dst + 1 + 2 * n * (n + 1);
-    size_t q0 = 1 + gate[1], q1 = 1 + gate[2];
+    uint8_t *end = dst + row_at(n, 2 * n);
+    size_t q0 = LETTERS + gate[1], q1 = LETTERS + gate[2];
     if (gate[0] < ONE_QUBIT_GATES) {
         const uint8_t *table = one_letter[gate[0]];
-        for (uint8_t *r = dst + 1; r < end; r += n + 1) {
+        for (uint8_t *r = dst + 1; r < end; r += LETTERS + n) {
             uint8_t entry = table[r[q0]];
             r[q0] = entry & 3;
             r[0] ^= entry >> 4;
         }
         return;
     }
-    const uint8_t *table = two_letters[gate[0]];
-    for (uint8_t *r = dst + 1; r < end; r += n + 1) {
-        uint8_t entry = table[r[q0] | r[q1] << 2];
+    const uint8_t *table = two_letters[gate[0]], *weights = two_weights[gate[0]];
+    for (uint8_t *r = dst + 1; r < end; r += LETTERS + n) {
+        unsigned pair = r[q0] | r[q1] << 2;
+        uint8_t entry = table[pair], more = weights[pair];
         r[q0] = entry & 3;
         r[q1] = entry >> 2 & 3;
         r[0] ^= entry >> 4;
+        r[WEIGHT] = (uint8_t)(r[WEIGHT] + more);
     }
 }
 
 /* The number of steps. */
 size_t plain_run(const uint8_t *list, uint8_t *dst) {
     size_t n = list[1], steps = 0;
-    memset(dst, 0, 1 + 2 * n * (n + 1));
+    memset(dst, 0, row_at(n, 2 * n));
     dst[0] = list[1];
     for (size_t q = 0; q < n; q++) {
-        dst[1 + q * (n + 1) + 1 + q] = 1;
-        dst[1 + (n + q) * (n + 1) + 1 + q] = 2;
+        uint8_t *x = dst + row_at(n, q), *z = dst + row_at(n, n + q);
+        x[WEIGHT] = z[WEIGHT] = 1;
+        x[LETTERS + q] = 1;
+        z[LETTERS + q] = 2;
     }
     for (size_t at = list[4] + 256u * list[5]; at != 0; steps++) {
         const uint8_t *gate = list + 6 * at;

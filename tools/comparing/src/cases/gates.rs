@@ -146,12 +146,13 @@ fn play_gate(compare: &mut Comparison, record: &[u8], gate: u64) {
     }
 }
 
-/// A byte above 3 at every offset of small records.
+/// Bytes above 3, and those beside the right one, at every offset of small records.
 fn play_on_bad_bytes(compare: &mut Comparison) {
     for width in 1..=4 {
         let good = valid_tableau(&mut compare.random, width, 8 * width);
         for place in 1..good.len() {
-            for byte in [4, 255] {
+            let right = good[place];
+            for byte in [4, 255, right.wrapping_sub(1), right + 1] {
                 let mut record = good.clone();
                 record[place] = byte;
                 for gate in [4, 24, 38] {

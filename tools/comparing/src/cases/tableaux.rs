@@ -16,6 +16,7 @@ pub fn all(compare: &mut Comparison) {
     names_of_the_rust_alone();
     every_of_width_one(compare);
     every_pair_of_width_one(compare);
+    weights_of_width_one(compare);
     bad_places(compare);
     for width in 0..=QUBITS {
         for _ in 0..rounds(width) {
@@ -156,7 +157,7 @@ fn names_of_the_rust_alone() {
     let mut count = 0;
     for record in width_one() {
         let mut signed = record;
-        for phase in [1, 3] {
+        for phase in [1, 4] {
             signed[phase] = u8::from(record[phase] == 1);
         }
         let name = Clifford::from_clifford_rep(&read(&record));
@@ -174,24 +175,48 @@ fn every_pair_of_width_one(compare: &mut Comparison) {
     }
 }
 
-/// A byte above 3 at every offset of small records, in every function that takes a tableau.
+/// Weights around the true ones and far above them, of every record of width 1.
+fn weights_of_width_one(compare: &mut Comparison) {
+    let weights = [0, 1, 2, 3, 4, 255];
+    for (turn, good) in width_one().into_iter().enumerate() {
+        for (x, z) in weights.into_iter().flat_map(|x| weights.map(|z| (x, z))) {
+            let mut record = good;
+            (record[2], record[5]) = (x, z);
+            compare.case(&Call::new("is_valid").b1(&record));
+            compare.case(&Call::new("from_clifford_rep").b1(&record));
+            if turn % 8 == 0 {
+                bad_record(compare, &record, &good);
+            }
+        }
+    }
+}
+
+/// A record that may be refused, in every function that takes a tableau; another one beside it where there are two.
+fn bad_record(compare: &mut Comparison, record: &[u8], good: &[u8]) {
+    easy(compare, record);
+    hard(compare, record);
+    let image = string_inside(compare, usize::from(good[0]));
+    compare.some_room(&Call::new("apply").b1(record).b2(&image));
+    compare.some_room(&Call::new("compose").b1(record).b2(good));
+    compare.some_room(&Call::new("compose").b1(good).b2(record));
+    compare.some_room(&Call::new("compose").b1(record).b2(record));
+    for name in ["set_x_image", "set_z_image"] {
+        for slot in 0..u64::from(good[0]) {
+            compare.case(&Call::new(name).d(record).b1(&image).n(&[slot]));
+        }
+    }
+}
+
+/// Bytes above 3, and those beside the right one, at every offset of small records.
 fn bad_places(compare: &mut Comparison) {
     for width in 1..=6 {
         let good = valid_tableau(&mut compare.random, width, 8 * width);
-        let image = any_string(&mut compare.random, width);
         for place in 1..good.len() {
-            for byte in [4, 255] {
+            let right = good[place];
+            for byte in [4, 255, right.wrapping_sub(1), right + 1] {
                 let mut record = good.clone();
                 record[place] = byte;
-                easy(compare, &record);
-                hard(compare, &record);
-                compare.some_room(&Call::new("apply").b1(&record).b2(&image));
-                compare.some_room(&Call::new("compose").b1(&record).b2(&good));
-                compare.some_room(&Call::new("compose").b1(&good).b2(&record));
-                compare.some_room(&Call::new("compose").b1(&record).b2(&record));
-                for name in ["set_x_image", "set_z_image"] {
-                    compare.case(&Call::new(name).d(&record).b1(&image));
-                }
+                bad_record(compare, &record, &good);
             }
         }
     }
@@ -224,6 +249,8 @@ fn of_width(compare: &mut Comparison, width: usize) {
         compare.some_room(&Call::new("compose").b1(record).b2(&valid));
         compare.some_room(&Call::new("compose").b1(&any).b2(record));
         compare.some_room(&Call::new("compose").b1(record).b2(record));
+        let second = compare.random.below(bad.len());
+        compare.some_room(&Call::new("compose").b1(record).b2(&bad[second]));
     }
     for name in ["inverse", "support_qubits", "display"] {
         compare.each_room(&Call::new(name).b1(&valid));

@@ -1,6 +1,6 @@
 //! The scope document's questions on entry, written a second time and plainly: which refusal a call meets, or how many bytes of its
-//! destination the answer takes. It knows lengths and numbers, which letters differ, which phases are real, and nothing
-//! of products. The lines of refusals are those of docs/REFUSALS.md.
+//! destination the answer takes. It knows lengths and numbers, which letters differ, how many a row has, which phases are real, and
+//! nothing of products. The lines of refusals are those of docs/REFUSALS.md.
 
 mod list;
 mod refusals;
@@ -19,8 +19,14 @@ pub const STRING: usize = 129;
 pub type Refusal = (u64, u64);
 pub type Questions = Result<(), Refusal>;
 
+/// Two rows for each qubit, each of a phase, a weight and a letter for each qubit.
 pub fn tableau_length(width: usize) -> usize {
-    1 + 2 * width * (width + 1)
+    1 + 2 * width * (width + 2)
+}
+
+/// Where a row starts. Its weight is the next byte.
+pub fn row_start(width: usize, place: usize) -> usize {
+    1 + place * (width + 2)
 }
 
 /// The refusal, or how many bytes are written; the room is asked last.
@@ -50,7 +56,7 @@ pub fn value(call: &Call) -> Option<u64> {
 
 /// Real phases, and two different letters other than I.
 fn valid_of_width_one(record: &[u8]) -> bool {
-    matches!(record, [1, 0 | 1, x, 0 | 1, z] if x != z && *x > 0 && *z > 0)
+    matches!(record, [1, 0 | 1, _, x, 0 | 1, _, z] if x != z && *x > 0 && *z > 0)
 }
 
 fn ask(yes: bool, number: u64, detail: u64) -> Questions {
@@ -74,7 +80,9 @@ pub fn needs(call: &Call) -> Result<usize, Refusal> {
         "from_sparse_str" => text::sparse(&call.b1).map(|()| STRING),
         "from_dense_str" => text::dense(&call.b1).map(|()| STRING),
         "from_str" => text::either(&call.b1).map(|()| STRING),
-        "to_sparse_str" => string(&call.b1).map(|()| text::sparse_length(&call.b1)),
+        "to_sparse_str" => {
+            string(&call.b1).map(|()| text::sparse_length(call.b1[0], &call.b1[1..]))
+        }
         "identity" => width(n1).map(tableau_length),
         "x_image" | "z_image" => {
             let width = tableau(&call.b1)?;
@@ -119,9 +127,10 @@ fn small(byte: u64) -> Questions {
     ask(byte <= 3, 3, 0)
 }
 
-fn small_bytes(bytes: &[u8], from: usize) -> Questions {
-    match bytes[from..].iter().position(|byte| *byte > 3) {
-        Some(place) => Err((3, (from + place) as u64)),
+/// Phases and letters that stand at an offset.
+fn small_bytes(bytes: &[u8], offset: usize) -> Questions {
+    match bytes.iter().position(|byte| *byte > 3) {
+        Some(place) => Err((3, (offset + place) as u64)),
         None => Ok(()),
     }
 }
@@ -149,14 +158,24 @@ fn strings(call: &Call) -> Questions {
     string(&call.b2)
 }
 
-/// The width of a tableau that passes.
+/// The width of a tableau that passes: every phase and letter is asked before the first weight.
 fn tableau(bytes: &[u8]) -> Result<usize, Refusal> {
     let Some(first) = bytes.first() else {
         return Err((2, 0));
     };
     let width = width(u64::from(*first))?;
     ask(bytes.len() == tableau_length(width), 2, 0)?;
-    small_bytes(bytes, 1)?;
+    for place in 0..2 * width {
+        let (row, start) = (row(bytes, width, place), row_start(width, place));
+        small_bytes(&row[..1], start)?;
+        small_bytes(&row[2..], start + 2)?;
+    }
+    for place in 0..2 * width {
+        let row = row(bytes, width, place);
+        let letters = row[2..].iter().filter(|letter| **letter != 0).count();
+        let offset = row_start(width, place) + 1;
+        ask(usize::from(row[1]) == letters, 24, offset as u64)?;
+    }
     Ok(width)
 }
 
@@ -228,14 +247,15 @@ fn string_tableau(record: &[u8]) -> usize {
     tableau_length(last.map_or(1, |qubit| qubit + 1))
 }
 
+/// A phase, a weight and the letters.
 pub fn row(record: &[u8], width: usize, place: usize) -> &[u8] {
-    &record[1 + place * (width + 1)..][..width + 1]
+    &record[row_start(width, place)..row_start(width, place + 1)]
 }
 
 /// How many qubits: each whose rows are changed, and each with a letter in such a row.
 fn support(record: &[u8], width: usize) -> usize {
     let plain = |row: &[u8], qubit: usize, letter: u8| {
-        row[0] == 0 && (0..width).all(|q| row[1 + q] == if q == qubit { letter } else { 0 })
+        row[0] == 0 && (0..width).all(|q| row[2 + q] == if q == qubit { letter } else { 0 })
     };
     let mut touched = vec![false; width];
     for qubit in 0..width {
@@ -244,7 +264,7 @@ fn support(record: &[u8], width: usize) -> usize {
             continue;
         }
         for (q, place) in touched.iter_mut().enumerate() {
-            *place |= q == qubit || x[1 + q] != 0 || z[1 + q] != 0;
+            *place |= q == qubit || x[2 + q] != 0 || z[2 + q] != 0;
         }
     }
     touched.into_iter().filter(|yes| *yes).count()

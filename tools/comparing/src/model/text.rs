@@ -96,12 +96,12 @@ fn digits(number: usize) -> usize {
 }
 
 /// A sign, an i for the phases 2 and 3; entries with one space between, or I.
-pub fn sparse_length(row: &[u8]) -> usize {
-    let entries: Vec<usize> = (0..row.len() - 1)
-        .filter(|qubit| row[1 + qubit] != 0)
+pub fn sparse_length(phase: u8, letters: &[u8]) -> usize {
+    let entries: Vec<usize> = (0..letters.len())
+        .filter(|qubit| letters[*qubit] != 0)
         .map(|qubit| 1 + digits(qubit))
         .collect();
-    let sign = 1 + usize::from(row[0] > 1);
+    let sign = 1 + usize::from(phase > 1);
     let written = entries.iter().sum::<usize>() + entries.len().saturating_sub(1);
     sign + if entries.is_empty() { 1 } else { written }
 }
@@ -110,7 +110,8 @@ pub fn sparse_length(row: &[u8]) -> usize {
 pub fn display_length(record: &[u8], width: usize) -> usize {
     let line = |place: usize| {
         let label = "  X_ -> \n".len() + digits(place % width);
-        label + sparse_length(row(record, width, place))
+        let row = row(record, width, place);
+        label + sparse_length(row[0], &row[2..])
     };
     format!("CliffordRep({width} qubits):\n").len() + (0..2 * width).map(line).sum::<usize>()
 }

@@ -3,8 +3,8 @@
 use super::answer::{Answer, counted, written};
 use super::line::Call;
 use super::records::{
-    QUBITS, STRING_LENGTH, below, read_string, read_tableau, tableau_length, write_row,
-    write_string, write_tableau,
+    QUBITS, STRING_LENGTH, below, one_qubit_number, one_qubit_record, read_string, read_tableau,
+    row_offset, tableau_length, write_image, write_string, write_tableau,
 };
 use crate::clifford_rep::CliffordRep;
 
@@ -28,10 +28,10 @@ fn image(call: &Call, half: Half) -> Option<Answer> {
         Half::X => (slot, tableau.x_image(slot)),
         Half::Z => (width + slot, tableau.z_image(slot)),
     };
-    let offset = 1 + row * (width + 1);
+    let offset = row_offset(width, row);
     assert_eq!(
-        write_row(image, width).as_deref(),
-        Some(&call.b1[offset..offset + width + 1])
+        write_image(image, width).as_deref(),
+        Some(&call.b1[offset..row_offset(width, row + 1)])
     );
     Some(Answer::Value(offset as u64))
 }
@@ -75,14 +75,12 @@ fn compose(call: &Call) -> Option<Answer> {
     of_tableau(&read_tableau(&call.b1)?.compose(&read_tableau(&call.b2)?))
 }
 
-/// `compose` with each record of width 1 in turn; two bits for each byte after the width.
+/// `compose` with each record of width 1 in turn, by their numbers.
 fn compose_each(call: &Call) -> Option<Answer> {
     let left = read_tableau(&call.b1)?;
     let numbers = (0..=255u8).map(|number| {
-        let right = [6, 4, 2, 0].map(|bits| number >> bits & 3);
-        let right = read_tableau(&[&[1], &right[..]].concat())?;
-        let product = write_tableau(&left.compose(&right))?;
-        (product.len() == 5).then(|| product[1..].iter().fold(0, |sum, byte| sum << 2 | byte))
+        let right = read_tableau(&one_qubit_record(number))?;
+        one_qubit_number(&write_tableau(&left.compose(&right))?)
     });
     Some(written(numbers.collect::<Option<Vec<u8>>>()?))
 }

@@ -2,7 +2,9 @@
 
 use crate::clifford::Clifford;
 use crate::clifford_rep::CliffordRep;
-use crate::driver::records::{QUBITS, STRING_LENGTH, tableau_length, write_tableau};
+use crate::driver::records::{
+    QUBITS, STRING_LENGTH, offset_of, one_qubit_record, put_weights, tableau_length, write_tableau,
+};
 
 /// SplitMix64.
 pub struct Random(u64);
@@ -60,27 +62,26 @@ impl Random {
 
     /// A record of this width with any phases and letters, seldom a valid tableau.
     pub fn any_tableau(&mut self, width: usize) -> Vec<u8> {
-        let mut record = vec![width as u8];
-        record.extend((1..tableau_length(width)).map(|_| self.below(4) as u8));
-        record
+        tableau(width, || {
+            (0..1 + width).map(|_| self.below(4) as u8).collect()
+        })
     }
 
     /// A record of this width with any phases, and letters in runs: its line is short.
     pub fn drawn_tableau(&mut self, width: usize) -> Vec<u8> {
-        let mut record = vec![width as u8];
-        for _ in 0..2 * width {
-            record.push(self.below(4) as u8);
+        tableau(width, || {
+            let mut row = vec![self.below(4) as u8];
             let (from, to) = (self.below(width), self.below(width));
             let (outside, inside) = (self.below(4) as u8, self.below(4) as u8);
-            record.extend((0..width).map(|qubit| {
+            row.extend((0..width).map(|qubit| {
                 if from <= qubit && qubit <= to {
                     inside
                 } else {
                     outside
                 }
             }));
-        }
-        record
+            row
+        })
     }
 
     /// A gate of the Rust on random qubits below the width, which is at least 1.
@@ -107,13 +108,34 @@ impl Random {
         write_tableau(&tableau).unwrap()
     }
 
-    /// The record with one of its phases or letters changed to another.
+    /// The record with one of its phases or letters changed to another, and its weights true.
     pub fn damaged(&mut self, record: &[u8]) -> Vec<u8> {
         let mut record = record.to_vec();
-        let place = 1 + self.below(record.len() - 1);
+        let place = self.place(&record);
         record[place] = (record[place] + 1 + self.below(3) as u8) % 4;
+        put_weights(&mut record);
         record
     }
+
+    /// The offset of a phase or a letter of a record whose width is at least 1.
+    pub fn place(&mut self, record: &[u8]) -> usize {
+        let width = usize::from(record[0]);
+        let place = self.below(2 * width * (1 + width));
+        offset_of(width, place / (1 + width), place % (1 + width))
+    }
+}
+
+/// The record whose rows, one after another, have these phases and letters.
+pub fn tableau(width: usize, mut row: impl FnMut() -> Vec<u8>) -> Vec<u8> {
+    let mut record = vec![0; tableau_length(width)];
+    record[0] = width as u8;
+    for number in 0..2 * width {
+        for (place, byte) in row().into_iter().enumerate() {
+            record[offset_of(width, number, place)] = byte;
+        }
+    }
+    put_weights(&mut record);
+    record
 }
 
 /// A string record with these letters.
@@ -135,11 +157,5 @@ pub fn room(length: usize, more: usize) -> Vec<u8> {
 
 /// Every record of width 1.
 pub fn one_qubit_tableaux() -> Vec<Vec<u8>> {
-    let digit = |number: usize, place: u32| (number / 4usize.pow(place) % 4) as u8;
-    (0..256)
-        .map(|number| {
-            let [x, xl, z, zl] = [3, 2, 1, 0].map(|place| digit(number, place));
-            vec![1, x, xl, z, zl]
-        })
-        .collect()
+    (0..=255).map(one_qubit_record).collect()
 }

@@ -1,9 +1,9 @@
 //! Tableau records.
 
 use super::Book;
-use super::inputs::{Random, one_qubit_tableaux, room, string};
+use super::inputs::{Random, one_qubit_tableaux, room, string, tableau};
 use crate::driver::line::Call;
-use crate::driver::records::{QUBITS, STRING_LENGTH, tableau_length};
+use crate::driver::records::{QUBITS, STRING_LENGTH};
 
 pub fn fill(book: &mut Book) {
     let random = &mut Random::new(3);
@@ -29,11 +29,9 @@ fn identities(book: &mut Book) {
     }
 }
 
-/// Records whose rows are easy to write: every byte after the width is the same.
+/// Records whose rows are easy to write: every phase and letter is the same.
 fn plain(width: usize, byte: u8) -> Vec<u8> {
-    let mut record = vec![byte; tableau_length(width)];
-    record[0] = width as u8;
-    record
+    tableau(width, || vec![byte; 1 + width])
 }
 
 fn images(book: &mut Book, random: &mut Random) {
@@ -127,8 +125,16 @@ fn of_one(book: &mut Book, random: &mut Random) {
     );
     ask(book, &[0], 0);
     ask(book, &[0], 2);
-    ask(book, &[2, 0, 0, 1, 0, 0, 1, 0, 2, 0, 0, 0, 2], 1);
-    ask(book, &[2, 0, 2, 0, 0, 0, 1, 0, 1, 1, 0, 2, 2], 0);
+    ask(
+        book,
+        &[2, 0, 1, 0, 1, 0, 1, 0, 1, 0, 1, 2, 0, 0, 1, 0, 2],
+        1,
+    );
+    ask(
+        book,
+        &[2, 0, 1, 2, 0, 0, 1, 0, 1, 0, 2, 1, 1, 0, 2, 2, 2],
+        0,
+    );
     book.comment("Valid tableaux, copies with one byte changed, and any phases and letters.");
     for turn in 0..36 {
         let width = 1 + turn % 6;

@@ -6,7 +6,7 @@ use crate::clifford_rep::CliffordRep;
 use crate::driver::answer::{Answer, written};
 use crate::driver::line::Call;
 use crate::driver::records::{
-    read_string, read_tableau, tableau_length, write_string, write_tableau,
+    read_string, read_tableau, tableau_length, weight_offset, write_string, write_tableau,
 };
 
 /// How many strings are sent through a list, each with a phase of its own.
@@ -99,20 +99,26 @@ fn play(
     );
 }
 
-/// One call that is refused: too wide, of a wrong length, with a byte of 4, or with a destination short by one.
+/// One call that is refused: too wide, of a wrong length, with a byte of 4, with a false weight, or with a destination short by one.
 fn refused(book: &mut Book, random: &mut Random, call: &Call, tableau: &[u8], length: usize) {
     let whole = call.clone().b1(tableau).d(&room(length, 0));
-    match random.below(4) {
+    let mut bad = tableau.to_vec();
+    match random.below(5) {
         0 => book.add_refused(&whole.b1(&[129]), 1, 0),
         1 => {
-            let longer = [tableau, &[0]].concat();
-            book.add_refused(&whole.b1(&longer), 2, 0);
+            bad.push(0);
+            book.add_refused(&whole.b1(&bad), 2, 0);
         }
         2 if tableau.len() > 1 => {
-            let place = 1 + random.below(tableau.len() - 1);
-            let mut bad = tableau.to_vec();
+            let place = random.place(tableau);
             bad[place] = 4;
             book.add_refused(&whole.b1(&bad), 3, place as u64);
+        }
+        3 if tableau.len() > 1 => {
+            let width = usize::from(tableau[0]);
+            let place = weight_offset(width, random.below(2 * width));
+            bad[place] = bad[place].wrapping_sub(1);
+            book.add_refused(&whole.b1(&bad), 24, place as u64);
         }
         _ => book.add_refused(&whole.d(&room(length - 1, 0)), 7, 0),
     }
