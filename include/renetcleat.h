@@ -65,7 +65,7 @@ enum rc_refusal {
     RC_REFUSED_LIST_RECORD = 17, /* the head or a fixed zero is wrong; the record */
     RC_REFUSED_LINK = 18,        /* a next index is not below the record count; the record holding it */
     RC_REFUSED_LOOP = 19,        /* the chain does not end; the record met again */
-    RC_REFUSED_FALSE_WEIGHT = 24       /* a row's weight is false, asked directly after 3; the offset of the first such weight */
+    RC_REFUSED_FALSE_WEIGHT = 24 /* a row's weight is false, asked directly after 3; the offset of the first such weight */
 };
 
 /* Gates by number, named as in PECOS's `Clifford`; DG is the inverse. */
