@@ -6,3 +6,4 @@ pub mod NamedGates
 pub mod Readings
 pub mod Witnesses
 pub mod DisplayLengths
+pub mod Weights

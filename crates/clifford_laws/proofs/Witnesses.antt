@@ -7,7 +7,7 @@ use native.Mathlib.Omega.{arith}
 use lib.ListN.{length, take, drop, getD, length-append}
 use lib.Seq.{take-at, drop-at}
 use Rattle.pauli.specs.declared.refusal.Refusal.{Refusal}
-use Rattle.pauli.specs.declared.refusal.Refusal.the-variants.{BadByte, Room}
+use Rattle.pauli.specs.declared.refusal.Refusal.the-variants.{BadByte, Room, FalseWeight}
 use Rattle.pauli.specs.declared.refusal.Outcome.the-variants.{Done, Refused}
 use Rattle.pauli_group.specs.Phase.{_·_, negate, turn, isReal}
 use Rattle.pauli_group.specs.Letter.{notI, letterProduct, letterPhase, letterMul, anticommute}
@@ -24,7 +24,7 @@ use Rattle.clifford_gates.specs.Gates.{oneQubitGates, twoQubitGates}
 use Rattle.clifford_gates.specs.GateTableaux.{imageString, gateOnEach, onQubit, pairString, pairRow, onQubits}
 use Rattle.clifford_gates.specs.GateNumbers.{oneQubitGate, twoQubitGate, gateTableau}
 use Rattle.clifford_laws.specs.WayBack.{Call, isDone, callAnswer, accepts, stepsOf, Step, Steps, none, step, productFrom, productOf, steps, recordThen, recordNow}
-use Rattle.clifford_laws.specs.Witnesses.{firstLetter, Witness, hRecord, szRecord, cxRecord, fdgRecord, f4dgRecord, afterTwo, afterThree, call, badCall, shortCall, oneStep, threeSteps}
+use Rattle.clifford_laws.specs.Witnesses.{firstLetter, firstWeight, Witness, hRecord, szRecord, cxRecord, fdgRecord, f4dgRecord, afterTwo, afterThree, call, badCall, falseCall, shortCall, oneStep, threeSteps}
 use Rattle.clifford_laws.proofs.WayBacks.{after-steps, steps-more, steps-kept, steps-nil, next-is, next-kept}
 use Rattle.clifford_laws.proofs.WayBackSteps.{way-back, record-then}
 use Rattle.clifford_laws.proofs.Readings.{same-is}
@@ -90,16 +90,18 @@ compositions = record {
 pub record Replies : Type 0 where
   pub one : callAnswer (identityRecord 1) (call hRecord (recordLength 1 + 1)) ≡ Done
   pub one-bad : callAnswer hRecord badCall ≡ Refused (BadByte (firstLetter 1))
+  pub one-false : callAnswer hRecord falseCall ≡ Refused (FalseWeight (firstWeight 1))
   pub one-short : callAnswer hRecord shortCall ≡ Refused Room
   pub first : callAnswer (identityRecord 2) (call cxRecord (recordLength 2)) ≡ Done
   pub short : callAnswer cxRecord shortCall ≡ Refused Room
   pub second : callAnswer cxRecord (call hRecord (recordLength 2)) ≡ Done
   pub bad : callAnswer afterTwo badCall ≡ Refused (BadByte (firstLetter 1))
+  pub false-weight : callAnswer afterTwo falseCall ≡ Refused (FalseWeight (firstWeight 1))
   pub third : callAnswer afterTwo (call szRecord (recordLength 2 + 1)) ≡ Done
 
 pub replies : Replies
 unfolding gateRecord gateTableau oneQubitGate oneQubitGates twoQubitGate twoQubitGates onQubit onQubits gateOnEach imageString pairString pairRow composeRecord tableauOf letterIn decodeRow compose widen apply applyTo imageOf rowImage identityString scale mul phaseOfLetters productTo letterPhase letterMul letterProduct _·_ negate turn phaseOf letterOf callAnswer composeAnswer composeQuestions tableauQuestions widthQuestion lengthQuestion rowsAsked codesQuestion weightsQuestion weightQuestion rowQuestion rowPart rowOffset letterPlace lettersOf bytesQuestion firstBad ask _andThen_ roomQuestion recordLength rowLength firstPlace identityRecord tableauRecord encodeRow rowOf joined listed identityTableau single phaseByte letterByte qubits weightTo hasLetter notI countTo
-replies = record { one = refl; one-bad = refl; one-short = refl; first = refl; short = refl; second = refl; bad = refl; third = refl }
+replies = record { one = refl; one-bad = refl; one-false = refl; one-short = refl; first = refl; short = refl; second = refl; bad = refl; false-weight = refl; third = refl }
 
 record Valids : Type 0 where
   h-valid : recordValid hRecord ≡ true
@@ -116,12 +118,12 @@ valids = record { h-valid = refl; sz-valid = refl; cx-valid = refl; h-width = re
 abbrev good-step : {n : ℕ} {a : List ℕ} → recordValid a ≡ true → widthOf a ≤ n → Step n a
 good-step v l = record { valid = v; narrow = l }
 
--- back to the start, over the step and both refused calls
+-- back to the start, over the step and the refused calls
 pub witness : Witness 1 1 oneStep [] (hRecord ∷ []) hRecord (identityRecord 1) hRecord
 unfolding productOf productFrom
 witness =
     witnessed 1 1 oneStep [] (hRecord ∷ []) (omega arith) (omega arith)
-    (taken (replies .one) (compositions .h-first) (kept (replies .one-bad) (kept (replies .one-short) end)))
+    (taken (replies .one) (compositions .h-first) (kept (replies .one-bad) (kept (replies .one-false) (kept (replies .one-short) end))))
     (step (good-step (valids .h-valid) (omega (arith, valids .h-width))) none) refl (compositions .h-first)
 
 -- back to step 1 of 3, by a product of width 1 where the record has width 2
@@ -130,7 +132,7 @@ unfolding productOf productFrom
 witness-between =
     witnessed 2 1 threeSteps (cxRecord ∷ []) (hRecord ∷ szRecord ∷ []) (omega arith) (omega arith)
     (taken (replies .first) (compositions .cx-first)
-    (kept (replies .short) (taken (replies .second) refl (kept (replies .bad) (taken (replies .third) refl end)))))
+    (kept (replies .short) (taken (replies .second) refl (kept (replies .bad) (kept (replies .false-weight) (taken (replies .third) refl end))))))
     (step (good-step (valids .cx-valid) (omega (arith, valids .cx-width))) (step (good-step (valids .h-valid) (omega (arith, valids .h-width))) (step (good-step (valids .sz-valid) (omega (arith, valids .sz-width))) none)))
     (compositions .cx-first)
     (ap (composeRecord szRecord) (compositions .h-first) ∙ compositions .fdg-is)

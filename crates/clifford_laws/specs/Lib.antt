@@ -2,3 +2,4 @@ pub mod WayBack
 pub mod Witnesses
 pub mod NamedGates
 pub mod Readings
+pub mod Weights

@@ -3,7 +3,7 @@ use Prim.Native.Nat.{ℕ, _+_, _-_}
 use mathlib.Core.Path.{_≡_}
 use mathlib.Core.List.{List, [], _∷_, _++_}
 use lib.ListN.{length, replicate, set}
-use Rattle.clifford.specs.Layout.{letterPlace, rowOffset, recordLength}
+use Rattle.clifford.specs.Layout.{weightPlace, letterPlace, rowOffset, recordLength}
 use Rattle.clifford.specs.Tableaux.{composeRecord}
 use Rattle.clifford.specs.GateAnswers.{gateRecord}
 use Rattle.clifford_laws.specs.WayBack.{Call, productOf, WayBack, steps, recordThen, recordNow}
@@ -40,23 +40,29 @@ afterTwo = composeRecord hRecord cxRecord
 abbrev pub afterThree : List ℕ
 afterThree = composeRecord szRecord afterTwo
 
--- a call with so many bytes of room; one that is refused with 3 at its first letter, and one with 7
+-- a call with so many bytes of room; one that is refused with 3 at its first letter, one with 24 at its first weight, and one with 7
 abbrev pub call : List ℕ → ℕ → Call
 call a room = record { a = a; destination = replicate room 0 }
 
 abbrev pub firstLetter : ℕ → ℕ
 firstLetter w = rowOffset w 0 + letterPlace 0
 
+abbrev pub firstWeight : ℕ → ℕ
+firstWeight w = rowOffset w 0 + weightPlace
+
 abbrev pub badCall : Call
 badCall = call (set hRecord (firstLetter 1) 4) (recordLength 2)
+
+abbrev pub falseCall : Call
+falseCall = call (set hRecord (firstWeight 1) 2) (recordLength 2)
 
 abbrev pub shortCall : Call
 shortCall = call hRecord (recordLength 1 - 1)
 
--- a step and two refused calls
+-- a step and three refused calls
 abbrev pub oneStep : List Call
-oneStep = call hRecord (recordLength 1 + 1) ∷ badCall ∷ shortCall ∷ []
+oneStep = call hRecord (recordLength 1 + 1) ∷ badCall ∷ falseCall ∷ shortCall ∷ []
 
 -- three steps, the last two narrower than the record, with refused calls between
 abbrev pub threeSteps : List Call
-threeSteps = call cxRecord (recordLength 2) ∷ shortCall ∷ call hRecord (recordLength 2) ∷ badCall ∷ call szRecord (recordLength 2 + 1) ∷ []
+threeSteps = call cxRecord (recordLength 2) ∷ shortCall ∷ call hRecord (recordLength 2) ∷ badCall ∷ falseCall ∷ call szRecord (recordLength 2 + 1) ∷ []
