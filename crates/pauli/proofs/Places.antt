@@ -14,7 +14,7 @@ use borrow.Author.Tests.{lt-ltb, le-ltb, le-leb, lt-leb}
 use borrow.Author.Needs.{needs}
 use Rattle.pauli.specs.Places.{listed, firstPlace}
 use Rattle.pauli.specs.Questions.{firstBad}
-use Rattle.pauli.specs.Inside.Turns.{NoneAbove}
+use Rattle.pauli.specs.Rows.{largestTo}
 
 -- ---- lists by place
 module _ {A : Type 0} where
@@ -101,31 +101,44 @@ none-left {n} {f} {i} m h = first-is n f i (m .within) (m .none) (λ l. absurd (
     lt-le : i < n → n ≤ i → ⊥
     lt-le l h = omega arith
 
--- no byte above m before place i
-pub above-none : (s : List ℕ) (m : ℕ) → NoneAbove s 0 m
-above-none s m = record { each = λ k h. absurd (not-suc-le-zero h) }
+-- the largest byte before place i
+pub record LargestTo (s : List ℕ) (i m : ℕ) : Type 0 where
+  pub within : i ≤ length s
+  pub is : m ≡ largestTo i s
 
-pub above-more : {s : List ℕ} {i m n : ℕ} → NoneAbove s i m → n ≡ max m (getD s i 0) → NoneAbove s (i + 1) n
-above-more {s} {i} a h = record {
-  each = λ k l. elim (ℕ-discrete k i) [
-    | yes e ↦ omega (arith, ap (λ (j : ℕ). getD s j 0) e, h)
-    | no d ↦ omega (arith, a .each k (omega (arith, l, d)), h)
-  ];
+pub largest-start : (s : List ℕ) → LargestTo s 0 0
+unfolding largestTo
+largest-start s = record { within = omega arith; is = refl }
+
+pub largest-step : {s : List ℕ} {i m n : ℕ} → LargestTo s i m → i < length s → n ≡ max m (getD s i 0) → LargestTo s (i + 1) n
+unfolding largestTo
+largest-step {s} {i} a l h = record {
+  within = omega arith;
+  is = h ∙ ap (λ (k : ℕ). max k (getD s i 0)) (a .is) ∙ ap (λ (j : ℕ). largestTo j s) (sym (add-one i));
 }
 
-pub above-all : {s : List ℕ} {i m : ℕ} → NoneAbove s i m → length s ≤ i → NoneAbove s (length s) m
-above-all a h = record { each = λ k l. a .each k (omega (arith, l, h)) }
+pub largest-all : {s : List ℕ} {i m : ℕ} → LargestTo s i m → length s ≤ i → m ≡ largestTo (length s) s
+largest-all {s} {i} a h = let e : i ≡ length s = omega (arith, a .within) in a .is ∙ ap (λ (j : ℕ). largestTo j s) e
 
-pub none-bad : {s : List ℕ} {m : ℕ} → NoneAbove s (length s) m → m < 4 → length s ≡ firstBad s
+-- no byte is above it
+largest-each : (n : ℕ) (s : List ℕ) (k : ℕ) → k < n → getD s k 0 ≤ largestTo n s
+unfolding largestTo
+largest-each zero s k h = absurd (not-suc-le-zero h)
+largest-each (suc n) s k h = elim (ℕ-discrete k n) [
+  | yes e ↦ omega (arith, ap (λ (j : ℕ). getD s j 0) e)
+  | no d ↦ omega (arith, largest-each n s k (omega arith))
+]
+
+pub none-bad : (s : List ℕ) {m : ℕ} → m ≡ largestTo (length s) s → m < 4 → length s ≡ firstBad s
 unfolding firstBad
-none-bad {s} a h =
+none-bad s e h =
     first-is
-    (length s) (λ k. ltb 3 (getD s k 0)) (length s) (le-refl (length s)) (λ k l. le-ltb 3 (getD s k 0) (omega (arith, a .each k l))) (λ l. absurd (never l))
+    (length s) (λ k. ltb 3 (getD s k 0)) (length s) (le-refl (length s)) (λ k l. le-ltb 3 (getD s k 0) (omega (arith, largest-each (length s) s k l))) (λ l. absurd (never l))
   where
     never : length s < length s → ⊥
     never l = omega arith
 
-pub ruleset largest-bytes = (above-none, above-more, above-all, needs)
+pub ruleset largest-bytes = (largest-start, largest-step, largest-all, needs)
 
 pub ruleset scans = (none-bad, none-start, none-more, none-found, none-left, lt-ltb, le-ltb, le-leb, lt-leb, needs)
 

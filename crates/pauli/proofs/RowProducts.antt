@@ -2,7 +2,7 @@
 use mathlib.Core.Path.{_≡_, refl, sym, ap, ap₂, _∙_}
 use mathlib.Core.Bool.{Bool, cond}
 use mathlib.Core.List.{List, _++_}
-use Prim.Native.Nat.{ℕ, zero, suc, _+_, _%_, _<_, _≤_, zero-le}
+use Prim.Native.Nat.{ℕ, zero, suc, _+_, _%_, _<_, _≤_, max, zero-le}
 use native.Mathlib.Numerals.{add-one}
 use native.Mathlib.Omega.{arith}
 use lib.ListN.{length, drop, getD, set, List·getD-append}
@@ -14,9 +14,10 @@ use Rattle.pauli_group.specs.Papers.{power}
 use Rattle.pauli_group.proofs.Laws.{·-assoc, ·-one, anticommute-I}
 use Rattle.pauli_group.proofs.Products.{countTo-le, countTo-ext, countTo-cut}
 use Rattle.pauli.specs.Layout.{phaseByte, phaseOf, letterByte, letterOf}
-use Rattle.pauli.specs.Rows.{productPhaseByte, productLetterByte, letterBytesProduct, letterAt, productLetters, productPhase, placesOf, letterCount, shorter, RowTimes}
-use Rattle.pauli.specs.Inside.Turns.{LetterTurns, PhaseTurns, anticommuting, lettered}
-use Rattle.pauli.proofs.Places.{length-listed, getD-listed, fill, fill-more, fill-all, length-fill, fill-at}
+use Rattle.pauli.specs.Rows.{productPhaseByte, productLetterByte, letterBytesProduct, letterAt, productLetters, productPhase, placesOf, letterCount, Scanned, shorter, RowTimes}
+use Rattle.pauli.specs.Inside.Turns.{LetterTurns, PhaseTurns, anticommuting, lettered, scannedWith}
+use Rattle.pauli.specs.declared.rows.LetterScan.{LetterScan}
+use Rattle.pauli.proofs.Places.{length-listed, getD-listed, LargestTo, largest-start, largest-step, largest-all, fill, fill-more, fill-all, length-fill, fill-at}
 use Rattle.pauli.proofs.Records.{phase-back}
 use Rattle.pauli.proofs.Turns.{power-sum}
 
@@ -151,6 +152,29 @@ letters-step a h m et eu = counted-step h m et eu
 pub letters-all : (a : List ℕ) {i c : ℕ} → length a ≤ i → Counted (letterHere a) (length a) i c → c ≡ letterCount a % 256
 unfolding letterHere letterCount
 letters-all a k m = counted-end k m
+
+-- both in one pass, the largest byte too
+pub record ScannedTo (s : List ℕ) (i : ℕ) (r : LetterScan) : Type 0 where
+  pub largest : LargestTo s i (r .largest)
+  pub letters : Counted (letterHere s) (length s) i (r .letters)
+
+pub scan-start : (s : List ℕ) → ScannedTo s 0 (record { largest = 0; letters = 0 })
+scan-start s = record { largest = largest-start s; letters = counted-none }
+
+pub scan-step : {s : List ℕ} {i : ℕ} {r n : LetterScan} → ScannedTo s i r → i < length s → n ≡ scannedWith r (getD s i 0) → ScannedTo s (i + 1) n
+unfolding scannedWith
+scan-step {s} {i} {r} a h e = rw e (record { largest = largest-step (a .largest) h refl; letters = letters-step s h (a .letters) refl refl })
+
+pub scan-all : {s : List ℕ} {i : ℕ} {r : LetterScan} → ScannedTo s i r → length s ≤ i → Scanned s r
+scan-all {s} a h = record { largest = largest-all (a .largest) h; letters = letters-all s h (a .letters) }
+
+pub ruleset letter-scans = (scan-start, scan-step, scan-all, needs)
+
+pub scan-more : (r : LetterScan) (x : ℕ) {m t u : ℕ} → m ≡ max (r .largest) x → t ≡ lettered x → u ≡ (r .letters + t) % 256 → record { largest = m; letters = u } ≡ scannedWith r x
+unfolding scannedWith
+scan-more r x em et eu = ap₂ (λ (l : ℕ) (c : ℕ). record { largest = l; letters = c }) em (eu ∙ ap (λ (k : ℕ). (r .letters + k) % 256) et)
+
+pub ruleset letters-scanned = (scan-more, needs)
 
 -- up to 255 places the count is exact
 count-exact : (n : ℕ) (a b : List ℕ) → n ≤ 255 → placesOf n a b % 256 ≡ placesOf n a b

@@ -1,5 +1,5 @@
 -- Rows of letter bytes, as far as both rows reach; a byte above 3 is read as 3. What the kernels promise.
-use Prim.Native.Nat.{ℕ, min}
+use Prim.Native.Nat.{ℕ, zero, suc, _%_, min, max}
 use mathlib.Core.Path.{_≡_}
 use mathlib.Core.List.{List, [], _∷_, _++_}
 use lib.ListN.{length, take, drop, getD}
@@ -9,6 +9,7 @@ use Rattle.pauli_group.specs.PauliString.{productTo, countTo}
 use Rattle.pauli.specs.Places.{listed}
 use Rattle.pauli.specs.Layout.{phaseByte, phaseOf, letterByte, letterOf}
 use Rattle.pauli.specs.declared.algebra.PhasedLetter.{PhasedLetter}
+use Rattle.pauli.specs.declared.rows.LetterScan.{LetterScan}
 
 -- two letter bytes multiplied: the phase byte, the letter byte, and both
 unfoldable pub productPhaseByte : ℕ → ℕ → ℕ
@@ -46,6 +47,16 @@ placesOf n a b = countTo n (λ q. anticommute (letterAt a q) (letterAt b q))
 -- how many letters of a row are other than I
 unfoldable pub letterCount : List ℕ → ℕ
 letterCount a = countTo (length a) (λ q. notI (letterAt a q))
+
+-- the largest of the first n bytes, 0 where there is none
+unfoldable pub largestTo : ℕ → List ℕ → ℕ
+largestTo zero s = 0
+largestTo (suc n) s = max (largestTo n s) (getD s n 0)
+
+-- both, as one pass sees them; the count modulo 256
+pub record Scanned (s : List ℕ) (r : LetterScan) : Type 0 where
+  pub largest : r .largest ≡ largestTo (length s) s
+  pub letters : r .letters ≡ letterCount s % 256
 
 abbrev pub shorter : List ℕ → List ℕ → ℕ
 shorter a b = min (length a) (length b)

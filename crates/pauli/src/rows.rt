@@ -7,8 +7,8 @@ ghost use Rattle.pauli_group.specs.Letter.{letterMul};
 ghost use Rattle.pauli_group.specs.Papers.{power};
 ghost use Rattle.pauli.specs.Layout.{phaseByte, phaseOf, letterByte, letterOf};
 ghost use Rattle.pauli.specs.Questions.{firstBad};
-ghost use Rattle.pauli.specs.Rows.{phaseBytesProduct, placesOf, letterCount, shorter, RowTimes, rowProduct, copied};
-ghost use Rattle.pauli.specs.Inside.Turns.{LetterByte, LetterBytes, ForY, LetterTurns, PhaseTurns, anticommuting, lettered, NoneAbove};
+ghost use Rattle.pauli.specs.Rows.{phaseBytesProduct, placesOf, letterCount, largestTo, Scanned, shorter, RowTimes, rowProduct, copied};
+ghost use Rattle.pauli.specs.Inside.Turns.{LetterByte, LetterBytes, ForY, LetterTurns, PhaseTurns, anticommuting, lettered, scannedWith};
 
 pub fn smaller(a: usize, b: usize) -> usize
     ensures { λ r. ⌜ r ≡ min a b ⌝ }
@@ -176,7 +176,7 @@ pub(crate) fn larger(a: u8, b: u8) -> u8
 
 // The largest byte, 0 where there is none.
 fn largest(s: &[u8]) -> u8
-    ensures { λ r. ⌜ NoneAbove (now (s .entry)) (length (now (s .entry))) r ⌝ }
+    ensures { λ r. ⌜ r ≡ largestTo (length (now (s .entry))) (now (s .entry)) ⌝ }
 {
     let mut most: u8 = 0;
     let mut i = 0;
@@ -185,6 +185,38 @@ fn largest(s: &[u8]) -> u8
         i += 1;
     }
     most
+}
+
+// What one pass over a row of letters sees.
+pub struct LetterScan {
+    pub largest: u8,
+    pub letters: u8,
+}
+
+// What is seen with one more byte.
+fn scan_one(seen: LetterScan, x: u8) -> LetterScan
+    ensures { λ r. ⌜ r ≡ scannedWith seen x ⌝ }
+{
+    LetterScan {
+        largest: larger(seen.largest, x),
+        letters: std::num::wrapping_add_u8(seen.letters, is_letter(x)),
+    }
+}
+
+// The largest byte, 0 where there is none, and the number of letters other than I, modulo 256, in one pass.
+pub fn scan_letters(s: &[u8]) -> LetterScan
+    ensures { λ r. ⌜ Scanned (now (s .entry)) r ⌝ }
+{
+    let mut seen = LetterScan {
+        largest: 0,
+        letters: 0,
+    };
+    let mut i = 0;
+    while i < s.len() {
+        seen = scan_one(seen, s[i]);
+        i += 1;
+    }
+    seen
 }
 
 // The first offset with a byte above 3, or the length. The largest byte is found sixteen bytes at a time, so it is asked first.

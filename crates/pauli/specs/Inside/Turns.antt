@@ -1,12 +1,11 @@
 -- What the pieces of the kernels promise. A place's phase is counted in quarter turns, the exponent of i; Y = iXZ and ZX = -XZ.
-use Prim.Native.Nat.{ℕ, zero, suc, _≤_, _<_}
+use Prim.Native.Nat.{ℕ, zero, suc, _+_, _%_, _≤_, max}
 use mathlib.Core.Path.{_≡_}
 use mathlib.Core.Bool.{cond}
-use mathlib.Core.List.{List}
-use lib.ListN.{getD}
 use Rattle.pauli_group.specs.Letter.{letterPhase, anticommute, notI}
 use Rattle.pauli_group.specs.Papers.{power}
 use Rattle.pauli.specs.Layout.{phaseOf, letterByte, letterOf}
+use Rattle.pauli.specs.declared.rows.LetterScan.{LetterScan}
 
 -- r is the byte x read as a letter
 pub record LetterByte (x r : ℕ) : Type 0 where
@@ -44,6 +43,6 @@ anticommuting a b = cond (anticommute (letterOf a) (letterOf b)) 1 0
 unfoldable pub lettered : ℕ → ℕ
 lettered x = cond (notI (letterOf x)) 1 0
 
--- no byte before place i is above m
-pub record NoneAbove (s : List ℕ) (i m : ℕ) : Type 0 where
-  pub each : (k : ℕ) → k < i → getD s k 0 ≤ m
+-- what a pass over letters has seen with one more byte
+unfoldable pub scannedWith : LetterScan → ℕ → LetterScan
+scannedWith r x = record { largest = max (r .largest) x; letters = (r .letters + lettered x) % 256 }

@@ -1,13 +1,12 @@
 -- `rows::largest` meets its contract.
 use Prim.Native.Nat.{_-_}
 use lib.ListN.{length}
-use Rattle.pauli.proofs.Places.{largest-bytes}
-use Rattle.pauli.specs.Inside.Turns.{NoneAbove}
+use Rattle.pauli.proofs.Places.{LargestTo, largest-bytes}
 use Rattle.pauli.proofs.rows.largest.Statement.{statement}
 use Rattle.pauli.proofs.rows.largest.Tie as tie
 
 abbrev Inv-loop : tie.InvT-loop
-Inv-loop s most₀ i₀ most i = NoneAbove s i most
+Inv-loop s most₀ i₀ most i = LargestTo s i most
 
 abbrev μ-loop : tie.MeasureT-loop
 μ-loop s most₀ i₀ most i = length s - i
