@@ -12,23 +12,25 @@ use mir.Syntax.{w64}
 use borrow.Rule.Slice.PartMut.{putMid}
 use mir.Val.{Fits}
 use borrow.Author.Needs.{needs}
-use borrow.Author.Tests.{lt-ltb, le-ltb, lt-leb, le-leb, eq-eqb, ne-eqb}
+use borrow.Author.Tests.{lt-ltb, le-ltb, lt-leb, le-leb}
 use Rattle.pauli_group.specs.Letter.{X, Z}
 use Rattle.pauli_group.specs.PauliString.{qubits, mul, identityString, weightTo}
 use Rattle.pauli.specs.Layout.{phaseByte, phaseOf, letterByte, letterOf, encodeString}
-use Rattle.pauli.specs.Rows.{phaseBytesProduct, RowTimes, letterCount, copied, shorter}
+use Rattle.pauli.specs.Rows.{phaseBytesProduct, RowTimes, letterCount, largestTo, Scanned, copied, shorter}
 use Rattle.pauli.proofs.Records.{letter-there}
-use Rattle.pauli.proofs.Places.{from, from-is}
+use Rattle.pauli.proofs.Places.{from, from-is, length-from, none-bad}
 use Rattle.pauli.proofs.StringProducts.{row-product, row-product-is}
 use Rattle.clifford.specs.Layout.{weightPlace, letterPlace, rowLength, lettersOf, encodeRow, decodeRow, rowOffset, recordLength, longestRecord, rowOf, widthOf, rowPart, tableauOf, rowQubit, rowLetter, readRow, letterIn, rowWith}
-use Rattle.clifford.specs.Inside.Rows.{Sized, RowIndex, RowInside, OwnRow, OnRow, PairPlace, WorkOnRow, Finished, rowTimes, rowWritten, lettersIn, stringIn, rowLetters, OwnLetter}
+use Rattle.clifford.specs.Inside.Rows.{Sized, RowIndex, RowInside, RowAt, RowChecked, OwnRow, OnRow, PairPlace, WorkOnRow, Finished, rowTimes, rowWritten, lettersIn, stringIn, rowLetters, OwnLetter}
 use Rattle.clifford.proofs.Records.{record-small}
-use lib.Dec.{leb}
-use Rattle.pauli.specs.declared.refusal.Refusal.the-variants.{BadByte, FalseWeight}
+use lib.Dec.{leb, eqb}
+use Rattle.pauli.specs.declared.refusal.Refusal.the-variants.{BadByte}
 use Rattle.pauli.specs.declared.refusal.Outcome.the-variants.{Done, Refused}
+use Rattle.pauli.specs.declared.refusal.Outcome.{Outcome}
+use Rattle.pauli.specs.declared.rows.LetterScan.{LetterScan}
 use Rattle.pauli.specs.Questions.{ask, firstBad}
 use Rattle.pauli.proofs.Asking.{asked-yes, asked-no, refused, passed}
-use Rattle.clifford.specs.Questions.{rowQuestion, weightQuestion}
+use Rattle.clifford.specs.Questions.{rowQuestion, trueWeight}
 use lib.Bits.{bitXor}
 use Rattle.clifford.specs.Playing.{entry, tableOnRow}
 use Rattle.clifford.proofs.Rows.{place-is, row-some, letter-in-row, length-row, letters-from, row-letter, row-phase, row-inside, row-part, row-room, row-string, row-as-string, row-of-work, getD-part, capped-letter, capped-phase, read-own, read-wide, read-over, length-part, own-row, own-some, own-more, own-letter, weight-counted}
@@ -113,49 +115,72 @@ letter-read {b} {p} {r} {q} o e = ap₂ (λ (l : List ℕ) (j : ℕ). getD l j 0
 pub ruleset letter-reads = (letter-row, letter-inside, letter-read, own-inside, needs)
 
 -- ---- question 3, put to a row
-module _ (b : List ℕ) (r : ℕ) {n start : ℕ} (en : n ≡ widthOf b) (s : Sized (rowOffset n r) start) {p : List ℕ} (ep : p ≡ rowPart b r) where
-  question-is : rowQuestion start p ≡ rowQuestion (rowOffset (widthOf b) r) (rowPart b r)
-  question-is = ap₂ rowQuestion (s .is ∙ ap (λ (j : ℕ). rowOffset j r) en) ep
-
-  pub row-bad-phase : 3 < getD p 0 0 → Refused (BadByte start) ≡ rowQuestion (rowOffset (widthOf b) r) (rowPart b r)
+module _ (p : List ℕ) (at : ℕ) where
+  pub codes-bad-phase : 3 < getD p 0 0 → Refused (BadByte at) ≡ rowQuestion at p
   unfolding rowQuestion
-  row-bad-phase h = refused _ (asked-no (BadByte start) (lt-leb (getD p 0 0) 3 h)) refl ∙ question-is
+  codes-bad-phase h = refused _ (asked-no (BadByte at) (lt-leb (getD p 0 0) 3 h)) refl
 
-  module _ (h : getD p 0 0 ≤ 3) {k : ℕ} (ek : k ≡ firstBad (from 2 p)) where
-    place : k ≡ firstBad (lettersOf p)
-    place = ek ∙ ap firstBad (letters-from p)
+  module _ (h : getD p 0 0 ≤ 3) where
+    phase-good : Done ≡ ask (leb (getD p 0 0) 3) (BadByte at)
+    phase-good = asked-yes (BadByte at) (le-leb (getD p 0 0) 3 h)
 
-    phase-good : Done ≡ ask (leb (getD p 0 0) 3) (BadByte start)
-    phase-good = asked-yes (BadByte start) (le-leb (getD p 0 0) 3 h)
+    all-good : length (lettersOf p) ≤ firstBad (lettersOf p) → Done ≡ rowQuestion at p
+    unfolding rowQuestion
+    all-good l = passed phase-good refl (bytes-good (at + letterPlace 0) (lettersOf p) l)
 
-    pub row-bad-letter : k < length (from 2 p) → Refused (BadByte (start + 2 + k)) ≡ rowQuestion (rowOffset (widthOf b) r) (rowPart b r)
-    unfolding rowQuestion letterPlace
-    row-bad-letter l =
-        ap (λ (j : ℕ). Refused (BadByte (start + 2 + j))) place
-        ∙ passed phase-good refl (bytes-bad (start + 2) (lettersOf p) (omega (arith, place, ap length (letters-from p)))) ∙ question-is
+    pub codes-clean : {m : ℕ} → RowAt at p m → m < 4 → Done ≡ rowQuestion at p
+    codes-clean o l = all-good (omega (arith, none-bad (lettersOf p) (o .largest) l))
 
-    pub row-good : length (from 2 p) ≤ k → Done ≡ rowQuestion (rowOffset (widthOf b) r) (rowPart b r)
-    unfolding rowQuestion letterPlace
-    row-good l = passed phase-good refl (bytes-good (start + 2) (lettersOf p) (omega (arith, place, ap length (letters-from p)))) ∙ question-is
+    module _ {k : ℕ} (ek : k ≡ firstBad (from 2 p)) where
+      place : k ≡ firstBad (lettersOf p)
+      place = ek ∙ ap firstBad (letters-from p)
 
-  -- question 24
-  module _ (o : RowInside b r) {n′ : ℕ} (ec : n′ ≡ letterCount (from 2 p) % 256) where
-    weight-is : n′ ≡ weightTo (widthOf b) (decodeRow (widthOf b) p)
-    weight-is =
-        weight-counted (widthOf b) p (omega (arith, o .laid .narrow)) (inside-long o ep) (ec ∙ ap (λ (l : List ℕ). letterCount l % 256) (letters-from p))
+      pub codes-bad-letter : k < length (from 2 p) → Refused (BadByte (at + 2 + k)) ≡ rowQuestion at p
+      unfolding rowQuestion letterPlace
+      codes-bad-letter l =
+          ap (λ (j : ℕ). Refused (BadByte (at + 2 + j))) place
+          ∙ passed phase-good refl (bytes-bad (at + 2) (lettersOf p) (omega (arith, place, ap length (letters-from p))))
 
-    weighed : weightQuestion (widthOf b) start p ≡ weightQuestion (widthOf b) (rowOffset (widthOf b) r) (rowPart b r)
-    weighed = ap₂ (weightQuestion (widthOf b)) (s .is ∙ ap (λ (j : ℕ). rowOffset j r) en) ep
+      pub codes-good : length (from 2 p) ≤ k → Done ≡ rowQuestion at p
+      codes-good l = all-good (omega (arith, place, ap length (letters-from p)))
 
-    pub weight-true : getD p 1 0 ≡ n′ → Done ≡ weightQuestion (widthOf b) (rowOffset (widthOf b) r) (rowPart b r)
-    unfolding weightQuestion
-    weight-true h = asked-yes (FalseWeight (start + weightPlace)) (eq-eqb _ _ (h ∙ weight-is)) ∙ weighed
+module _ {at : ℕ} {p : List ℕ} {m : ℕ} (o : RowAt at p m) where
+  pub codes-some : 0 < length p
+  codes-some = omega (arith, o .long)
 
-    pub weight-false : (getD p 1 0 ≡ n′ → ⊥) → Refused (FalseWeight (start + 1)) ≡ weightQuestion (widthOf b) (rowOffset (widthOf b) r) (rowPart b r)
-    unfolding weightQuestion
-    weight-false h = asked-no (FalseWeight (start + weightPlace)) (ne-eqb _ _ (λ e. h (e ∙ sym weight-is))) ∙ weighed
+  pub codes-more : 1 < length p
+  codes-more = o .long
 
-pub ruleset row-questions = (row-bad-phase, row-bad-letter, row-good, weight-true, weight-false, inside-index, inside-some, inside-more, needs)
+  pub codes-two-fits : Fits w64 (at + 2)
+  codes-two-fits = record { fits = omega (arith, o .small) }
+
+  pub codes-fits : {k : ℕ} → k < length (from 2 p) → Fits w64 (at + 2 + k)
+  codes-fits l = record { fits = omega (arith, o .small, o .short, length-from 2 p) }
+
+pub ruleset row-codes = (codes-bad-phase, codes-clean, codes-bad-letter, codes-good, codes-some, codes-more, codes-two-fits, codes-fits, needs)
+
+-- and whether its weight is true
+module _ {b : List ℕ} {r : ℕ} (o : RowInside b r) {n at : ℕ} (en : n ≡ widthOf b) (s : Sized (rowOffset n r) at) {p : List ℕ} (ep : p ≡ rowPart b r)
+    {l : LetterScan} (seen : Scanned (from 2 p) l) where
+  pub row-at : RowAt at p (l .largest)
+  unfolding rowLength letterPlace
+  row-at = record {
+    small = s .small;
+    long = omega (arith, inside-long o ep);
+    short = omega (arith, inside-long o ep, o .laid .narrow);
+    largest = seen .largest ∙ ap (λ (x : List ℕ). largestTo (length x) x) (letters-from p);
+  }
+
+  pub row-checked : {q : Outcome} → q ≡ rowQuestion at p → RowChecked b r (record { codes = q; weighed = eqb (getD p 1 0) (l .letters) })
+  unfolding trueWeight
+  row-checked e = record {
+    codes = e ∙ ap₂ rowQuestion (s .is ∙ ap (λ (j : ℕ). rowOffset j r) en) ep;
+    weighed = ap₂ (λ (x : List ℕ) (c : ℕ). eqb (getD x 1 0) c) ep
+        (weight-counted (widthOf b) p (omega (arith, o .laid .narrow)) (inside-long o ep) (seen .letters ∙ ap (λ (x : List ℕ). letterCount x % 256) (letters-from p))
+        ∙ ap (λ (x : List ℕ). weightTo (widthOf b) (decodeRow (widthOf b) x)) ep ∙ ap (weightTo (widthOf b)) (sym (row-part b r (o .own))));
+  }
+
+pub ruleset row-checks = (row-at, row-checked, inside-index, inside-some, inside-more, needs)
 
 -- ---- a row of any bytes, read by letter
 module _ (b : List ℕ) (r : ℕ) {n : ℕ} (e : n ≡ widthOf b) where

@@ -1,6 +1,6 @@
 -- The questions put to tableaux (scope document, "Questions on entry"), and those of each public function in their order.
 use Prim.Native.Nat.{ℕ, zero, suc, max, _+_, _*_}
-use mathlib.Core.Bool.{_&&_}
+use mathlib.Core.Bool.{Bool, not, _&&_}
 use mathlib.Core.List.{List}
 use lib.Dec.{ltb, leb, eqb}
 use lib.ListN.{length, getD}
@@ -11,7 +11,7 @@ use Rattle.pauli.specs.declared.refusal.Outcome.the-variants.{Done}
 use Rattle.pauli.specs.Places.{firstPlace}
 use Rattle.pauli.specs.Layout.{stringLength, stringOf}
 use Rattle.pauli.specs.Questions.{ask, _andThen_, bytesQuestion, stringQuestions, roomQuestion}
-use Rattle.clifford.specs.Layout.{weightPlace, letterPlace, lettersOf, decodeRow, rowOffset, rowPart, widthOf, tableauOf, recordLength}
+use Rattle.clifford.specs.Layout.{weightPlace, letterPlace, lettersOf, rowOffset, rowOf, rowPart, widthOf, tableauOf, recordLength}
 use Rattle.clifford.specs.Support.{supportQubits}
 use Rattle.clifford.specs.Images.{pauliWidth}
 
@@ -27,25 +27,26 @@ lengthQuestion b = ask (eqb (length b) (recordLength (widthOf b))) Length
 unfoldable pub rowQuestion : ℕ → List ℕ → Outcome
 rowQuestion start b = ask (leb (getD b 0 0) 3) (BadByte start) andThen bytesQuestion (start + letterPlace 0) (lettersOf b)
 
--- "It refuses 24 for a false weight, with the first one's offset": of a row of w letters that starts there
-unfoldable pub weightQuestion : ℕ → ℕ → List ℕ → Outcome
-weightQuestion w start b = ask (eqb (getD b weightPlace 0) (weightTo w (decodeRow w b))) (FalseWeight (start + weightPlace))
+-- of the first k rows of a record, in their order
+unfoldable pub rowsQuestion : ℕ → List ℕ → Outcome
+rowsQuestion zero b = Done
+rowsQuestion (suc k) b = rowsQuestion k b andThen rowQuestion (rowOffset (widthOf b) k) (rowPart b k)
 
--- a question of a row, put to the first k rows of a record in their order
-unfoldable pub rowsAsked : (ℕ → List ℕ → Outcome) → ℕ → List ℕ → Outcome
-rowsAsked question zero b = Done
-rowsAsked question (suc k) b = rowsAsked question k b andThen question (rowOffset (widthOf b) k) (rowPart b k)
+-- the weight of row r is the number of its letters other than I
+unfoldable pub trueWeight : List ℕ → ℕ → Bool
+trueWeight b r = eqb (getD (rowPart b r) weightPlace 0) (weightTo (widthOf b) (rowOf (tableauOf b) r))
 
-unfoldable pub codesQuestion : List ℕ → Outcome
-codesQuestion b = rowsAsked rowQuestion (2 * widthOf b) b
+-- "It refuses 24 for a false weight, with the first one's offset"
+unfoldable pub firstFalse : List ℕ → ℕ
+firstFalse b = firstPlace (2 * widthOf b) (λ r. not (trueWeight b r))
 
 unfoldable pub weightsQuestion : List ℕ → Outcome
-weightsQuestion b = rowsAsked (weightQuestion (widthOf b)) (2 * widthOf b) b
+weightsQuestion b = ask (leb (2 * widthOf b) (firstFalse b)) (FalseWeight (rowOffset (widthOf b) (firstFalse b) + weightPlace))
 
 -- "a tableau of no bytes has no width and gives 2"; then 1, 2 and 3, and 24 "directly after question 3 on the same tableau"
 unfoldable pub tableauQuestions : List ℕ → Outcome
 tableauQuestions b =
-    ask (ltb 0 (length b)) Length andThen widthQuestion (widthOf b) andThen lengthQuestion b andThen codesQuestion b andThen weightsQuestion b
+    ask (ltb 0 (length b)) Length andThen widthQuestion (widthOf b) andThen lengthQuestion b andThen rowsQuestion (2 * widthOf b) b andThen weightsQuestion b
 
 -- "Is the slot (also of an image handed out) [inside the width]? 15, the slot"
 unfoldable pub slotQuestion : ℕ → ℕ → Outcome

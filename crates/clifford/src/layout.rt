@@ -5,8 +5,8 @@ ghost use lib.ListN.{getD};
 ghost use Rattle.pauli.specs.Layout.{phaseByte, letterByte};
 ghost use Rattle.clifford.specs.Playing.{tableOnRow};
 ghost use Rattle.clifford.specs.Layout.{widthOf, recordLength, rowOffset, rowOf, rowPart, readRow, tableauOf, rowQubit, rowLetter};
-ghost use Rattle.clifford.specs.Questions.{rowQuestion, weightQuestion};
-ghost use Rattle.clifford.specs.Inside.Rows.{Sized, RowIndex, RowInside, OwnRow, OwnLetter, WorkOnRow, Finished, rowTimes, rowWritten, rowLetters, lettersIn, stringIn, OnRow, PairPlace};
+ghost use Rattle.clifford.specs.Questions.{rowQuestion, weightsQuestion};
+ghost use Rattle.clifford.specs.Inside.Rows.{Sized, RowIndex, RowInside, RowAt, RowChecked, FirstFalse, OwnRow, OwnLetter, WorkOnRow, Finished, rowTimes, rowWritten, rowLetters, lettersIn, stringIn, OnRow, PairPlace};
 use pauli::QUBITS;
 use pauli::refusal::Outcome;
 use pauli::refusal::Refusal;
@@ -15,6 +15,7 @@ use pauli::rows::count_letters;
 use pauli::rows::first_bad;
 use pauli::rows::multiply_letters;
 use pauli::rows::phase_times;
+use pauli::rows::scan_letters;
 
 pub(crate) fn wide(x: u8) -> usize
     ensures { λ r. ⌜ r ≡ x ⌝ }
@@ -61,17 +62,18 @@ pub(crate) fn row(t: &[u8], r: usize) -> &[u8]
     &t[at..at + (n + 2)]
 }
 
-// Question 3, put to row r.
-pub(crate) fn check_row(t: &[u8], r: usize) -> Outcome
-    requires { ⌜ RowInside (now t) r ⌝ }
-    ensures { λ o. ⌜ o ≡ rowQuestion (rowOffset (widthOf (now (t .entry))) r) (rowPart (now (t .entry)) r) ⌝ }
+// Question 3, put to a row that starts at this offset, the largest of its letters being known.
+fn check_codes(row: &[u8], at: usize, largest: u8) -> Outcome
+    requires { ⌜ RowAt at (now row) largest ⌝ }
+    ensures { λ o. ⌜ o ≡ rowQuestion at (now (row .entry)) ⌝ }
 {
-    let at = row_offset(width(t), r);
-    let whole = row(t, r);
-    if 3 < whole[0] {
+    if 3 < row[0] {
         return Outcome::Refused(Refusal::BadByte { offset: at });
     }
-    let letters = &whole[2..];
+    if largest < 4 {
+        return Outcome::Done;
+    }
+    let letters = &row[2..];
     let k = first_bad(letters);
     if k < letters.len() {
         return Outcome::Refused(Refusal::BadByte { offset: at + 2 + k });
@@ -79,17 +81,36 @@ pub(crate) fn check_row(t: &[u8], r: usize) -> Outcome
     Outcome::Done
 }
 
-// Question 24, put to row r.
-pub(crate) fn check_weight(t: &[u8], r: usize) -> Outcome
+// What question 3 comes to in a row, and whether its weight is true.
+pub(crate) struct RowCheck {
+    pub(crate) codes: Outcome,
+    pub(crate) weighed: bool,
+}
+
+// Both of row r, in one pass over its letters.
+pub(crate) fn check_row(t: &[u8], r: usize) -> RowCheck
     requires { ⌜ RowInside (now t) r ⌝ }
-    ensures { λ o. ⌜ o ≡ weightQuestion (widthOf (now (t .entry))) (rowOffset (widthOf (now (t .entry))) r) (rowPart (now (t .entry)) r) ⌝ }
+    ensures { λ c. ⌜ RowChecked (now (t .entry)) r c ⌝ }
 {
     let at = row_offset(width(t), r);
     let whole = row(t, r);
-    if whole[1] == count_letters(&whole[2..]) {
-        return Outcome::Done;
+    let seen = scan_letters(&whole[2..]);
+    RowCheck {
+        codes: check_codes(whole, at, seen.largest),
+        weighed: whole[1] == seen.letters,
     }
-    Outcome::Refused(Refusal::FalseWeight { offset: at + 1 })
+}
+
+// Question 24, where the first row with a false weight is known; there is none where it is not a row.
+pub(crate) fn check_weights(t: &[u8], first: usize) -> Outcome
+    requires { ⌜ FirstFalse (now t) first ⌝ }
+    ensures { λ o. ⌜ o ≡ weightsQuestion (now (t .entry)) ⌝ }
+{
+    let n = width(t);
+    if first < 2 * n {
+        return Outcome::Refused(Refusal::FalseWeight { offset: row_offset(n, first) + 1 });
+    }
+    Outcome::Done
 }
 
 // The letters of row r.

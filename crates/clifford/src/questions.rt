@@ -1,13 +1,14 @@
 // The questions on entry that are put to tableaux and to gates. Each answers Done, or the refusal.
 ghost use mathlib.Core.Path.{_≡_};
-ghost use Prim.Native.Nat.{min};
-ghost use Rattle.clifford.specs.Layout.{recordLength};
-ghost use Rattle.clifford.specs.Inside.Rows.{Laid};
-ghost use Rattle.clifford.specs.Questions.{widthQuestion, slotQuestion, codesQuestion, weightsQuestion, tableauQuestions, composeQuestions};
+ghost use Prim.Native.Nat.{_*_, min};
+ghost use Rattle.pauli.specs.Questions.{_andThen_};
+ghost use Rattle.clifford.specs.Layout.{recordLength, widthOf};
+ghost use Rattle.clifford.specs.Inside.Rows.{Laid, keptFirst};
+ghost use Rattle.clifford.specs.Questions.{widthQuestion, slotQuestion, rowsQuestion, weightsQuestion, tableauQuestions, composeQuestions};
 ghost use Rattle.clifford.specs.GateQuestions.{gateQuestion, differentQuestion};
 use crate::layout::LONGEST_RECORD;
 use crate::layout::check_row;
-use crate::layout::check_weight;
+use crate::layout::check_weights;
 use crate::layout::record_length;
 use crate::layout::width;
 use pauli::QUBITS;
@@ -43,38 +44,37 @@ pub fn check_slot(slot: usize, width: usize) -> Outcome
     Outcome::Refused(Refusal::Slot { slot, width })
 }
 
-// Question 3, put row by row.
-fn check_codes(t: &[u8]) -> Outcome
-    requires { ⌜ Laid (now t) ⌝ }
-    ensures { λ r. ⌜ r ≡ codesQuestion (now (t .entry)) ⌝ }
+// The first of n rows that has a false weight, kept: so far there is first, which is n where there is none.
+fn keep_first(first: usize, n: usize, r: usize, weighed: bool) -> usize
+    ensures { λ k. ⌜ k ≡ keptFirst first n r weighed ⌝ }
 {
-    let rows = 2 * width(t);
-    let mut r = 0;
-    while r < rows {
-        let answer = check_row(t, r);
-        let Outcome::Done = answer else {
-            return answer;
-        };
-        r += 1;
+    if weighed {
+        return first;
     }
-    Outcome::Done
+    if first < n {
+        return first;
+    }
+    r
 }
 
-// Question 24, put row by row.
-fn check_weights(t: &[u8]) -> Outcome
+// Questions 3 and 24, in one pass over the rows: every 3 comes before a 24.
+fn check_rows(t: &[u8]) -> Outcome
     requires { ⌜ Laid (now t) ⌝ }
-    ensures { λ r. ⌜ r ≡ weightsQuestion (now (t .entry)) ⌝ }
+    ensures { λ r. ⌜ r ≡ rowsQuestion (2 * widthOf (now (t .entry))) (now (t .entry)) andThen weightsQuestion (now (t .entry)) ⌝ }
 {
     let rows = 2 * width(t);
+    let mut first = rows;
     let mut r = 0;
     while r < rows {
-        let answer = check_weight(t, r);
-        let Outcome::Done = answer else {
-            return answer;
+        let row = check_row(t, r);
+        let codes = row.codes;
+        let Outcome::Done = codes else {
+            return codes;
         };
+        first = keep_first(first, rows, r, row.weighed);
         r += 1;
     }
-    Outcome::Done
+    check_weights(t, first)
 }
 
 // A tableau record.
@@ -92,11 +92,7 @@ pub fn check_tableau(t: &[u8]) -> Outcome
     if t.len() != record_length(n) {
         return Outcome::Refused(Refusal::Length);
     }
-    let codes = check_codes(t);
-    let Outcome::Done = codes else {
-        return codes;
-    };
-    check_weights(t)
+    check_rows(t)
 }
 
 // Two tableau records, the first one first.

@@ -1,16 +1,19 @@
 -- What the functions on rows promise. A work row is a string of w letters, w + 1 bytes long; a finished one is put into a record.
 use Prim.Native.Nat.{ℕ, _+_, _*_, _-_, _≤_, _<_}
 use mathlib.Core.Path.{_≡_}
-use mathlib.Core.Bool.{cond}
+use mathlib.Core.Bool.{Bool, cond}
 use mathlib.Core.List.{List, _++_}
-use lib.Dec.{eqb}
+use lib.Dec.{ltb, eqb}
 use lib.ListN.{length, drop}
 use Rattle.pauli_group.specs.Phase.{sign}
 use Rattle.pauli_group.specs.Letter.{anticommute}
 use Rattle.pauli_group.specs.PauliString.{PauliString, mul, scale, identityString}
 use Rattle.clifford_group.specs.Tableau.{Tableau, apply}
 use Rattle.pauli.specs.Layout.{phaseByte, phaseOf, letterByte, letterOf, encodeString, decodeString, WellFormed}
-use Rattle.clifford.specs.Layout.{rowLength, encodeRow, letterIn, lettersOf, rowPart, recordLength, longestRecord, widthOf, tableauOf, FormedTableau}
+use Rattle.pauli.specs.Rows.{largestTo}
+use Rattle.clifford.specs.declared.layout.RowCheck.{RowCheck}
+use Rattle.clifford.specs.Questions.{rowQuestion, trueWeight, firstFalse}
+use Rattle.clifford.specs.Layout.{rowLength, encodeRow, letterIn, lettersOf, rowPart, rowOffset, recordLength, longestRecord, widthOf, tableauOf, FormedTableau}
 
 -- r is the size or offset n in a record
 pub record Sized (n r : ℕ) : Type 0 where
@@ -76,6 +79,27 @@ pub record Laid (b : List ℕ) : Type 0 where
 pub record RowInside (b : List ℕ) (r : ℕ) : Type 0 where
   pub laid : Laid b
   pub own : r < 2 * widthOf b
+
+-- what question 3 comes to in it, and whether its weight is true
+pub record RowChecked (b : List ℕ) (r : ℕ) (c : RowCheck) : Type 0 where
+  pub codes : c .codes ≡ rowQuestion (rowOffset (widthOf b) r) (rowPart b r)
+  pub weighed : c .weighed ≡ trueWeight b r
+
+-- the bytes p of a row that starts at this offset; m is the largest of its letters
+pub record RowAt (at : ℕ) (p : List ℕ) (m : ℕ) : Type 0 where
+  pub small : at ≤ longestRecord
+  pub long : 1 < length p
+  pub short : length p ≤ 130
+  pub largest : m ≡ largestTo (length (lettersOf p)) (lettersOf p)
+
+-- the first of n rows that has a false weight, kept: p so far, n where there is none, and then row r
+unfoldable pub keptFirst : ℕ → ℕ → ℕ → Bool → ℕ
+keptFirst p n r true-weight = cond true-weight p (cond (ltb p n) p r)
+
+-- p is its first row with a false weight, or the number of its rows
+pub record FirstFalse (b : List ℕ) (p : ℕ) : Type 0 where
+  pub narrow : widthOf b ≤ 128
+  pub is : p ≡ firstFalse b
 
 -- two rows of it; a qubit of it; and two qubits
 pub record OwnRows (b : List ℕ) (r p : ℕ) : Type 0 where

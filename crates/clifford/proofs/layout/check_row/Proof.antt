@@ -1,5 +1,5 @@
--- `layout::check_row` meets its contract: each return is the case of the tests that led there.
-use Rattle.clifford.proofs.RowAccess.{row-questions}
+-- `layout::check_row` meets its contract.
+use Rattle.clifford.proofs.RowAccess.{row-checks}
 use Rattle.clifford.proofs.layout.check_row.Statement.{statement}
 use Rattle.clifford.proofs.layout.check_row.Tie as tie
 
@@ -7,16 +7,7 @@ pub check-row-spec : {M : Type 1} → statement M
 check-row-spec =
     tie.close
     (tie.spec
-    (λ c. search row-questions)
-    (λ c. search row-questions)
-    (λ c. search row-questions)
-    (λ c. search row-questions)
-    (λ c. search row-questions)
-    (λ c. search row-questions)
-    (λ c. search row-questions)
-    (λ c. search row-questions)
-    (λ c. search row-questions)
-    (λ c. search row-questions)
-    (λ c. search row-questions)
-    (λ c. search row-questions)
-    (λ c. search row-questions))
+    (λ c. search row-checks) (λ c. search row-checks) (λ c. search row-checks)
+    (λ c. search row-checks) (λ c. search row-checks) (λ c. search row-checks)
+    (λ c. search row-checks) (λ c. search row-checks) (λ c. search row-checks)
+    (λ c. search row-checks))

@@ -10,5 +10,4 @@ check-tableau-spec =
     (λ c. search tableau-questions) (λ c. search tableau-questions) (λ c. search tableau-questions)
     (λ c. search tableau-questions) (λ c. search tableau-questions) (λ c. search tableau-questions)
     (λ c. search tableau-questions) (λ c. search tableau-questions) (λ c. search tableau-questions)
-    (λ c. search tableau-questions) (λ c. search tableau-questions) (λ c. search tableau-questions)
-    (λ c. search tableau-questions) (λ c. search tableau-questions))
+    (λ c. search tableau-questions))
