@@ -22,7 +22,7 @@ use Rattle.clifford.specs.Tableaux.{recordValid, applyRecord, composeRecord, in
 use Rattle.clifford.specs.GateAnswers.{gateRecord, recordName}
 use Rattle.pauli.specs.Answers.{replyTo, refusalReply}
 use Rattle.pauli.specs.Questions.{ask, _andThen_, byteQuestion, pairQuestions, firstBad, bytesQuestion, stringQuestions, roomQuestion}
-use Rattle.clifford.specs.Questions.{widthQuestion, lengthQuestion, rowQuestion, weightQuestion, rowsAsked, codesQuestion, weightsQuestion, tableauQuestions, applyQuestions, applyAnswer, composeQuestions, composeAnswer, inverseAnswer}
+use Rattle.clifford.specs.Questions.{widthQuestion, lengthQuestion, rowQuestion, rowsQuestion, trueWeight, firstFalse, weightsQuestion, tableauQuestions, applyQuestions, applyAnswer, composeQuestions, composeAnswer, inverseAnswer}
 use Rattle.clifford.specs.GateQuestions.{gateQuestion, composeGateQuestions}
 use Rattle.clifford_laws.specs.Readings.{Reading, readings, imagesRecord, answered, stringBytes}
 
@@ -45,5 +45,5 @@ holds : (r : Reading) → T (test r) → answered (r .asked) ≡ r .answer
 holds r t = same-is (answered (r .asked)) (r .answer) t
 
 pub readings-hold : All (λ r. answered (r .asked) ≡ r .answer) readings
-unfolding readings imagesRecord answered replyTo refusalReply ask _andThen_ byteQuestion pairQuestions firstPlace firstBad bytesQuestion stringQuestions roomQuestion widthQuestion lengthQuestion tableauQuestions applyQuestions applyAnswer composeQuestions composeAnswer inverseAnswer gateQuestion composeGateQuestions recordLength negate turn _·_ conjugate isReal sign minusOneTo letterProduct letterPhase letterMul anticommute qubits productTo countTo phaseOfLetters mul identityString scale single anticommutingPlaces commute commutationSign rowImage imageOf applyTo apply widen compose allTo validQubit validPair isValid hasX hasZ transposed inverseRow inverse letterOfBits stringBytes oneQubitGates twoQubitGates imageString gateOnEach onQubit pairString pairRow onQubits oneQubitGate twoQubitGate gateTableau sameBit sameLetter hasMinus samePhase matchesImage matches firstWith nameOf composeGate listed phaseByte letterByte phaseOf letterOf encodeString decodeString stringRecord stringOf productPhaseByte productLetterByte phaseBytesProduct rowLength encodeRow decodeRow rowOffset rowOf joined tableauRecord rowPart tableauOf recordValid applyRecord composeRecord inverseRecord gateRecord recordName letterPlace letterIn lettersOf rowQuestion rowsAsked codesQuestion weightsQuestion weightQuestion weightTo hasLetter notI
+unfolding readings imagesRecord answered replyTo refusalReply ask _andThen_ byteQuestion pairQuestions firstPlace firstBad bytesQuestion stringQuestions roomQuestion widthQuestion lengthQuestion tableauQuestions applyQuestions applyAnswer composeQuestions composeAnswer inverseAnswer gateQuestion composeGateQuestions recordLength negate turn _·_ conjugate isReal sign minusOneTo letterProduct letterPhase letterMul anticommute qubits productTo countTo phaseOfLetters mul identityString scale single anticommutingPlaces commute commutationSign rowImage imageOf applyTo apply widen compose allTo validQubit validPair isValid hasX hasZ transposed inverseRow inverse letterOfBits stringBytes oneQubitGates twoQubitGates imageString gateOnEach onQubit pairString pairRow onQubits oneQubitGate twoQubitGate gateTableau sameBit sameLetter hasMinus samePhase matchesImage matches firstWith nameOf composeGate listed phaseByte letterByte phaseOf letterOf encodeString decodeString stringRecord stringOf productPhaseByte productLetterByte phaseBytesProduct rowLength encodeRow decodeRow rowOffset rowOf joined tableauRecord rowPart tableauOf recordValid applyRecord composeRecord inverseRecord gateRecord recordName letterPlace letterIn lettersOf rowQuestion rowsQuestion weightsQuestion trueWeight firstFalse weightTo hasLetter notI
 readings-hold = all-of test holds readings tt

@@ -17,7 +17,7 @@ use Rattle.pauli.specs.Places.{listed, firstPlace}
 use Rattle.pauli.specs.Layout.{phaseByte, phaseOf, letterByte, letterOf}
 use Rattle.pauli.specs.Questions.{ask, _andThen_, firstBad, bytesQuestion, roomQuestion}
 use Rattle.clifford.specs.Layout.{letterPlace, letterIn, lettersOf, rowLength, rowOffset, recordLength, rowOf, joined, encodeRow, decodeRow, tableauRecord, rowPart, tableauOf, widthOf}
-use Rattle.clifford.specs.Questions.{widthQuestion, lengthQuestion, rowQuestion, weightQuestion, rowsAsked, codesQuestion, weightsQuestion, tableauQuestions, composeQuestions, composeAnswer}
+use Rattle.clifford.specs.Questions.{widthQuestion, lengthQuestion, rowQuestion, rowsQuestion, trueWeight, firstFalse, weightsQuestion, tableauQuestions, composeQuestions, composeAnswer}
 use Rattle.clifford.specs.Tableaux.{recordValid, identityRecord, composeRecord}
 use Rattle.clifford.specs.GateAnswers.{gateRecord}
 use Rattle.clifford_gates.specs.Gates.{oneQubitGates, twoQubitGates}
@@ -100,7 +100,7 @@ pub record Replies : Type 0 where
   pub third : callAnswer afterTwo (call szRecord (recordLength 2 + 1)) ≡ Done
 
 pub replies : Replies
-unfolding gateRecord gateTableau oneQubitGate oneQubitGates twoQubitGate twoQubitGates onQubit onQubits gateOnEach imageString pairString pairRow composeRecord tableauOf letterIn decodeRow compose widen apply applyTo imageOf rowImage identityString scale mul phaseOfLetters productTo letterPhase letterMul letterProduct _·_ negate turn phaseOf letterOf callAnswer composeAnswer composeQuestions tableauQuestions widthQuestion lengthQuestion rowsAsked codesQuestion weightsQuestion weightQuestion rowQuestion rowPart rowOffset letterPlace lettersOf bytesQuestion firstBad ask _andThen_ roomQuestion recordLength rowLength firstPlace identityRecord tableauRecord encodeRow rowOf joined listed identityTableau single phaseByte letterByte qubits weightTo hasLetter notI countTo
+unfolding gateRecord gateTableau oneQubitGate oneQubitGates twoQubitGate twoQubitGates onQubit onQubits gateOnEach imageString pairString pairRow composeRecord tableauOf letterIn decodeRow compose widen apply applyTo imageOf rowImage identityString scale mul phaseOfLetters productTo letterPhase letterMul letterProduct _·_ negate turn phaseOf letterOf callAnswer composeAnswer composeQuestions tableauQuestions widthQuestion lengthQuestion rowsQuestion weightsQuestion trueWeight firstFalse rowQuestion rowPart rowOffset letterPlace lettersOf bytesQuestion firstBad ask _andThen_ roomQuestion recordLength rowLength firstPlace identityRecord tableauRecord encodeRow rowOf joined listed identityTableau single phaseByte letterByte qubits weightTo hasLetter notI countTo
 replies = record { one = refl; one-bad = refl; one-false = refl; one-short = refl; first = refl; short = refl; second = refl; bad = refl; false-weight = refl; third = refl }
 
 record Valids : Type 0 where
