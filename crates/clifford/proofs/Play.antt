@@ -24,7 +24,7 @@ use Rattle.pauli.proofs.Places.{from, getD-listed}
 use Rattle.pauli.proofs.Records.{phase-back, letter-back, letter-small}
 use Rattle.clifford.specs.Layout.{rowLength, rowOffset, recordLength, joined, widthOf, weightPlace, rowPart, letterIn, rowWith, withImage, rowWithPair, weightChange, withPair, eachRow}
 use Rattle.clifford.specs.Inside.Rows.{Sized, RowIndex, Laid, OnRow, PairOnRow}
-use Rattle.clifford.specs.Playing.{gateOnRow, secondFits, playable, played, GatePlayed, letterColumn, letterTable, pairColumn, pairTable, letterTables, pairTables, entry, letterTableOnRow, pairTableOnRow, tableOnRow, playedBy, PlayedBy}
+use Rattle.clifford.specs.Playing.{gateOnRow, secondFits, playable, played, GatePlayed, letterColumn, letterTable, pairColumn, pairTable, letterTables, pairTables, tableEntry, letterTableOnRow, pairTableOnRow, tableOnRow, playedBy, PlayedBy}
 use Rattle.clifford.specs.Inside.Playing.{PlaysLetters, PlaysPairs}
 use Rattle.clifford.proofs.Joining.{joined-ext}
 use Rattle.clifford.proofs.Rows.{RowChange, change-by, byte-front, letter-front, change-letter, change-pair, place-is, row-some, letter-in-row, length-part}
@@ -91,14 +91,14 @@ pair-sign g l h a b =
 letter-change : {w q : ℕ} (e : List (List ℕ)) → q < w → RowChange w (letterTableOnRow e q)
 unfolding letterTableOnRow
 letter-change {w} {q} e h =
-    let row : ℕ → Letter → List ℕ → List ℕ = λ p x. rowWith q (bitXor (phaseByte (phaseOf p)) (entry e 0 (letterByte x))) (entry e 1 (letterByte x)) in
+    let row : ℕ → Letter → List ℕ → List ℕ = λ p x. rowWith q (bitXor (phaseByte (phaseOf p)) (tableEntry e 0 (letterByte x))) (tableEntry e 1 (letterByte x)) in
     change-by (λ b. getD b 0 0) (λ p b. row p (letterIn b q) b) (byte-front w 0 (omega (arith, row-some w)))
     (λ p. change-by (λ b. letterIn b q) (row p) (letter-front w q h) (λ x. change-letter _ _ h))
 
 pair-change : {w q r : ℕ} (e : List (List ℕ)) → q < w → r < w → RowChange w (pairTableOnRow e q r)
 unfolding pairTableOnRow
 pair-change {w} {q} {r} e hq hr =
-    let at : ℕ → Letter → Letter → ℕ = λ j x y. entry e j (4 * letterByte x + letterByte y) in
+    let at : ℕ → Letter → Letter → ℕ = λ j x y. tableEntry e j (4 * letterByte x + letterByte y) in
     let row : ℕ → ℕ → Letter → Letter → List ℕ → List ℕ = λ p v x y.
     rowWithPair q r (bitXor (phaseByte (phaseOf p)) (at 0 x y)) ((v + at 1 x y) % 256) (at 2 x y) (at 3 x y) in
     change-by (λ b. getD b 0 0) (λ p b. row p (getD b weightPlace 0) (letterIn b q) (letterIn b r) b) (byte-front w 0 (omega (arith, row-some w)))
@@ -318,7 +318,7 @@ module _ (g q r : ℕ) (b : List ℕ) where
   gate-on-pair h = ap (λ c. cond c one two) (le-ltb g 24 h)
 
   letter-table-is : g < 24 → letterTableOnRow (letterTable g) q b ≡ one
-  unfolding letterTableOnRow withImage letterTable entry
+  unfolding letterTableOnRow withImage letterTable tableEntry
   letter-table-is h =
       let x : Letter = letterIn b q in
       let p : Phase = phaseOf (getD b 0 0) in
@@ -326,7 +326,7 @@ module _ (g q r : ℕ) (b : List ℕ) where
       ∙ ap (λ (i : ℕ). rowWith q i (letterByte (letterImage (oneQubitGate g) x .letter)) b) (signed p _ (letter-sign g h x))
 
   pair-table-is : 24 ≤ g → g < 38 → pairTableOnRow (pairTable g) q r b ≡ two
-  unfolding pairTableOnRow withPair pairTable entry
+  unfolding pairTableOnRow withPair pairTable tableEntry
   pair-table-is l h =
       let x : Letter = letterIn b q in
       let y : Letter = letterIn b r in
@@ -335,7 +335,7 @@ module _ (g q r : ℕ) (b : List ℕ) where
       let i : PairImage = pairImage (twoQubitGate g) x y in
       let row : ℕ → ℕ → ℕ → ℕ → List ℕ = λ z n k m. rowWithPair q r z ((v + n) % 256) k m b in
       let k : ℕ = 4 * letterByte x + letterByte y in
-      ap₂ (λ (z n : ℕ). row (bitXor (phaseByte p) z) n (entry (pairTable g) 2 k) (entry (pairTable g) 3 k)) (pair-entry g (λ a b i. phaseByte (i .phase)) x y) (pair-entry g weightChange x y)
+      ap₂ (λ (z n : ℕ). row (bitXor (phaseByte p) z) n (tableEntry (pairTable g) 2 k) (tableEntry (pairTable g) 3 k)) (pair-entry g (λ a b i. phaseByte (i .phase)) x y) (pair-entry g weightChange x y)
       ∙ ap₂ (row (bitXor (phaseByte p) (phaseByte (i .phase))) (weightChange x y i)) (pair-entry g (λ a b i. letterByte (i .first)) x y) (pair-entry g (λ a b i. letterByte (i .second)) x y)
       ∙ ap (λ (z : ℕ). row z (weightChange x y i) (letterByte (i .first)) (letterByte (i .second))) (signed p _ (pair-sign g l h x y))
 
@@ -416,4 +416,5 @@ module _ (g q r : ℕ) (t : List ℕ) {b : Bool} (e : b ≡ playable g q r t) wh
     stays-own = gate-played refl refl stays-by
 
 pub ruleset playing = (plays-letters, letters-by, plays-pairs, pairs-by, stays-by, needs)
+
 pub ruleset gate-plays = (plays-letters, letters-own, plays-pairs, pairs-own, stays-own, needs)

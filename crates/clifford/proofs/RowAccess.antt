@@ -3,7 +3,7 @@
 use mathlib.Core.Path.{_≡_, refl, sym, ap, ap₂, _∙_, subst}
 use mathlib.Core.Bool.{cond}
 use mathlib.Core.List.{List, [], _∷_, _++_, append-nil}
-use Prim.Native.Nat.{ℕ, zero, suc, _+_, _*_, _-_, _≤_, _<_, min, _%_, _/_}
+use Prim.Native.Nat.{ℕ, suc, _+_, _*_, _-_, _≤_, _<_, min, _%_}
 use native.Mathlib.Nat.{not-suc-le-zero}
 use native.Mathlib.Omega.{arith}
 use lib.ListN.{length, getD, set, take, drop, length-set, length-drop, length-take, length-append, drop-of-length-le, List·getD-eq-default}
@@ -15,9 +15,8 @@ use borrow.Author.Needs.{needs}
 use borrow.Author.Tests.{lt-ltb, le-ltb, lt-leb, le-leb, eq-eqb, ne-eqb}
 use Rattle.pauli_group.specs.Letter.{X, Z}
 use Rattle.pauli_group.specs.PauliString.{qubits, mul, identityString, weightTo}
-use Rattle.pauli.specs.Layout.{phaseByte, phaseOf, letterByte, letterOf, encodeString}
+use Rattle.pauli.specs.Layout.{phaseByte, phaseOf, letterByte, encodeString}
 use Rattle.pauli.specs.Rows.{phaseBytesProduct, RowTimes, letterCount, copied, shorter}
-use Rattle.pauli.proofs.Records.{letter-there}
 use Rattle.pauli.proofs.Places.{from, from-is}
 use Rattle.pauli.proofs.StringProducts.{row-product, row-product-is}
 use Rattle.clifford.specs.Layout.{weightPlace, letterPlace, rowLength, lettersOf, encodeRow, decodeRow, rowOffset, recordLength, longestRecord, rowOf, widthOf, rowPart, tableauOf, rowQubit, rowLetter, readRow, letterIn, rowWith, rowWithPair}
@@ -30,7 +29,7 @@ use Rattle.pauli.specs.Questions.{ask, firstBad}
 use Rattle.pauli.proofs.Asking.{asked-yes, asked-no, refused, passed}
 use Rattle.clifford.specs.Questions.{rowQuestion, weightQuestion}
 use lib.Bits.{bitXor}
-use Rattle.clifford.specs.Playing.{entry, letterTableOnRow, pairTableOnRow}
+use Rattle.clifford.specs.Playing.{tableEntry, letterTableOnRow, pairTableOnRow}
 use Rattle.clifford.proofs.Rows.{place-is, row-some, letter-in-row, length-row, letters-from, row-letter, row-phase, row-inside, row-part, row-room, row-string, row-as-string, row-of-work, getD-part, capped-letter, capped-phase, read-own, read-wide, read-over, length-part, own-row, own-some, own-more, own-letter, weight-counted}
 use Rattle.clifford.proofs.Asking.{bytes-bad, bytes-good}
 
@@ -348,25 +347,25 @@ pair-phase {b = b} v o = omega (arith, o .first, length-set b 1 v)
 
 module _ (e : List (List ℕ)) (b : List ℕ) (q : ℕ) where
   abbrev by-letter : ℕ → ℕ → ℕ → List ℕ
-  by-letter i p k = set (set b 0 (bitXor p (entry e 0 k))) i (entry e 1 k)
+  by-letter i p k = set (set b 0 (bitXor p (tableEntry e 0 k))) i (tableEntry e 1 k)
 
   pub letter-changed : {k z : ℕ} → LetterIndex b q k → z ≡ min (getD b 0 0) 3
       → set (set b 0 (bitXor z (getD (getD e 0 []) k 0))) (q + 2) (getD (getD e 1 []) k 0) ≡ letterTableOnRow e q b
-  unfolding letterTableOnRow rowWith entry
+  unfolding letterTableOnRow rowWith tableEntry
   letter-changed {k} {z} o ez =
       ap (λ (i : ℕ). by-letter i z k) (sym (place-is q))
       ∙ ap₂ (λ (p j : ℕ). by-letter (letterPlace q) p j) (ez ∙ capped-phase (getD b 0 0)) (o .is)
 
   module _ (r : ℕ) where
     abbrev by-pair : ℕ → ℕ → ℕ → ℕ → ℕ → List ℕ
-    by-pair i j p v k = set (set (set (set b 1 v) 0 (bitXor p (entry e 0 k))) i (entry e 2 k)) j (entry e 3 k)
+    by-pair i j p v k = set (set (set (set b 1 v) 0 (bitXor p (tableEntry e 0 k))) i (tableEntry e 2 k)) j (tableEntry e 3 k)
 
     pub pair-changed : {k z v : ℕ} → PairIndex b q r k → z ≡ min (getD b 0 0) 3 → v ≡ (getD b 1 0 + getD (getD e 1 []) k 0) % 256
         → set (set (set (set b 1 v) 0 (bitXor z (getD (getD e 0 []) k 0))) (q + 2) (getD (getD e 2 []) k 0)) (r + 2) (getD (getD e 3 []) k 0) ≡ pairTableOnRow e q r b
-    unfolding pairTableOnRow rowWithPair rowWith entry
+    unfolding pairTableOnRow rowWithPair rowWith tableEntry
     pair-changed {k} {z} {v} o ez ev =
         ap₂ (λ (i j : ℕ). by-pair i j z v k) (sym (place-is q)) (sym (place-is r))
         ∙ ap₂ (λ (p u : ℕ). by-pair (letterPlace q) (letterPlace r) p u k) (ez ∙ capped-phase (getD b 0 0)) ev
-        ∙ ap (λ (j : ℕ). by-pair (letterPlace q) (letterPlace r) (phaseByte (phaseOf (getD b 0 0))) ((getD b 1 0 + entry e 1 j) % 256) j) (o .is)
+        ∙ ap (λ (j : ℕ). by-pair (letterPlace q) (letterPlace r) (phaseByte (phaseOf (getD b 0 0))) ((getD b 1 0 + tableEntry e 1 j) % 256) j) (o .is)
 
 pub ruleset row-changes = (letter-here, pair-here, letter-index, pair-index, letter-room, pair-phase, letter-changed, pair-changed, needs)

@@ -5,7 +5,6 @@ use mathlib.Core.Logic.{_≢_}
 use mathlib.Core.List.{List, _∷_, _++_}
 use Prim.Native.Nat.{ℕ, zero, suc, min, _+_, _*_, _-_, _%_, _≤_, _<_}
 use native.Mathlib.Nat.{mul-le-mul-right, zero-mul}
-use native.Mathlib.Numerals.{add-one}
 use native.Mathlib.Omega.{arith}
 use native.Mathlib.Decide.{decLt, ℕ-discrete}
 use lib.ListN.{length, getD, take, drop, length-drop, set, length-set, take-append-drop}
@@ -377,11 +376,11 @@ module _ {w q r : ℕ} (i : PairImage) {b : List ℕ} (f : FormedRow w b) (narro
         | yes e ↦ ap (λ j. getD (withPair q r i b) (letterPlace j) 0) e ∙ pair-second _ _ _ _ b (f .long) hq hr
             ∙ ap letterByte (sym (with-off q (i .first) _ k (λ z. d (sym z ∙ e)) ∙ with-at r (i .second) _ k e))
         | no e ↦ elim (ℕ-discrete k q) [
-            | yes c ↦ ap (λ j. getD (withPair q r i b) (letterPlace j) 0) c ∙ pair-first _ _ _ _ b (f .long) hq hr d
-                ∙ ap letterByte (sym (with-at q (i .first) _ k c))
-            | no c ↦ pair-other _ _ _ _ b (f .long) hq hr k c e ∙ row-letter-byte f k l
-                ∙ ap letterByte (sym (with-off q (i .first) _ k c ∙ with-off r (i .second) _ k e))
-          ]
+          | yes c ↦ ap (λ j. getD (withPair q r i b) (letterPlace j) 0) c ∙ pair-first _ _ _ _ b (f .long) hq hr d
+              ∙ ap letterByte (sym (with-at q (i .first) _ k c))
+          | no c ↦ pair-other _ _ _ _ b (f .long) hq hr k c e ∙ row-letter-byte f k l
+              ∙ ap letterByte (sym (with-off q (i .first) _ k c ∙ with-off r (i .second) _ k e))
+        ]
       ]
 
 -- ---- where the rows of a record are

@@ -70,19 +70,19 @@ unfoldable pub pairTables : List (List (List ℕ))
 pairTables = listed 14 (λ k. pairTable (24 + k))
 
 -- what row j of a table of any bytes has at place k
-unfoldable pub entry : List (List ℕ) → ℕ → ℕ → ℕ
-entry e j k = getD (getD e j []) k 0
+unfoldable pub tableEntry : List (List ℕ) → ℕ → ℕ → ℕ
+tableEntry e j k = getD (getD e j []) k 0
 
 -- a row changed on qubit q as a table says; a sign is put into the phase's byte by its bits
 unfoldable pub letterTableOnRow : List (List ℕ) → ℕ → List ℕ → List ℕ
 letterTableOnRow e q b =
-    let at : ℕ → ℕ = λ j. entry e j (letterByte (letterIn b q)) in
+    let at : ℕ → ℕ = λ j. tableEntry e j (letterByte (letterIn b q)) in
     rowWith q (bitXor (phaseByte (phaseOf (getD b 0 0))) (at 0)) (at 1) b
 
 -- and on qubits q and r
 unfoldable pub pairTableOnRow : List (List ℕ) → ℕ → ℕ → List ℕ → List ℕ
 pairTableOnRow e q r b =
-    let at : ℕ → ℕ = λ j. entry e j (4 * letterByte (letterIn b q) + letterByte (letterIn b r)) in
+    let at : ℕ → ℕ = λ j. tableEntry e j (4 * letterByte (letterIn b q) + letterByte (letterIn b r)) in
     rowWithPair q r (bitXor (phaseByte (phaseOf (getD b 0 0))) (at 0)) ((getD b weightPlace 0 + at 1) % 256) (at 2) (at 3) b
 
 -- gate g on a row by tables of any bytes: `ones` for the one-qubit gates, `twos` for the others

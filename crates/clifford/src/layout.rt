@@ -205,8 +205,7 @@ pub(crate) fn change_letter(b: &mut [u8], q: usize, table: &[[u8; 4]; 2])
     ensures { λ _. ⌜ now (b .exit) ≡ letterTableOnRow (now (table .entry)) q (now (b .entry)) ⌝ }
 {
     let k = letter_index(b, q);
-    let phase = read(b[0]) ^ table[0][k];
-    b[0] = phase;
+    b[0] = read(b[0]) ^ table[0][k];
     b[q + 2] = table[1][k];
 }
 

@@ -78,7 +78,14 @@ fn play_pairs(tables: &[[[u8; 16]; 4]; 14], k: usize, q: usize, r: usize, t: &mu
 }
 
 // `play_gate` by tables that are lent.
-pub fn play_with(ones: &[[[u8; 4]; 2]; 24], twos: &[[[u8; 16]; 4]; 14], gate: u8, q: usize, r: usize, t: &mut [u8]) -> bool
+pub fn play_with(
+    ones: &[[[u8; 4]; 2]; 24],
+    twos: &[[[u8; 16]; 4]; 14],
+    gate: u8,
+    q: usize,
+    r: usize,
+    t: &mut [u8],
+) -> bool
     ensures { λ b. ⌜ PlayedBy (now (ones .entry)) (now (twos .entry)) gate q r (now (t .entry)) (now (t .exit)) b ⌝ }
 {
     let g = gate as usize;

@@ -12,7 +12,13 @@ use clifford::tables::letter_tables;
 use clifford::tables::pair_tables;
 
 // The gate of record i, by the gates' tables.
-fn play_record(list: &[u8], i: usize, ones: &[[[u8; 4]; 2]; 24], twos: &[[[u8; 16]; 4]; 14], t: &mut [u8])
+fn play_record(
+    list: &[u8],
+    i: usize,
+    ones: &[[[u8; 4]; 2]; 24],
+    twos: &[[[u8; 16]; 4]; 14],
+    t: &mut [u8],
+)
     requires { ⌜ Plays (now list) i (now ones) (now twos) ⌝ }
     ensures { λ _. ⌜ now (t .exit) ≡ recordPlayed (now (list .entry)) i (now (t .entry)) ⌝ }
 {
@@ -22,7 +28,12 @@ fn play_record(list: &[u8], i: usize, ones: &[[[u8; 4]; 2]; 24], twos: &[[[u8; 1
 }
 
 // The gates on the chain, on the identity. The answer is their number.
-fn play_chain(list: &[u8], ones: &[[[u8; 4]; 2]; 24], twos: &[[[u8; 16]; 4]; 14], t: &mut [u8]) -> usize
+fn play_chain(
+    list: &[u8],
+    ones: &[[[u8; 4]; 2]; 24],
+    twos: &[[[u8; 16]; 4]; 14],
+    t: &mut [u8],
+) -> usize
     requires { ⌜ Begins (now list) (now ones) (now twos) (now t) ⌝ }
     ensures { λ r. ⌜ Ran (now (list .entry)) (now (t .exit)) r ⌝ }
 {
