@@ -3,37 +3,34 @@ use mathlib.Core.Path.{_≡_, refl, sym, ap, ap₂, _∙_, subst}
 use mathlib.Core.Bool.{Bool, true, false, cond, not, _&&_}
 use mathlib.Core.Logic.{_≢_}
 use mathlib.Core.List.{List, [], _∷_, _++_}
-use Prim.Native.Nat.{ℕ, zero, suc, _+_, _*_, _-_, _%_, _≤_, _<_}
+use Prim.Native.Nat.{ℕ, zero, suc, _+_, _*_, _-_, _/_, _%_, _≤_, _<_}
 use native.Mathlib.Omega.{arith}
 use native.Mathlib.Decide.{decLt}
-use lib.Dec.{T, ltb, leb, eqb}
+use lib.Dec.{ltb, leb, eqb}
 use lib.Bits.{bitXor}
 use lib.ListN.{length, getD, take, drop}
-use lib.Seq.{getD-take}
 use borrow.Author.Needs.{needs}
 use borrow.Author.Tests.{lt-ltb, le-ltb, le-leb, eq-eqb, ne-eqb, ltb-true, leb-true, eqb-true, eqb-false, not-true, not-false}
 use borrow.Rule.Slice.PartMut.{putMid}
 use Rattle.pauli_group.specs.Phase.{Phase, PlusOne, MinusOne, PlusI, MinusI, _·_, negate, turn}
-use Rattle.pauli_group.specs.Letter.{Letter, notI, letterMul, letterPhase, letterProduct}
-use Rattle.pauli_group.proofs.Finite.{letters}
+use Rattle.pauli_group.specs.Letter.{Letter, letterMul, letterPhase, letterProduct}
 use Rattle.clifford_group.specs.Tableau.{allTo}
 use Rattle.clifford_group.proofs.Valid.{and-both, all-each}
-use Rattle.clifford_gates.specs.Gates.{PairImage, oneQubitGates, twoQubitGates}
+use Rattle.clifford_gates.specs.Gates.{Image, PairImage, oneQubitGates, twoQubitGates}
 use Rattle.clifford_gates.specs.GateNumbers.{oneQubitGate, twoQubitGate}
 use Rattle.clifford_gates.specs.Updates.{timesI, letterImage, pairTimes, pairTimesI, ownImage, pairImage}
-use Rattle.pauli.specs.Places.{listed}
 use Rattle.pauli.specs.Layout.{phaseByte, phaseOf, letterByte, letterOf}
 use Rattle.pauli.proofs.Places.{from, getD-listed}
-use Rattle.pauli.proofs.Records.{phase-back}
-use Rattle.clifford.specs.Layout.{rowLength, rowOffset, recordLength, joined, widthOf, weightPlace, rowPart, letterIn, rowWith, pairWeight, weightChange, withPair, eachRow}
-use Rattle.clifford.specs.Inside.Rows.{Sized, RowIndex, OnRow}
-use Rattle.clifford.specs.Playing.{twice, movedBy, secondQubit, gateOnRow, secondFits, playable, played, GatePlayed, column, tableOf, gateTables, PlayedBy, entry, tableOnRow, playedBy}
-use Rattle.clifford.specs.Inside.Playing.{OnRows}
+use Rattle.pauli.proofs.Records.{phase-back, letter-back, letter-small}
+use Rattle.clifford.specs.Layout.{rowLength, rowOffset, recordLength, joined, widthOf, weightPlace, rowPart, letterIn, rowWith, withImage, rowWithPair, weightChange, withPair, eachRow}
+use Rattle.clifford.specs.Inside.Rows.{Sized, RowIndex, Laid, OnRow, PairOnRow}
+use Rattle.clifford.specs.Playing.{gateOnRow, secondFits, playable, played, GatePlayed, letterColumn, letterTable, pairColumn, pairTable, letterTables, pairTables, tableEntry, letterTableOnRow, pairTableOnRow, tableOnRow, playedBy, PlayedBy}
+use Rattle.clifford.specs.Inside.Playing.{PlaysLetters, PlaysPairs}
 use Rattle.clifford.proofs.Joining.{joined-ext}
-use Rattle.clifford.proofs.Rows.{place-is, row-some, letter-in-row, letter-front, length-with, with-front, length-part}
+use Rattle.clifford.proofs.Rows.{RowChange, change-by, byte-front, letter-front, change-letter, change-pair, place-is, row-some, letter-in-row, length-part}
 use Rattle.clifford.proofs.RowBytes.{BytesTo, bytes-none, bytes-index, bytes-room, bytes-start, bytes-rest, bytes-more, bytes-end}
 
--- ---- the table says what the gate makes of two letters
+-- ---- the table says what the gate makes of a letter, or of two
 -- a sign is put into a phase byte by the lowest bit
 sign-bit : (p : Phase) (k : ℕ) → k < 2 → bitXor (phaseByte p) k ≡ phaseByte (p · phaseOf k)
 unfolding phaseByte phaseOf _·_ negate turn
@@ -47,75 +44,108 @@ sign-bit PlusI (suc zero) h = refl
 sign-bit MinusI (suc zero) h = refl
 sign-bit p (suc (suc k)) h = absurd (omega arith)
 
--- by one computed test over the gates and the pairs of letters: the entries, and that the phase is a sign
-abbrev entries : ℕ → Letter → Letter → List ℕ
-entries g a b =
-    let i : PairImage = movedBy g a b in
-    phaseByte (i .phase) ∷ weightChange a b i ∷ letterByte (i .first) ∷ letterByte (i .second) ∷ []
+signed : (p i : Phase) → phaseByte i < 2 → bitXor (phaseByte p) (phaseByte i) ≡ phaseByte (p · i)
+signed p i h = sign-bit p (phaseByte i) h ∙ ap (λ x. phaseByte (p · x)) (phase-back i)
 
-abbrev reads : ℕ → Letter → Letter → Bool
-reads g a b = ltb (phaseByte (movedBy g a b .phase)) 2 && allTo 4 (λ j. eqb (entry (tableOf g) j a b) (getD (entries g a b) j 0))
+-- the entries of a column
+letter-entry : (g : ℕ) (f : Image → ℕ) (a : Letter) → getD (letterColumn g f) (letterByte a) 0 ≡ f (letterImage (oneQubitGate g) a)
+unfolding letterColumn
+letter-entry g f a =
+    getD-listed 4 _ (letterByte a) 0 (omega (arith, letter-small a)) ∙ ap (λ l. f (letterImage (oneQubitGate g) l)) (letter-back a)
 
-table-test : (g : ℕ) → g < 38 → (a b : Letter) → reads g a b ≡ true
-unfolding allTo entry tableOf column weightChange pairWeight notI listed movedBy twice letterImage timesI pairImage pairTimes pairTimesI ownImage oneQubitGate oneQubitGates twoQubitGate twoQubitGates phaseByte letterByte letterOf letterMul letterPhase letterProduct _·_ negate turn
-table-test g h a b =
-    holds (reads g a b)
-    (letters .each (reads g a)
-    (letters .each (λ a. letters .all (reads g a)) (subst T (sym (all-each 38 (λ g. letters .all (λ a. letters .all (reads g a))) refl g h)) tt) a) b)
-  where
-    holds : (c : Bool) → T c → c ≡ true
-    holds true t = refl
-    holds false t = absurd t
+pair-entry : (g : ℕ) (f : Letter → Letter → PairImage → ℕ) (a b : Letter)
+    → getD (pairColumn g f) (4 * letterByte a + letterByte b) 0 ≡ f a b (pairImage (twoQubitGate g) a b)
+unfolding pairColumn
+pair-entry g f a b =
+    let k : ℕ = 4 * letterByte a + letterByte b in
+    let first : k / 4 ≡ letterByte a = omega (arith, letter-small b) in
+    let second : k % 4 ≡ letterByte b = omega (arith, letter-small b) in
+    getD-listed 16 _ k 0 (omega (arith, letter-small a, letter-small b))
+    ∙ ap₂ (λ x y. f x y (pairImage (twoQubitGate g) x y)) (ap letterOf first ∙ letter-back a) (ap letterOf second ∙ letter-back b)
 
-module _ (g : ℕ) (h : g < 38) (a b : Letter) where
-  tests : (ltb (phaseByte (movedBy g a b .phase)) 2 ≡ true) × (allTo 4 (λ j. eqb (entry (tableOf g) j a b) (getD (entries g a b) j 0)) ≡ true)
-  tests = and-both (ltb (phaseByte (movedBy g a b .phase)) 2) _ (table-test g h a b)
+-- by one computed test over the gates of each kind: the phases of their images are signs
+each-letter : (P : Letter → Bool) → allTo 4 (λ k. P (letterOf k)) ≡ true → (a : Letter) → P a ≡ true
+each-letter P e a = sym (ap P (letter-back a)) ∙ all-each 4 (λ k. P (letterOf k)) e (letterByte a) (omega (arith, letter-small a))
 
-  entry-is : (j : ℕ) → j < 4 → entry (tableOf g) j a b ≡ getD (entries g a b) j 0
-  entry-is j l = eqb-true _ _ (all-each 4 (λ j. eqb (entry (tableOf g) j a b) (getD (entries g a b) j 0)) (tests .1) j l)
+abbrev sign : Phase → Bool
+sign p = ltb (phaseByte p) 2
 
-  sign-is : (p : Phase) → bitXor (phaseByte p) (phaseByte (movedBy g a b .phase)) ≡ phaseByte (p · movedBy g a b .phase)
-  sign-is p = sign-bit p _ (ltb-true _ 2 (tests .0)) ∙ ap (λ x. phaseByte (p · x)) (phase-back (movedBy g a b .phase))
+letter-sign : (g : ℕ) → g < 24 → (a : Letter) → phaseByte (letterImage (oneQubitGate g) a .phase) < 2
+unfolding allTo letterImage timesI oneQubitGate oneQubitGates phaseByte letterOf letterMul letterPhase letterProduct _·_ negate turn
+letter-sign g h a =
+    let test : ℕ → Letter → Bool = λ g a. sign (letterImage (oneQubitGate g) a .phase) in
+    ltb-true _ 2 (each-letter (test g) (all-each 24 (λ g. allTo 4 (λ k. test g (letterOf k))) refl g h) a)
+
+pair-sign : (g : ℕ) → 24 ≤ g → g < 38 → (a b : Letter) → phaseByte (pairImage (twoQubitGate g) a b .phase) < 2
+unfolding allTo pairImage pairTimes pairTimesI ownImage twoQubitGate twoQubitGates phaseByte letterOf letterMul letterPhase letterProduct _·_ negate turn
+pair-sign g l h a b =
+    let test : ℕ → Letter → Letter → Bool = λ k a b. sign (pairImage (twoQubitGate (24 + k)) a b .phase) in
+    let own : 24 + (g - 24) ≡ g = omega arith in
+    subst (λ (n : ℕ). phaseByte (pairImage (twoQubitGate n) a b .phase) < 2) own
+    (ltb-true _ 2
+    (each-letter (test (g - 24) a)
+    (each-letter (λ a. allTo 4 (λ j. test (g - 24) a (letterOf j)))
+    (all-each 14 (λ k. allTo 4 (λ i. allTo 4 (λ j. test k (letterOf i) (letterOf j)))) refl (g - 24) (omega arith)) a) b))
 
 -- ---- one row, at the front of b
-row-front : (e : List (List ℕ)) (q s w : ℕ) (b : List ℕ) → q < w → s < w → rowLength w ≤ length b
-    → tableOnRow e q s b ≡ tableOnRow e q s (take (rowLength w) b) ++ drop (rowLength w) b
-unfolding tableOnRow
-row-front e q s w b hq hs h =
-    let a : List ℕ = take (rowLength w) b in
-    let row : ℕ → ℕ → Letter → Letter → List ℕ → List ℕ = λ p v x y l.
-    rowWith q s (bitXor (phaseByte (phaseOf p)) (entry e 0 x y)) ((v + entry e 1 x y) % 256) (entry e 2 x y) (entry e 3 x y) l in
-    let first : (k : ℕ) → k < 2 → getD b k 0 ≡ getD a k 0 = λ k l. sym (getD-take (rowLength w) b k 0 (omega (arith, row-some w))) in
-    ap₂ (λ (x y : Letter). row (getD b 0 0) (getD b weightPlace 0) x y b) (letter-front w q b hq) (letter-front w s b hs)
-    ∙ ap₂ (λ (p v : ℕ). row p v (letterIn a q) (letterIn a s) b) (first 0 (omega arith)) (first weightPlace (omega arith))
-    ∙ with-front q s _ _ _ _ w b hq hs h
+letter-change : {w q : ℕ} (e : List (List ℕ)) → q < w → RowChange w (letterTableOnRow e q)
+unfolding letterTableOnRow
+letter-change {w} {q} e h =
+    let row : ℕ → Letter → List ℕ → List ℕ = λ p x. rowWith q (bitXor (phaseByte (phaseOf p)) (tableEntry e 0 (letterByte x))) (tableEntry e 1 (letterByte x)) in
+    change-by (λ b. getD b 0 0) (λ p b. row p (letterIn b q) b) (byte-front w 0 (omega (arith, row-some w)))
+    (λ p. change-by (λ b. letterIn b q) (row p) (letter-front w q h) (λ x. change-letter _ _ h))
 
-length-on-row : (e : List (List ℕ)) (q s : ℕ) (b : List ℕ) → length (tableOnRow e q s b) ≡ length b
-unfolding tableOnRow
-length-on-row e q s b = length-with q s _ _ _ _ b
+pair-change : {w q r : ℕ} (e : List (List ℕ)) → q < w → r < w → RowChange w (pairTableOnRow e q r)
+unfolding pairTableOnRow
+pair-change {w} {q} {r} e hq hr =
+    let at : ℕ → Letter → Letter → ℕ = λ j x y. tableEntry e j (4 * letterByte x + letterByte y) in
+    let row : ℕ → ℕ → Letter → Letter → List ℕ → List ℕ = λ p v x y.
+    rowWithPair q r (bitXor (phaseByte (phaseOf p)) (at 0 x y)) ((v + at 1 x y) % 256) (at 2 x y) (at 3 x y) in
+    change-by (λ b. getD b 0 0) (λ p b. row p (getD b weightPlace 0) (letterIn b q) (letterIn b r) b) (byte-front w 0 (omega (arith, row-some w)))
+    (λ p. change-by (λ b. getD b weightPlace 0) (λ v b. row p v (letterIn b q) (letterIn b r) b) (byte-front w weightPlace (row-some w))
+    (λ v. change-by (λ b. letterIn b q) (λ x b. row p v x (letterIn b r) b) (letter-front w q hq)
+    (λ x. change-by (λ b. letterIn b r) (row p v x) (letter-front w r hr) (λ y. change-pair _ _ _ _ hq hr))))
 
 -- ---- all rows
 -- the rows before i are changed
-pub record PlayedTo (e : List (List ℕ)) (q s w : ℕ) (t₀ : List ℕ) (i : ℕ) (t : List ℕ) : Type 0 where
-  pub on : OnRows q s w t₀
-  pub rows : BytesTo w (λ k. tableOnRow e q s (rowPart t₀ k)) t₀ i t
+pub record PlayedTo (f : List ℕ → List ℕ) (w : ℕ) (t₀ : List ℕ) (i : ℕ) (t : List ℕ) : Type 0 where
+  pub change : RowChange w f
+  pub wide : w ≡ widthOf t₀
+  pub laid : length t₀ ≡ recordLength w
+  pub rows : BytesTo w (λ k. f (rowPart t₀ k)) t₀ i t
 
-pub played-none : (e : List (List ℕ)) {q s w : ℕ} {t : List ℕ} → OnRows q s w t → PlayedTo e q s w t 0 t
-played-none e {q} {s} {w} {t} o = record {
-  on = o;
-  rows = bytes-none w _ t (o .narrow) (omega (arith, o .long)) (sym (o .wide)) (λ i h. length-on-row e q s (rowPart t i) ∙ length-part t w i (o .wide) (o .long) h);
-}
+played-none : {f : List ℕ → List ℕ} {w : ℕ} {t : List ℕ} → RowChange w f → w ≡ widthOf t → Laid t → PlayedTo f w t 0 t
+played-none {w = w} {t} c e o =
+    let long : length t ≡ recordLength w = o .long ∙ ap recordLength (sym e) in
+    record {
+      change = c;
+      wide = e;
+      laid = long;
+      rows = bytes-none w _ t (omega (arith, o .narrow)) (omega arith) (sym e) (λ i h. c .long (rowPart t i) ∙ length-part t w i e long h);
+    }
 
-module _ {e : List (List ℕ)} {q s w : ℕ} {t₀ : List ℕ} {i : ℕ} {t : List ℕ} (m : PlayedTo e q s w t₀ i t) where
+pub letters-none : {g q w : ℕ} {t : List ℕ} (e : List (List ℕ)) → PlaysLetters g q t → w ≡ widthOf t → PlayedTo (letterTableOnRow e q) w t 0 t
+letters-none e o h = played-none (letter-change e (omega (arith, o .qubit))) h (o .laid)
+
+pub pairs-none : {k q r w : ℕ} {t : List ℕ} (e : List (List ℕ)) → PlaysPairs k q r t → w ≡ widthOf t → PlayedTo (pairTableOnRow e q r) w t 0 t
+pairs-none e o h = played-none (pair-change e (omega (arith, o .first)) (omega (arith, o .second))) h (o .laid)
+
+pub letters-number : {g q : ℕ} {t : List ℕ} → PlaysLetters g q t → g < 24
+letters-number o = o .gate
+
+pub pairs-number : {k q r : ℕ} {t : List ℕ} → PlaysPairs k q r t → k < 14
+pairs-number o = o .gate
+
+module _ {f : List ℕ → List ℕ} {w : ℕ} {t₀ : List ℕ} {i : ℕ} {t : List ℕ} (m : PlayedTo f w t₀ i t) where
   pub played-length : length t ≡ length t₀
   played-length = m .rows .long
 
   pub played-narrow : w ≤ 128
-  played-narrow = m .on .narrow
+  played-narrow = m .rows .narrow
 
-  pub played-all : 2 * w ≤ i → t ≡ eachRow (tableOnRow e q s) t₀
+  pub played-all : 2 * w ≤ i → t ≡ eachRow f t₀
   unfolding eachRow
-  played-all h = bytes-end (m .rows) h (m .on .long) ∙ ap (λ (v : ℕ). v ∷ joined (2 * v) (λ k. tableOnRow e q s (rowPart t₀ k))) (m .on .wide)
+  played-all h = bytes-end (m .rows) h (m .laid) ∙ ap (λ (v : ℕ). v ∷ joined (2 * v) (λ k. f (rowPart t₀ k))) (m .wide)
 
   module _ (h : i < 2 * w) where
     pub played-index : RowIndex w i
@@ -125,34 +155,46 @@ module _ {e : List (List ℕ)} {q s w : ℕ} {t₀ : List ℕ} {i : ℕ} {t : Li
       pub played-start : at ≤ length t
       played-start = bytes-start (m .rows) h z
 
-      pub played-row : OnRow q s (from at t)
-      played-row = record {
-        first = omega (arith, bytes-room (m .rows) h z, place-is q, letter-in-row w q (m .on .first));
-        second = omega (arith, bytes-room (m .rows) h z, place-is s, letter-in-row w s (m .on .second));
-      }
+      place-inside : (q : ℕ) → q < widthOf t₀ → q + 2 < length (from at t)
+      place-inside q l = omega (arith, bytes-room (m .rows) h z, place-is q, letter-in-row w q (omega (arith, m .wide)))
 
-      pub played-more : {ys : List ℕ} → ys ≡ tableOnRow e q s (from at t) → PlayedTo e q s w t₀ (i + 1) (putMid at (length t - at) t ys)
-      played-more {ys} k = record { on = m .on; rows = bytes-more (m .rows) h z (k ∙ row-front e q s w (from at t) (m .on .first) (m .on .second) (bytes-room (m .rows) h z) ∙ ap (λ (l : List ℕ). tableOnRow e q s l ++ drop (rowLength w) (from at t)) own) }
+      pub letters-row : {g q : ℕ} → PlaysLetters g q t₀ → OnRow q (from at t)
+      letters-row {q = q} o = record { own = place-inside q (o .qubit) }
+
+      pub pairs-row : {k q r : ℕ} → PlaysPairs k q r t₀ → PairOnRow q r (from at t)
+      pairs-row {q = q} {r} o = record { first = place-inside q (o .first); second = place-inside r (o .second) }
+
+      pub played-more : {ys : List ℕ} → ys ≡ f (from at t) → PlayedTo f w t₀ (i + 1) (putMid at (length t - at) t ys)
+      played-more {ys} k = record {
+        change = m .change;
+        wide = m .wide;
+        laid = m .laid;
+        rows = bytes-more (m .rows) h z
+            (k ∙ m .change .front (from at t) (bytes-room (m .rows) h z) ∙ ap (λ (l : List ℕ). f l ++ drop (rowLength w) (from at t)) own);
+      }
         where
           own : take (rowLength w) (from at t) ≡ rowPart t₀ i
           own = unfold rowPart in
               ap (take (rowLength w)) (bytes-rest (m .rows) h z ∙ ap (λ (j : ℕ). drop j t₀) (z .is))
-              ∙ ap (λ (v : ℕ). take (rowLength v) (drop (rowOffset v i) t₀)) (m .on .wide)
+              ∙ ap (λ (v : ℕ). take (rowLength v) (drop (rowOffset v i) t₀)) (m .wide)
 
-pub ruleset plays = (played-none, played-length, played-narrow, played-all, played-index, played-start, played-row, played-more, needs)
+pub ruleset plays = (
+  letters-none,
+  pairs-none,
+  letters-number,
+  pairs-number,
+  played-length,
+  played-narrow,
+  played-all,
+  played-index,
+  played-start,
+  letters-row,
+  pairs-row,
+  played-more,
+  needs,
+)
 
--- ---- the second qubit
-pub second-one : {g : ℕ} (q r : ℕ) → g < 24 → q ≡ secondQubit g q r
-unfolding secondQubit
-second-one {g} q r h = sym (ap (λ b. cond b q r) (lt-ltb g 24 h))
-
-pub second-two : {g : ℕ} (q r : ℕ) → 24 ≤ g → r ≡ secondQubit g q r
-unfolding secondQubit
-second-two {g} q r h = sym (ap (λ b. cond b q r) (le-ltb g 24 h))
-
-pub ruleset seconds = (second-one, second-two, needs)
-
--- whether it fits
+-- ---- whether the second qubit fits
 pub fits-none : {g : ℕ} (q r w : ℕ) → g < 24 → true ≡ secondFits g q r w
 unfolding secondFits
 fits-none {g} q r w h = sym (ap (λ b. cond b true (ltb r w && not (eqb q r))) (lt-ltb g 24 h))
@@ -172,12 +214,6 @@ pub ruleset second-fitting = (fits-none, fits-high, fits-other, needs)
 fits-parts : {g : ℕ} (q r w : ℕ) → 24 ≤ g → secondFits g q r w ≡ true → (ltb r w ≡ true) × (not (eqb q r) ≡ true)
 fits-parts q r w h e = and-both (ltb r w) (not (eqb q r)) (fits-tested q r w h ∙ e)
 
-fits-below : (g q r w : ℕ) → secondFits g q r w ≡ true → q < w → secondQubit g q r < w
-fits-below g q r w e h = elim (decLt g 24) [
-  | yes l ↦ omega (arith, second-one q r l)
-  | no l ↦ let m : 24 ≤ g = omega arith in omega (arith, second-two q r m, ltb-true r w (fits-parts q r w m e .0))
-]
-
 fits-yes : (g q r w : ℕ) → (24 ≤ g → r < w) → (24 ≤ g → q ≢ r) → secondFits g q r w ≡ true
 fits-yes g q r w hr d = elim (decLt g 24) [
   | yes l ↦ sym (fits-none q r w l)
@@ -187,8 +223,10 @@ fits-yes g q r w hr d = elim (decLt g 24) [
 -- ---- when the gate has a place in the record
 pub record Playable (g q r : ℕ) (t : List ℕ) : Type 0 where
   pub gate : g < 38
-  pub on : OnRows q (secondQubit g q r) (widthOf t) t
+  pub first : q < widthOf t
+  pub second : 24 ≤ g → r < widthOf t
   pub different : 24 ≤ g → q ≢ r
+  pub laid : Laid t
 
 pub playable-is : (g q r : ℕ) (t : List ℕ) → playable g q r t ≡ true → Playable g q r t
 unfolding playable
@@ -198,17 +236,12 @@ playable-is g q r t e =
     let second = and-both (ltb q w) _ (first .1) in
     let third = and-both (secondFits g q r w) _ (second .1) in
     let fourth = and-both (leb w 128) (eqb (length t) (recordLength w)) (third .1) in
-    let here : q < w = ltb-true q w (second .0) in
     record {
       gate = ltb-true g 38 (first .0);
-      on = record {
-        wide = refl;
-        first = here;
-        second = fits-below g q r w (third .0) here;
-        narrow = leb-true w 128 (fourth .0);
-        long = eqb-true (length t) (recordLength w) (fourth .1);
-      };
+      first = ltb-true q w (second .0);
+      second = λ m. ltb-true r w (fits-parts q r w m (third .0) .0);
       different = λ m. eqb-false q r (not-true (eqb q r) (fits-parts q r w m (third .0) .1));
+      laid = record { narrow = leb-true w 128 (fourth .0); long = eqb-true (length t) (recordLength w) (fourth .1) };
     }
 
 -- all but the length is asked
@@ -243,7 +276,7 @@ module _ (g q r : ℕ) (t : List ℕ) where
 
   module _ {n : ℕ} (e : n ≡ widthOf t) where
     pub no-first : n ≤ q → false ≡ playable g q r t
-    no-first h = not-playable g q r t (λ p. omega (arith, p .on .first))
+    no-first h = not-playable g q r t (λ p. omega (arith, p .first))
 
     pub no-second : {b : Bool} → b ≡ secondFits g q r n → not b ≡ true → false ≡ playable g q r t
     unfolding playable
@@ -256,69 +289,132 @@ module _ (g q r : ℕ) (t : List ℕ) where
         without false y z e = refl
 
     pub no-width : 128 < n → false ≡ playable g q r t
-    no-width h = not-playable g q r t (λ p. omega (arith, p .on .narrow))
+    no-width h = not-playable g q r t (λ p. omega (arith, p .laid .narrow))
 
 pub ruleset playables = (no-gate, no-first, no-second, no-width, playable-long, needs)
 
+-- ---- the gate on a row: by its table, and by the tables of all gates
+by-letters : (ones twos : List (List (List ℕ))) (g q r : ℕ) → g < 24 → tableOnRow ones twos g q r ≡ letterTableOnRow (getD ones g []) q
+unfolding tableOnRow
+by-letters ones twos g q r h = ap (λ c. cond c (letterTableOnRow (getD ones g []) q) (pairTableOnRow (getD twos (g - 24) []) q r)) (lt-ltb g 24 h)
+
+by-pairs : (ones twos : List (List (List ℕ))) (g q r : ℕ) → 24 ≤ g → tableOnRow ones twos g q r ≡ pairTableOnRow (getD twos (g - 24) []) q r
+unfolding tableOnRow
+by-pairs ones twos g q r h = ap (λ c. cond c (letterTableOnRow (getD ones g []) q) (pairTableOnRow (getD twos (g - 24) []) q r)) (le-ltb g 24 h)
+
+module _ (g q r : ℕ) (b : List ℕ) where
+  abbrev one : List ℕ
+  one = withImage q (letterImage (oneQubitGate g) (letterIn b q)) b
+
+  abbrev two : List ℕ
+  two = withPair q r (pairImage (twoQubitGate g) (letterIn b q) (letterIn b r)) b
+
+  pub gate-on-letter : g < 24 → gateOnRow g q r b ≡ one
+  unfolding gateOnRow
+  gate-on-letter h = ap (λ c. cond c one two) (lt-ltb g 24 h)
+
+  pub gate-on-pair : 24 ≤ g → gateOnRow g q r b ≡ two
+  unfolding gateOnRow
+  gate-on-pair h = ap (λ c. cond c one two) (le-ltb g 24 h)
+
+  letter-table-is : g < 24 → letterTableOnRow (letterTable g) q b ≡ one
+  unfolding letterTableOnRow withImage letterTable tableEntry
+  letter-table-is h =
+      let x : Letter = letterIn b q in
+      let p : Phase = phaseOf (getD b 0 0) in
+      ap₂ (λ (i j : ℕ). rowWith q (bitXor (phaseByte p) i) j b) (letter-entry g (λ i. phaseByte (i .phase)) x) (letter-entry g (λ i. letterByte (i .letter)) x)
+      ∙ ap (λ (i : ℕ). rowWith q i (letterByte (letterImage (oneQubitGate g) x .letter)) b) (signed p _ (letter-sign g h x))
+
+  pair-table-is : 24 ≤ g → g < 38 → pairTableOnRow (pairTable g) q r b ≡ two
+  unfolding pairTableOnRow withPair pairTable tableEntry
+  pair-table-is l h =
+      let x : Letter = letterIn b q in
+      let y : Letter = letterIn b r in
+      let p : Phase = phaseOf (getD b 0 0) in
+      let v : ℕ = getD b weightPlace 0 in
+      let i : PairImage = pairImage (twoQubitGate g) x y in
+      let row : ℕ → ℕ → ℕ → ℕ → List ℕ = λ z n k m. rowWithPair q r z ((v + n) % 256) k m b in
+      let k : ℕ = 4 * letterByte x + letterByte y in
+      ap₂ (λ (z n : ℕ). row (bitXor (phaseByte p) z) n (tableEntry (pairTable g) 2 k) (tableEntry (pairTable g) 3 k)) (pair-entry g (λ a b i. phaseByte (i .phase)) x y) (pair-entry g weightChange x y)
+      ∙ ap₂ (row (bitXor (phaseByte p) (phaseByte (i .phase))) (weightChange x y i)) (pair-entry g (λ a b i. letterByte (i .first)) x y) (pair-entry g (λ a b i. letterByte (i .second)) x y)
+      ∙ ap (λ (z : ℕ). row z (weightChange x y i) (letterByte (i .first)) (letterByte (i .second))) (signed p _ (pair-sign g l h x y))
+
+  -- with the gates' own tables
+  own-tables : g < 38 → tableOnRow letterTables pairTables g q r b ≡ gateOnRow g q r b
+  unfolding letterTables pairTables
+  own-tables h = elim (decLt g 24) [
+    | yes l ↦ ap (λ f. f b) (by-letters letterTables pairTables g q r l)
+        ∙ ap (λ (e : List (List ℕ)). letterTableOnRow e q b) (getD-listed 24 letterTable g [] l) ∙ letter-table-is l ∙ sym (gate-on-letter l)
+    | no l ↦ let m : 24 ≤ g = omega arith in
+        let own : 24 + (g - 24) ≡ g = omega arith in
+        ap (λ f. f b) (by-pairs letterTables pairTables g q r m)
+        ∙ ap (λ (e : List (List ℕ)). pairTableOnRow e q r b) (getD-listed 14 (λ k. pairTable (24 + k)) (g - 24) [] (omega arith) ∙ ap pairTable own)
+        ∙ pair-table-is m h ∙ sym (gate-on-pair m)
+  ]
+
 -- ---- the gate on the record
-table-on-row : (g q s : ℕ) (b : List ℕ) → g < 38 → tableOnRow (tableOf g) q s b ≡ gateOnRow g q s b
-unfolding tableOnRow gateOnRow withPair
-table-on-row g q s b h =
-    let x : Letter = letterIn b q in
-    let y : Letter = letterIn b s in
-    let p : ℕ = phaseByte (phaseOf (getD b 0 0)) in
-    let v : ℕ = getD b weightPlace 0 in
-    ap₂ (λ (i j : ℕ). rowWith q s (bitXor p i) ((v + j) % 256) (entry (tableOf g) 2 x y) (entry (tableOf g) 3 x y) b) (entry-is g h x y 0 (omega arith)) (entry-is g h x y 1 (omega arith))
-    ∙ ap₂ (λ (i j : ℕ). rowWith q s (bitXor p (phaseByte (movedBy g x y .phase))) ((v + weightChange x y (movedBy g x y)) % 256) i j b) (entry-is g h x y 2 (omega arith)) (entry-is g h x y 3 (omega arith))
-    ∙ ap (λ (i : ℕ). rowWith q s i ((v + weightChange x y (movedBy g x y)) % 256) (letterByte (movedBy g x y .first)) (letterByte (movedBy g x y .second)) b) (sign-is g h x y (phaseOf (getD b 0 0)))
-
-table-on-rows : (g q s : ℕ) (t : List ℕ) → g < 38 → eachRow (tableOnRow (tableOf g) q s) t ≡ eachRow (gateOnRow g q s) t
-unfolding eachRow
-table-on-rows g q s t h = ap (λ (l : List ℕ). widthOf t ∷ l) (joined-ext (2 * widthOf t) _ _ (λ r l. table-on-row g q s (rowPart t r) h))
-
-module _ (g q r : ℕ) (t : List ℕ) {b : Bool} (e : b ≡ playable g q r t) where
-  fits : b ≡ true → Playable g q r t
-  fits h = playable-is g q r t (sym e ∙ h)
-
-  pub play-number : b ≡ true → g < 38
-  play-number h = fits h .gate
-
-  pub play-on : b ≡ true → {s n : ℕ} → s ≡ secondQubit g q r → n ≡ widthOf t → OnRows q s n t
-  play-on h {s} {n} es en = subst (λ (v : ℕ). OnRows q s v t) (sym en) (subst (λ (v : ℕ). OnRows q v (widthOf t) t) (sym es) (fits h .on))
-
-  pub play-made : b ≡ true → {ts : List (List (List ℕ))} {s : ℕ} {p : List (List ℕ)} {d : List ℕ} → s ≡ secondQubit g q r → p ≡ getD ts g []
-      → d ≡ eachRow (tableOnRow p q s) t → PlayedBy ts g q r t d b
-  unfolding playedBy
-  play-made h {ts = ts} es ep ed = record {
-    flag = e;
-    bytes = ed ∙ ap₂ (λ (l : List (List ℕ)) (j : ℕ). eachRow (tableOnRow l q j) t) ep es
-        ∙ ap (λ c. cond c (eachRow (tableOnRow (getD ts g []) q (secondQubit g q r)) t) t) (sym (sym e ∙ h));
-  }
-
-  pub play-not : b ≡ false → {ts : List (List (List ℕ))} → PlayedBy ts g q r t t b
-  unfolding playedBy
-  play-not h {ts} = record { flag = e; bytes = ap (λ c. cond c (eachRow (tableOnRow (getD ts g []) q (secondQubit g q r)) t) t) (sym (sym e ∙ h)) }
-
-pub ruleset playing = (play-number, play-on, play-made, play-not, needs)
-
--- with the gates' own tables
-played-by : (g q r : ℕ) (t : List ℕ) → playedBy gateTables g q r t ≡ played g q r t
-unfolding playedBy played gateTables
+played-by : (g q r : ℕ) (t : List ℕ) → playedBy letterTables pairTables g q r t ≡ played g q r t
+unfolding playedBy played eachRow
 played-by g q r t = by (playable g q r t) refl
   where
     by : (b : Bool) → playable g q r t ≡ b
-        → cond b (eachRow (tableOnRow (getD (listed 38 tableOf) g []) q (secondQubit g q r)) t) t ≡ cond b (eachRow (gateOnRow g q (secondQubit g q r)) t) t
+        → cond b (eachRow (tableOnRow letterTables pairTables g q r) t) t ≡ cond b (eachRow (gateOnRow g q r) t) t
     by true e =
-        let h = playable-is g q r t e .gate in
-        ap (λ (l : List (List ℕ)). eachRow (tableOnRow l q (secondQubit g q r)) t) (getD-listed 38 tableOf g [] h)
-        ∙ table-on-rows g q (secondQubit g q r) t h
+        ap (λ (l : List ℕ). widthOf t ∷ l) (joined-ext (2 * widthOf t) _ _ (λ i l. own-tables g q r (rowPart t i) (playable-is g q r t e .gate)))
     by false e = refl
 
-pub gate-played : {ts : List (List (List ℕ))} {g q r : ℕ} {t e : List ℕ} {b : Bool} → ts ≡ gateTables → PlayedBy ts g q r t e b
-    → GatePlayed g q r t e b
-gate-played {ts} {g} {q} {r} {t} h p = record {
+pub gate-played : {ones twos : List (List (List ℕ))} {g q r : ℕ} {t e : List ℕ} {b : Bool} → ones ≡ letterTables → twos ≡ pairTables
+    → PlayedBy ones twos g q r t e b → GatePlayed g q r t e b
+gate-played {g = g} {q} {r} {t} h k p = record {
   flag = p .flag;
-  bytes = p .bytes ∙ ap (λ (l : List (List (List ℕ))). playedBy l g q r t) h ∙ played-by g q r t;
+  bytes = p .bytes ∙ ap₂ (λ (x y : List (List (List ℕ))). playedBy x y g q r t) h k ∙ played-by g q r t;
 }
 
-pub ruleset gate-plays = (gate-played, needs)
+module _ (g q r : ℕ) (t : List ℕ) {b : Bool} (e : b ≡ playable g q r t) where
+  module _ (h : not b ≡ false) where
+    is-true : true ≡ playable g q r t
+    is-true = sym (not-false b h) ∙ e
+
+    fits : Playable g q r t
+    fits = playable-is g q r t (sym is-true)
+
+    made : {ones twos : List (List (List ℕ))} {d : List ℕ} → d ≡ eachRow (tableOnRow ones twos g q r) t → PlayedBy ones twos g q r t d true
+    unfolding playedBy
+    made {ones} {twos} k = record { flag = is-true; bytes = k ∙ ap (λ c. cond c (eachRow (tableOnRow ones twos g q r) t) t) is-true }
+
+    module _ (l : g < 24) where
+      pub plays-letters : PlaysLetters g q t
+      plays-letters = record { laid = fits .laid; gate = l; qubit = fits .first }
+
+      module _ {ones : List (List (List ℕ))} {d : List ℕ} (k : d ≡ eachRow (letterTableOnRow (getD ones g []) q) t) where
+        pub letters-by : {twos : List (List (List ℕ))} → PlayedBy ones twos g q r t d true
+        letters-by {twos} = made (k ∙ ap (λ f. eachRow f t) (sym (by-letters ones twos g q r l)))
+
+        pub letters-own : ones ≡ letterTables → GatePlayed g q r t d true
+        letters-own o = gate-played o refl letters-by
+
+    module _ (l : 24 ≤ g) where
+      pub plays-pairs : PlaysPairs (g - 24) q r t
+      plays-pairs = record { laid = fits .laid; gate = omega (arith, fits .gate); first = fits .first; second = fits .second l }
+
+      module _ {twos : List (List (List ℕ))} {d : List ℕ} (k : d ≡ eachRow (pairTableOnRow (getD twos (g - 24) []) q r) t) where
+        pub pairs-by : {ones : List (List (List ℕ))} → PlayedBy ones twos g q r t d true
+        pairs-by {ones} = made (k ∙ ap (λ f. eachRow f t) (sym (by-pairs ones twos g q r l)))
+
+        pub pairs-own : twos ≡ pairTables → GatePlayed g q r t d true
+        pairs-own o = gate-played refl o pairs-by
+
+  module _ (h : not b ≡ true) where
+    is-false : false ≡ playable g q r t
+    is-false = sym (not-true b h) ∙ e
+
+    pub stays-by : {ones twos : List (List (List ℕ))} → PlayedBy ones twos g q r t t false
+    unfolding playedBy
+    stays-by {ones} {twos} = record { flag = is-false; bytes = ap (λ c. cond c (eachRow (tableOnRow ones twos g q r) t) t) is-false }
+
+    pub stays-own : GatePlayed g q r t t false
+    stays-own = gate-played refl refl stays-by
+
+pub ruleset playing = (plays-letters, letters-by, plays-pairs, pairs-by, stays-by, needs)
+
+pub ruleset gate-plays = (plays-letters, letters-own, plays-pairs, pairs-own, stays-own, needs)

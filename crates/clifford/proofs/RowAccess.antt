@@ -3,7 +3,7 @@
 use mathlib.Core.Path.{_≡_, refl, sym, ap, ap₂, _∙_, subst}
 use mathlib.Core.Bool.{cond}
 use mathlib.Core.List.{List, [], _∷_, _++_, append-nil}
-use Prim.Native.Nat.{ℕ, zero, suc, _+_, _*_, _-_, _≤_, _<_, min, _%_, _/_}
+use Prim.Native.Nat.{ℕ, suc, _+_, _*_, _-_, _≤_, _<_, min, _%_}
 use native.Mathlib.Nat.{not-suc-le-zero}
 use native.Mathlib.Omega.{arith}
 use lib.ListN.{length, getD, set, take, drop, length-set, length-drop, length-take, length-append, drop-of-length-le, List·getD-eq-default}
@@ -15,13 +15,12 @@ use borrow.Author.Needs.{needs}
 use borrow.Author.Tests.{lt-ltb, le-ltb, lt-leb, le-leb}
 use Rattle.pauli_group.specs.Letter.{X, Z}
 use Rattle.pauli_group.specs.PauliString.{qubits, mul, identityString, weightTo}
-use Rattle.pauli.specs.Layout.{phaseByte, phaseOf, letterByte, letterOf, encodeString}
+use Rattle.pauli.specs.Layout.{phaseByte, phaseOf, letterByte, encodeString}
 use Rattle.pauli.specs.Rows.{phaseBytesProduct, RowTimes, letterCount, largestTo, Scanned, copied, shorter}
-use Rattle.pauli.proofs.Records.{letter-there}
 use Rattle.pauli.proofs.Places.{from, from-is, length-from, none-bad}
 use Rattle.pauli.proofs.StringProducts.{row-product, row-product-is}
-use Rattle.clifford.specs.Layout.{weightPlace, letterPlace, rowLength, lettersOf, encodeRow, decodeRow, rowOffset, recordLength, longestRecord, rowOf, widthOf, rowPart, tableauOf, rowQubit, rowLetter, readRow, letterIn, rowWith}
-use Rattle.clifford.specs.Inside.Rows.{Sized, RowIndex, RowInside, RowAt, RowChecked, OwnRow, OnRow, PairPlace, WorkOnRow, Finished, rowTimes, rowWritten, lettersIn, stringIn, rowLetters, OwnLetter}
+use Rattle.clifford.specs.Layout.{weightPlace, letterPlace, rowLength, lettersOf, encodeRow, decodeRow, rowOffset, recordLength, longestRecord, rowOf, widthOf, rowPart, tableauOf, rowQubit, rowLetter, readRow, letterIn, rowWith, rowWithPair}
+use Rattle.clifford.specs.Inside.Rows.{Sized, RowIndex, RowInside, RowAt, RowChecked, OwnRow, OnRow, PairOnRow, LetterIndex, PairIndex, WorkOnRow, Finished, rowTimes, rowWritten, lettersIn, stringIn, rowLetters, OwnLetter}
 use Rattle.clifford.proofs.Records.{record-small}
 use lib.Dec.{leb, eqb}
 use Rattle.pauli.specs.declared.refusal.Refusal.the-variants.{BadByte}
@@ -32,7 +31,7 @@ use Rattle.pauli.specs.Questions.{ask, firstBad}
 use Rattle.pauli.proofs.Asking.{asked-yes, asked-no, refused, passed}
 use Rattle.clifford.specs.Questions.{rowQuestion, trueWeight}
 use lib.Bits.{bitXor}
-use Rattle.clifford.specs.Playing.{entry, tableOnRow}
+use Rattle.clifford.specs.Playing.{tableEntry, letterTableOnRow, pairTableOnRow}
 use Rattle.clifford.proofs.Rows.{place-is, row-some, letter-in-row, length-row, letters-from, row-letter, row-phase, row-inside, row-part, row-room, row-string, row-as-string, row-of-work, getD-part, capped-letter, capped-phase, read-own, read-wide, read-over, length-part, own-row, own-some, own-more, own-letter, weight-counted}
 use Rattle.clifford.proofs.Asking.{bytes-bad, bytes-good}
 
@@ -347,29 +346,51 @@ pub ruleset row-access = (
 )
 
 -- ---- a row changed by a gate's table
-pub row-second : {q s : ℕ} {b : List ℕ} (p : ℕ) → OnRow q s b → 1 < length (set b 0 p)
-row-second {b = b} p o = omega (arith, o .first, length-set b 0 p)
-
-pub pair-here : (q s : ℕ) (b : List ℕ) {x y k : ℕ} → x ≡ min (getD b (q + 2) 0) 3 → y ≡ min (getD b (s + 2) 0) 3 → k ≡ 4 * x + y → PairPlace b q s k
+-- a letter as it is read
+letter-capped : (b : List ℕ) (q : ℕ) {x : ℕ} → x ≡ min (getD b (q + 2) 0) 3 → x ≡ letterByte (letterIn b q)
 unfolding letterIn
-pair-here q s b {x} {y} ex ey ek = record { is = ek ∙ ap₂ (λ (i j : ℕ). 4 * i + j) (letter q ex) (letter s ey); small = omega arith }
-  where
-    letter : (j : ℕ) {l : ℕ} → l ≡ min (getD b (j + 2) 0) 3 → l ≡ letterByte (letterOf (getD b (letterPlace j) 0))
-    letter j h = h ∙ ap (λ (i : ℕ). min (getD b i 0) 3) (sym (place-is j)) ∙ capped-letter (getD b (letterPlace j) 0)
+letter-capped b q e = e ∙ ap (λ (i : ℕ). min (getD b i 0) 3) (sym (place-is q)) ∙ capped-letter (getD b (letterPlace q) 0)
 
-pub pair-inside : {b : List ℕ} {q s k : ℕ} → PairPlace b q s k → k < 16
-pair-inside o = o .small
+pub letter-here : (b : List ℕ) (q : ℕ) {x k : ℕ} → x ≡ min (getD b (q + 2) 0) 3 → k ≡ x → LetterIndex b q k
+letter-here b q ex ek = record { is = ek ∙ letter-capped b q ex; small = omega arith }
 
-module _ (e : List (List ℕ)) (b : List ℕ) (q s : ℕ) where
-  abbrev by-entry : ℕ → ℕ → ℕ → ℕ → ℕ → List ℕ
-  by-entry i j p v k = set (set (set (set b 0 (bitXor p (getD (getD e 0 []) k 0))) 1 v) i (getD (getD e 2 []) k 0)) j (getD (getD e 3 []) k 0)
+pub pair-here : (b : List ℕ) (q r : ℕ) {x y k : ℕ} → x ≡ min (getD b (q + 2) 0) 3 → y ≡ min (getD b (r + 2) 0) 3 → k ≡ 4 * x + y → PairIndex b q r k
+pair-here b q r ex ey ek = record { is = ek ∙ ap₂ (λ (i j : ℕ). 4 * i + j) (letter-capped b q ex) (letter-capped b r ey); small = omega arith }
 
-  pub row-changed : {k z v : ℕ} → PairPlace b q s k → z ≡ min (getD b 0 0) 3 → v ≡ (getD b 1 0 + getD (getD e 1 []) k 0) % 256
-      → by-entry (q + 2) (s + 2) z v k ≡ tableOnRow e q s b
-  unfolding tableOnRow rowWith entry
-  row-changed {k} {z} {v} o ez ev =
-      ap₂ (λ (i j : ℕ). by-entry i j z v k) (sym (place-is q)) (sym (place-is s))
-      ∙ ap₂ (λ (p u : ℕ). by-entry (letterPlace q) (letterPlace s) p u k) (ez ∙ capped-phase (getD b 0 0)) ev
-      ∙ ap (λ (j : ℕ). by-entry (letterPlace q) (letterPlace s) (phaseByte (phaseOf (getD b 0 0))) ((getD b 1 0 + getD (getD e 1 []) j 0) % 256) j) (o .is)
+pub letter-index : {b : List ℕ} {q k : ℕ} → LetterIndex b q k → k < 4
+letter-index o = o .small
 
-pub ruleset row-changes = (row-second, pair-here, pair-inside, row-changed, needs)
+pub pair-index : {b : List ℕ} {q r k : ℕ} → PairIndex b q r k → k < 16
+pair-index o = o .small
+
+pub letter-room : {q : ℕ} {b : List ℕ} → OnRow q b → q + 2 < length b
+letter-room o = o .own
+
+-- the phase's place is there after the weight was written
+pub pair-phase : {q r : ℕ} {b : List ℕ} (v : ℕ) → PairOnRow q r b → 0 < length (set b 1 v)
+pair-phase {b = b} v o = omega (arith, o .first, length-set b 1 v)
+
+module _ (e : List (List ℕ)) (b : List ℕ) (q : ℕ) where
+  abbrev by-letter : ℕ → ℕ → ℕ → List ℕ
+  by-letter i p k = set (set b 0 (bitXor p (tableEntry e 0 k))) i (tableEntry e 1 k)
+
+  pub letter-changed : {k z : ℕ} → LetterIndex b q k → z ≡ min (getD b 0 0) 3
+      → set (set b 0 (bitXor z (getD (getD e 0 []) k 0))) (q + 2) (getD (getD e 1 []) k 0) ≡ letterTableOnRow e q b
+  unfolding letterTableOnRow rowWith tableEntry
+  letter-changed {k} {z} o ez =
+      ap (λ (i : ℕ). by-letter i z k) (sym (place-is q))
+      ∙ ap₂ (λ (p j : ℕ). by-letter (letterPlace q) p j) (ez ∙ capped-phase (getD b 0 0)) (o .is)
+
+  module _ (r : ℕ) where
+    abbrev by-pair : ℕ → ℕ → ℕ → ℕ → ℕ → List ℕ
+    by-pair i j p v k = set (set (set (set b 1 v) 0 (bitXor p (tableEntry e 0 k))) i (tableEntry e 2 k)) j (tableEntry e 3 k)
+
+    pub pair-changed : {k z v : ℕ} → PairIndex b q r k → z ≡ min (getD b 0 0) 3 → v ≡ (getD b 1 0 + getD (getD e 1 []) k 0) % 256
+        → set (set (set (set b 1 v) 0 (bitXor z (getD (getD e 0 []) k 0))) (q + 2) (getD (getD e 2 []) k 0)) (r + 2) (getD (getD e 3 []) k 0) ≡ pairTableOnRow e q r b
+    unfolding pairTableOnRow rowWithPair rowWith tableEntry
+    pair-changed {k} {z} {v} o ez ev =
+        ap₂ (λ (i j : ℕ). by-pair i j z v k) (sym (place-is q)) (sym (place-is r))
+        ∙ ap₂ (λ (p u : ℕ). by-pair (letterPlace q) (letterPlace r) p u k) (ez ∙ capped-phase (getD b 0 0)) ev
+        ∙ ap (λ (j : ℕ). by-pair (letterPlace q) (letterPlace r) (phaseByte (phaseOf (getD b 0 0))) ((getD b 1 0 + tableEntry e 1 j) % 256) j) (o .is)
+
+pub ruleset row-changes = (letter-here, pair-here, letter-index, pair-index, letter-room, pair-phase, letter-changed, pair-changed, needs)

@@ -5,12 +5,11 @@ use mathlib.Core.Logic.{_≢_}
 use mathlib.Core.List.{List, _∷_, _++_}
 use Prim.Native.Nat.{ℕ, zero, suc, min, _+_, _*_, _-_, _%_, _≤_, _<_}
 use native.Mathlib.Nat.{mul-le-mul-right, zero-mul}
-use native.Mathlib.Numerals.{add-one}
 use native.Mathlib.Omega.{arith}
 use native.Mathlib.Decide.{decLt, ℕ-discrete}
 use lib.ListN.{length, getD, take, drop, length-drop, set, length-set, take-append-drop}
 use lib.Dec.{ltb}
-use lib.Seq.{ext-getD, getD-take, getD-drop, length-take-le, set-append-left, getD-set-same, getD-set-other}
+use lib.Seq.{ext-getD, take-at, drop-at, getD-take, getD-drop, length-take-le, set-append-left, getD-set-same, getD-set-other}
 use borrow.Author.Tests.{lt-ltb, le-ltb, le-leb, lt-leb}
 use Rattle.pauli_group.specs.Phase.{_·_}
 use Rattle.pauli_group.specs.Letter.{Letter, I, notI}
@@ -18,15 +17,15 @@ use Rattle.pauli_group.specs.PauliString.{PauliString, qubits, identityString, 
 use Rattle.pauli_group.proofs.Products.{countTo-le, countTo-ext, count-changed}
 use Rattle.pauli_group.proofs.Strings.{string-ext}
 use Rattle.clifford_group.specs.Tableau.{Tableau, Proper, Same}
-use Rattle.clifford_gates.specs.Gates.{PairImage}
-use Rattle.clifford_gates.specs.Updates.{withLetter, pairAt}
+use Rattle.clifford_gates.specs.Gates.{Image, PairImage}
+use Rattle.clifford_gates.specs.Updates.{withLetter, imageAt, pairAt}
 use Rattle.clifford_gates.proofs.OneQubitUpdates.{with-at, with-off}
 use Rattle.pauli.specs.Layout.{phaseByte, phaseOf, letterByte, letterOf, decodeString, WellFormed}
 use Rattle.pauli.specs.Rows.{letterAt, letterCount}
 use Rattle.pauli.proofs.Places.{length-listed, getD-listed, from, from-is}
 use Rattle.pauli.proofs.RowProducts.{weight-of-row}
 use Rattle.pauli.proofs.Records.{phase-back, letter-back, phase-there, letter-there, phase-small, letter-small, decode-phase, decode-letter, decode-within}
-use Rattle.clifford.specs.Layout.{weightPlace, letterPlace, rowLength, encodeRow, decodeRow, letterIn, rowWith, pairWeight, weightChange, withPair, lettersOf, FormedRow, rowOffset, recordLength, rowOf, widthOf, rowPart, tableauOf, readRow}
+use Rattle.clifford.specs.Layout.{weightPlace, letterPlace, rowLength, encodeRow, decodeRow, letterIn, rowWith, withImage, rowWithPair, pairWeight, weightChange, withPair, lettersOf, FormedRow, rowOffset, recordLength, rowOf, widthOf, rowPart, tableauOf, readRow}
 use Rattle.clifford.specs.Inside.Rows.{OwnRow, rowLetters}
 
 -- ---- the bytes of a row: where the phase, the weight and the letters are, and how many they are
@@ -188,138 +187,201 @@ row-of-work {w} {n} {d} f h e = sym (
     read : (q : ℕ) → q < w → letterAt (drop 1 d) q ≡ decodeString w d .letters q
     read q l = unfold letterAt in ap letterOf (at q) ∙ sym (decode-letter w d q l)
 
--- ---- a row with its phase, its weight and two letters changed
-pub letter-front : (w q : ℕ) (b : List ℕ) → q < w → letterIn b q ≡ letterIn (take (rowLength w) b) q
-unfolding letterIn
-letter-front w q b h = ap letterOf (sym (getD-take (rowLength w) b (letterPlace q) 0 (letter-in-row w q h)))
+-- ---- a change of the row at the front of b: it keeps the length, and what comes after the row
+pub record RowChange (w : ℕ) (f : List ℕ → List ℕ) : Type 0 where
+  pub long : (b : List ℕ) → length (f b) ≡ length b
+  pub front : (b : List ℕ) → rowLength w ≤ length b → f b ≡ f (take (rowLength w) b) ++ drop (rowLength w) b
 
-module _ (q s p v x y : ℕ) where
-  pub length-with : (b : List ℕ) → length (rowWith q s p v x y b) ≡ length b
-  unfolding rowWith
-  length-with b = simp length-set
+change-set : {w : ℕ} (k x : ℕ) → k < rowLength w → RowChange w (λ b. set b k x)
+change-set {w} k x h = record {
+  long = λ b. length-set b k x;
+  front = λ b l. ap (λ (c : List ℕ). set c k x) (sym (take-append-drop (rowLength w) b))
+      ∙ set-append-left (take (rowLength w) b) (drop (rowLength w) b) k x (omega (arith, length-take-le (rowLength w) b l));
+}
 
-  -- at the front of b
-  pub with-front : (w : ℕ) (b : List ℕ) → q < w → s < w → rowLength w ≤ length b
-      → rowWith q s p v x y b ≡ rowWith q s p v x y (take (rowLength w) b) ++ drop (rowLength w) b
-  unfolding rowWith
-  with-front w b hq hs h =
+-- one after another
+change-after : {w : ℕ} {f g : List ℕ → List ℕ} → RowChange w f → RowChange w g → RowChange w (λ b. f (g b))
+change-after {w} {f} {g} cf cg = record {
+  long = λ b. cf .long (g b) ∙ cg .long b;
+  front = λ b l.
       let a : List ℕ = take (rowLength w) b in
       let c : List ℕ = drop (rowLength w) b in
-      let a₀ : List ℕ = set a 0 p in
-      let a₁ : List ℕ = set a₀ weightPlace v in
-      let a₂ : List ℕ = set a₁ (letterPlace q) x in
-      let long : length a ≡ rowLength w = length-take-le (rowLength w) b h in
-      let long₁ : length a₁ ≡ rowLength w = length-set a₀ weightPlace v ∙ length-set a 0 p ∙ long in
-      ap (λ (l : List ℕ). set (set (set (set l 0 p) weightPlace v) (letterPlace q) x) (letterPlace s) y) (sym (take-append-drop (rowLength w) b))
-      ∙ ap (λ (l : List ℕ). set (set (set l weightPlace v) (letterPlace q) x) (letterPlace s) y) (set-append-left a c 0 p (omega (arith, row-some w)))
-      ∙ ap (λ (l : List ℕ). set (set l (letterPlace q) x) (letterPlace s) y) (set-append-left a₀ c weightPlace v (omega (arith, row-some w, length-set a 0 p)))
-      ∙ ap (λ (l : List ℕ). set l (letterPlace s) y) (set-append-left a₁ c (letterPlace q) x (omega (arith, letter-in-row w q hq)))
-      ∙ set-append-left a₂ c (letterPlace s) y (omega (arith, letter-in-row w s hs, length-set a₁ (letterPlace q) x))
+      let same : length (g a) ≡ rowLength w = cg .long a ∙ length-take-le (rowLength w) b l in
+      cf .front (g b) (omega (arith, cg .long b)) ∙ ap (λ (d : List ℕ). f (take (rowLength w) d) ++ drop (rowLength w) d) (cg .front b l)
+      ∙ ap₂ (λ (d e : List ℕ). f d ++ e) (take-at (g a) c (rowLength w) same) (drop-at (g a) c (rowLength w) same);
+}
 
--- its bytes
-abbrev headed : ℕ → ℕ → List ℕ → List ℕ
-headed p v b = set (set b 0 p) weightPlace v
+-- by what is read of the row
+pub change-by : {w : ℕ} {A : Type 0} (read : List ℕ → A) (f : A → List ℕ → List ℕ) → ((b : List ℕ) → read b ≡ read (take (rowLength w) b))
+    → ((x : A) → RowChange w (f x)) → RowChange w (λ b. f (read b) b)
+change-by {w} read f same c = record {
+  long = λ b. c (read b) .long b;
+  front = λ b l. c (read b) .front b l ∙ ap (λ x. f x (take (rowLength w) b) ++ drop (rowLength w) b) (same b);
+}
 
-length-headed : (p v : ℕ) (b : List ℕ) → length (headed p v b) ≡ length b
-length-headed p v b = length-set (set b 0 p) weightPlace v ∙ length-set b 0 p
+pub byte-front : (w k : ℕ) → k < rowLength w → (b : List ℕ) → getD b k 0 ≡ getD (take (rowLength w) b) k 0
+byte-front w k h b = sym (getD-take (rowLength w) b k 0 h)
 
-apart : {i j : ℕ} → i ≢ j → letterPlace i ≡ letterPlace j → ⊥
+pub letter-front : (w q : ℕ) → q < w → (b : List ℕ) → letterIn b q ≡ letterIn (take (rowLength w) b) q
+unfolding letterIn
+letter-front w q h b = ap letterOf (byte-front w (letterPlace q) (letter-in-row w q h) b)
+
+-- the changes that gates make
+pub change-letter : {w q : ℕ} (p x : ℕ) → q < w → RowChange w (rowWith q p x)
+unfolding rowWith
+change-letter {w} {q} p x h = change-after (change-set (letterPlace q) x (letter-in-row w q h)) (change-set 0 p (omega (arith, row-some w)))
+
+pub change-pair : {w q r : ℕ} (p v x y : ℕ) → q < w → r < w → RowChange w (rowWithPair q r p v x y)
+unfolding rowWithPair
+change-pair {w} {q} {r} p v x y hq hr =
+    change-after (change-set (letterPlace r) y (letter-in-row w r hr)) (change-after (change-letter p x hq) (change-set weightPlace v (row-some w)))
+
+pub length-with : (q p x : ℕ) (b : List ℕ) → length (rowWith q p x b) ≡ length b
+unfolding rowWith
+length-with q p x b = simp length-set
+
+pub length-with-pair : (q r p v x y : ℕ) (b : List ℕ) → length (rowWithPair q r p v x y b) ≡ length b
+unfolding rowWithPair
+length-with-pair q r p v x y b = length-set (rowWith q p x (set b weightPlace v)) (letterPlace r) y ∙ length-with q p x (set b weightPlace v) ∙ length-set b weightPlace v
+
+-- ---- the bytes of a row with its phase and a letter changed
+module _ {w q : ℕ} (p x : ℕ) (b : List ℕ) (long : length b ≡ rowLength w) (h : q < w) where
+  with-letter : getD (rowWith q p x b) (letterPlace q) 0 ≡ x
+  unfolding rowWith
+  with-letter = getD-set-same (set b 0 p) (letterPlace q) x 0 (omega (arith, length-set b 0 p, letter-in-row w q h))
+
+  with-phase : getD (rowWith q p x b) 0 0 ≡ p
+  unfolding rowWith
+  with-phase = getD-set-other (set b 0 p) (letterPlace q) 0 x 0 (omega (arith, place-is q)) ∙ getD-set-same b 0 p 0 (omega (arith, row-some w))
+
+  with-other : (k : ℕ) → k ≢ 0 → k ≢ letterPlace q → getD (rowWith q p x b) k 0 ≡ getD b k 0
+  unfolding rowWith
+  with-other k d e = getD-set-other (set b 0 p) (letterPlace q) k x 0 e ∙ getD-set-other b 0 k p 0 d
+
+apart : {i j : ℕ} → i ≢ j → letterPlace i ≢ letterPlace j
 apart {i} {j} d e = d (omega (arith, place-is i, place-is j))
 
-module _ {w q s : ℕ} (p v x y : ℕ) {b : List ℕ} (f : FormedRow w b) (hq : q < w) (hs : s < w) where
-  before-letters : (k : ℕ) → k < 2 → getD (rowWith q s p v x y b) k 0 ≡ getD (headed p v b) k 0
-  unfolding rowWith
-  before-letters k h =
-      getD-set-other (set (headed p v b) (letterPlace q) x) (letterPlace s) k _ 0 (omega (arith, place-is s))
-      ∙ getD-set-other (headed p v b) (letterPlace q) k _ 0 (omega (arith, place-is q))
+-- and with two letters and the weight
+module _ {w q r : ℕ} (p v x y : ℕ) (b : List ℕ) (long : length b ≡ rowLength w) (hq : q < w) (hr : r < w) where
+  abbrev weighed : List ℕ
+  weighed = set b weightPlace v
 
-  with-phase : getD (rowWith q s p v x y b) 0 0 ≡ p
-  with-phase = before-letters 0 (omega arith) ∙ getD-set-other (set b 0 p) weightPlace 0 _ 0 (omega arith) ∙ getD-set-same b 0 _ 0 (omega (arith, f .long, row-some w))
+  abbrev first : List ℕ
+  first = rowWith q p x weighed
 
-  with-weight : getD (rowWith q s p v x y b) weightPlace 0 ≡ v
-  with-weight = before-letters weightPlace (omega arith) ∙ getD-set-same (set b 0 p) weightPlace _ 0 (omega (arith, f .long, row-some w, length-set b 0 p))
+  weighed-long : length weighed ≡ rowLength w
+  weighed-long = length-set b weightPlace v ∙ long
 
-  with-second : getD (rowWith q s p v x y b) (letterPlace s) 0 ≡ y
-  unfolding rowWith
-  with-second =
-      getD-set-same (set (headed p v b) (letterPlace q) x) (letterPlace s) _ 0
-      (omega (arith, f .long, length-headed p v b, length-set (headed p v b) (letterPlace q) x, letter-in-row w s hs))
+  pair-second : getD (rowWithPair q r p v x y b) (letterPlace r) 0 ≡ y
+  unfolding rowWithPair
+  pair-second = getD-set-same first (letterPlace r) y 0 (omega (arith, length-with q p x weighed, weighed-long, letter-in-row w r hr))
 
-  with-first : q ≢ s → getD (rowWith q s p v x y b) (letterPlace q) 0 ≡ x
-  unfolding rowWith
-  with-first d =
-      getD-set-other (set (headed p v b) (letterPlace q) x) (letterPlace s) (letterPlace q) _ 0 (apart d)
-      ∙ getD-set-same (headed p v b) (letterPlace q) _ 0 (omega (arith, f .long, length-headed p v b, letter-in-row w q hq))
+  pair-first : q ≢ r → getD (rowWithPair q r p v x y b) (letterPlace q) 0 ≡ x
+  unfolding rowWithPair
+  pair-first d = getD-set-other first (letterPlace r) (letterPlace q) y 0 (apart d) ∙ with-letter p x weighed weighed-long hq
 
-  with-other : (k : ℕ) → k ≢ q → k ≢ s → getD (rowWith q s p v x y b) (letterPlace k) 0 ≡ getD b (letterPlace k) 0
-  unfolding rowWith
-  with-other k d e =
-      getD-set-other (set (headed p v b) (letterPlace q) x) (letterPlace s) (letterPlace k) _ 0 (apart e)
-      ∙ getD-set-other (headed p v b) (letterPlace q) (letterPlace k) _ 0 (apart d)
-      ∙ getD-set-other (set b 0 p) weightPlace (letterPlace k) _ 0 (omega (arith, place-is k)) ∙ getD-set-other b 0 (letterPlace k) _ 0 (omega (arith, place-is k))
+  pair-phase : getD (rowWithPair q r p v x y b) 0 0 ≡ p
+  unfolding rowWithPair
+  pair-phase = getD-set-other first (letterPlace r) 0 y 0 (omega (arith, place-is r)) ∙ with-phase p x weighed weighed-long hq
 
--- ---- the weight of a string after two letters changed
+  pair-weight : getD (rowWithPair q r p v x y b) weightPlace 0 ≡ v
+  unfolding rowWithPair
+  pair-weight =
+      getD-set-other first (letterPlace r) weightPlace y 0 (omega (arith, place-is r))
+      ∙ with-other p x weighed weighed-long hq weightPlace (omega arith) (omega (arith, place-is q)) ∙ getD-set-same b weightPlace v 0 (omega (arith, row-some w))
+
+  pair-other : (k : ℕ) → k ≢ q → k ≢ r → getD (rowWithPair q r p v x y b) (letterPlace k) 0 ≡ getD b (letterPlace k) 0
+  unfolding rowWithPair
+  pair-other k d e =
+      getD-set-other first (letterPlace r) (letterPlace k) y 0 (apart e)
+      ∙ with-other p x weighed weighed-long hq (letterPlace k) (omega (arith, place-is k)) (apart d)
+      ∙ getD-set-other b weightPlace (letterPlace k) v 0 (omega (arith, place-is k))
+
+-- ---- the weight of a string after a letter changed, and after two
 one-changed : (w q : ℕ) (l : Letter) (f : ℕ → Letter) → q < w
     → countTo w (λ k. notI (withLetter q l f k)) + cond (notI (f q)) 1 0 ≡ countTo w (λ k. notI (f k)) + cond (notI l) 1 0
 one-changed w q l f h =
     count-changed w (λ k. notI (f k)) (λ k. notI (withLetter q l f k)) q h (λ k d. ap notI (sym (with-off q l f k d)))
     ∙ ap (λ x. countTo w (λ k. notI (f k)) + cond (notI x) 1 0) (with-at q l f q refl)
 
-module _ {w q s : ℕ} (u : PauliString) (i : PairImage) (hq : q < w) (hs : s < w) (same : q ≡ s → i .first ≡ i .second)
-    (kept : q ≡ s → notI (i .first) ≡ notI (u .letters q)) where
-  weight-changed : weightTo w (pairAt q s i u) + pairWeight (u .letters q) (u .letters s) ≡ weightTo w u + pairWeight (i .first) (i .second)
+weight-kept : {w q : ℕ} (u : PauliString) (i : Image) → q < w → notI (i .letter) ≡ notI (u .letters q) → weightTo w (imageAt q i u) ≡ weightTo w u
+unfolding weightTo hasLetter imageAt
+weight-kept {w} {q} u i h kept = omega (arith, one-changed w q (i .letter) (u .letters) h, ap {B = ℕ} (λ c. cond c 1 0) kept)
+
+module _ {w q r : ℕ} (u : PauliString) (i : PairImage) (hq : q < w) (hr : r < w) (d : q ≢ r) where
+  weight-changed : weightTo w (pairAt q r i u) + pairWeight (u .letters q) (u .letters r) ≡ weightTo w u + pairWeight (i .first) (i .second)
   unfolding weightTo hasLetter pairWeight pairAt
   weight-changed =
-      let g : ℕ → Letter = withLetter s (i .second) (u .letters) in
-      let inner = one-changed w s (i .second) (u .letters) hs in
-      let outer = one-changed w q (i .first) g hq in
-      elim (ℕ-discrete q s) [
-        | yes e ↦ omega (arith, inner, outer, ap {B = ℕ} (λ x. cond (notI x) 1 0) (with-at s (i .second) (u .letters) q e ∙ sym (same e)), ap {B = ℕ} (λ c. cond c 1 0) (kept e), ap {B = ℕ} (λ (k : ℕ). cond (notI (u .letters k)) 1 0) e, ap {B = ℕ} (λ x. cond (notI x) 1 0) (same e))
-        | no d ↦ omega (arith, inner, outer, ap {B = ℕ} (λ x. cond (notI x) 1 0) (with-off s (i .second) (u .letters) q d))
+      omega (
+        arith,
+        one-changed w r (i .second) (u .letters) hr,
+        one-changed w q (i .first) (withLetter r (i .second) (u .letters)) hq,
+        ap {B = ℕ} (λ x. cond (notI x) 1 0) (with-off r (i .second) (u .letters) q d),
+      )
+
+  weight-by : w ≤ 255 → (weightTo w u + weightChange (u .letters q) (u .letters r) i) % 256 ≡ weightTo w (pairAt q r i u)
+  unfolding weightChange
+  weight-by h = omega (arith, weight-changed, weight-small w (pairAt q r i u), pair-small (u .letters q) (u .letters r))
+
+-- ---- the bytes of a row are changed as its string is: by the image of a letter
+module _ {w q : ℕ} (i : Image) {b : List ℕ} (f : FormedRow w b) (h : q < w) (kept : notI (i .letter) ≡ notI (decodeRow w b .letters q)) where
+  pub image-bytes : encodeRow w (imageAt q i (decodeRow w b)) ≡ withImage q i b
+  image-bytes = sym (row-bytes w (withImage q i b) moved long phase weight letter)
+    where
+      moved : PauliString
+      moved = imageAt q i (decodeRow w b)
+
+      long : length (withImage q i b) ≡ rowLength w
+      long = unfold withImage in length-with q _ _ b ∙ f .long
+
+      phase : getD (withImage q i b) 0 0 ≡ phaseByte (moved .phase)
+      phase = unfold withImage imageAt in with-phase _ _ b (f .long) h ∙ ap (λ p. phaseByte (p · i .phase)) (sym (row-phase-at w b))
+
+      weight : getD (withImage q i b) weightPlace 0 ≡ weightTo w moved
+      weight = unfold withImage in
+          with-other _ _ b (f .long) h weightPlace (omega arith) (omega (arith, place-is q)) ∙ f .weight ∙ sym (weight-kept (decodeRow w b) i h kept)
+
+      letter : (k : ℕ) → k < w → getD (withImage q i b) (letterPlace k) 0 ≡ letterByte (moved .letters k)
+      letter k l = unfold withImage imageAt in elim (ℕ-discrete k q) [
+        | yes e ↦ ap (λ j. getD (withImage q i b) (letterPlace j) 0) e ∙ with-letter _ _ b (f .long) h ∙ ap letterByte (sym (with-at q (i .letter) _ k e))
+        | no d ↦ with-other _ _ b (f .long) h (letterPlace k) (omega (arith, place-is k)) (apart d) ∙ row-letter-byte f k l
+            ∙ ap letterByte (sym (with-off q (i .letter) _ k d))
       ]
 
-  pub weight-by : w ≤ 255 → (weightTo w u + weightChange (u .letters q) (u .letters s) i) % 256 ≡ weightTo w (pairAt q s i u)
-  unfolding weightChange
-  weight-by h = omega (arith, weight-changed, weight-small w (pairAt q s i u), pair-small (u .letters q) (u .letters s))
+-- and by that of two
+module _ {w q r : ℕ} (i : PairImage) {b : List ℕ} (f : FormedRow w b) (narrow : w ≤ 255) (hq : q < w) (hr : r < w) (d : q ≢ r) where
+  pub pair-bytes : encodeRow w (pairAt q r i (decodeRow w b)) ≡ withPair q r i b
+  pair-bytes = sym (row-bytes w (withPair q r i b) moved long phase weight letter)
+    where
+      string : PauliString
+      string = decodeRow w b
 
--- its bytes are changed as its string is
-module _ {w q s : ℕ} (i : PairImage) {b : List ℕ} (f : FormedRow w b) (narrow : w ≤ 255) (hq : q < w) (hs : s < w) where
-  abbrev string : PauliString
-  string = decodeRow w b
+      moved : PauliString
+      moved = pairAt q r i string
 
-  abbrev moved : PauliString
-  moved = pairAt q s i string
+      long : length (withPair q r i b) ≡ rowLength w
+      long = unfold withPair in length-with-pair q r _ _ _ _ b ∙ f .long
 
-  module _ (same : q ≡ s → i .first ≡ i .second) (kept : q ≡ s → notI (i .first) ≡ notI (string .letters q)) where
-    at-letter : (k : ℕ) → k < w → getD (withPair q s i b) (letterPlace k) 0 ≡ letterByte (moved .letters k)
-    unfolding withPair pairAt
-    at-letter k h = elim (ℕ-discrete k s) [
-      | yes e ↦ ap (λ j. getD (withPair q s i b) (letterPlace j) 0) e ∙ with-second _ _ _ _ f hq hs
-          ∙ elim (ℕ-discrete k q) [
-            | yes d ↦ ap letterByte (sym (with-at q (i .first) _ k d ∙ same (sym d ∙ e)))
-            | no d ↦ ap letterByte (sym (with-off q (i .first) _ k d ∙ with-at s (i .second) _ k e))
-          ]
-      | no e ↦ elim (ℕ-discrete k q) [
-          | yes d ↦ ap (λ j. getD (withPair q s i b) (letterPlace j) 0) d ∙ with-first _ _ _ _ f hq hs (λ z. e (d ∙ z)) ∙ ap letterByte (sym (with-at q (i .first) _ k d))
-          | no d ↦ with-other _ _ _ _ f hq hs k d e ∙ row-letter-byte f k h ∙ ap letterByte (sym (with-off q (i .first) _ k d ∙ with-off s (i .second) _ k e))
+      phase : getD (withPair q r i b) 0 0 ≡ phaseByte (moved .phase)
+      phase = unfold withPair pairAt in pair-phase _ _ _ _ b (f .long) hq hr ∙ ap (λ p. phaseByte (p · i .phase)) (sym (row-phase-at w b))
+
+      weight : getD (withPair q r i b) weightPlace 0 ≡ weightTo w moved
+      weight = unfold withPair in
+          pair-weight _ _ _ _ b (f .long) hq hr ∙ ap (λ (n : ℕ). (n + weightChange (letterIn b q) (letterIn b r) i) % 256) (f .weight)
+          ∙ ap₂ (λ x y. (weightTo w string + weightChange x y i) % 256) (sym (row-letter-at w b q hq)) (sym (row-letter-at w b r hr))
+          ∙ weight-by string i hq hr d narrow
+
+      letter : (k : ℕ) → k < w → getD (withPair q r i b) (letterPlace k) 0 ≡ letterByte (moved .letters k)
+      letter k l = unfold withPair pairAt in elim (ℕ-discrete k r) [
+        | yes e ↦ ap (λ j. getD (withPair q r i b) (letterPlace j) 0) e ∙ pair-second _ _ _ _ b (f .long) hq hr
+            ∙ ap letterByte (sym (with-off q (i .first) _ k (λ z. d (sym z ∙ e)) ∙ with-at r (i .second) _ k e))
+        | no e ↦ elim (ℕ-discrete k q) [
+          | yes c ↦ ap (λ j. getD (withPair q r i b) (letterPlace j) 0) c ∙ pair-first _ _ _ _ b (f .long) hq hr d
+              ∙ ap letterByte (sym (with-at q (i .first) _ k c))
+          | no c ↦ pair-other _ _ _ _ b (f .long) hq hr k c e ∙ row-letter-byte f k l
+              ∙ ap letterByte (sym (with-off q (i .first) _ k c ∙ with-off r (i .second) _ k e))
         ]
-    ]
-
-    pub pair-bytes : encodeRow w moved ≡ withPair q s i b
-    pair-bytes = sym (row-bytes w (withPair q s i b) moved long phase weight at-letter)
-      where
-        long : length (withPair q s i b) ≡ rowLength w
-        long = unfold withPair in length-with q s _ _ _ _ b ∙ f .long
-
-        phase : getD (withPair q s i b) 0 0 ≡ phaseByte (moved .phase)
-        phase = unfold withPair pairAt in with-phase _ _ _ _ f hq hs ∙ ap (λ p. phaseByte (p · i .phase)) (sym (row-phase-at w b))
-
-        weight : getD (withPair q s i b) weightPlace 0 ≡ weightTo w moved
-        weight = unfold withPair in
-            with-weight _ _ _ _ f hq hs
-            ∙ ap (λ (n : ℕ). (n + weightChange (letterIn b q) (letterIn b s) i) % 256) (f .weight)
-            ∙ ap₂ (λ x y. (weightTo w string + weightChange x y i) % 256) (sym (row-letter-at w b q hq)) (sym (row-letter-at w b s hs))
-            ∙ weight-by string i hq hs same kept narrow
+      ]
 
 -- ---- where the rows of a record are
 pub first-offset : (w : ℕ) → rowOffset w 0 ≡ 1

@@ -10,7 +10,7 @@ use Rattle.pauli_group.specs.Phase.{_·_}
 use Rattle.pauli_group.specs.Letter.{Letter, I, X, Z, notI}
 use Rattle.pauli_group.specs.PauliString.{PauliString, qubits, identityString, weightTo}
 use Rattle.clifford_group.specs.Tableau.{Tableau}
-use Rattle.clifford_gates.specs.Gates.{PairImage}
+use Rattle.clifford_gates.specs.Gates.{Image, PairImage}
 use Rattle.pauli.specs.Places.{listed}
 use Rattle.pauli.specs.Layout.{phaseByte, phaseOf, letterByte, letterOf}
 
@@ -40,9 +40,17 @@ decodeRow w b = record {
   letters = λ q. cond (ltb q w) (letterIn b q) I;
 }
 
--- with these bytes as its phase, as its weight, and as its letters on qubits q and r; every other byte stays
-unfoldable pub rowWith : ℕ → ℕ → (phase weight first second : ℕ) → List ℕ → List ℕ
-rowWith q r p v x y b = set (set (set (set b 0 p) weightPlace v) (letterPlace q) x) (letterPlace r) y
+-- with these bytes as its phase and as its letter on qubit q; every other byte stays
+unfoldable pub rowWith : ℕ → (phase letter : ℕ) → List ℕ → List ℕ
+rowWith q p x b = set (set b 0 p) (letterPlace q) x
+
+-- Its phase times that of an image, and the image's letter on qubit q. The weight stays: a one-qubit gate makes no letter an I.
+unfoldable pub withImage : ℕ → Image → List ℕ → List ℕ
+withImage q i b = rowWith q (phaseByte (phaseOf (getD b 0 0) · i .phase)) (letterByte (i .letter)) b
+
+-- the same with two letters, on qubits q and r, and with a weight
+unfoldable pub rowWithPair : ℕ → ℕ → (phase weight first second : ℕ) → List ℕ → List ℕ
+rowWithPair q r p v x y b = set (rowWith q p x (set b weightPlace v)) (letterPlace r) y
 
 -- how many of two letters are other than I; what is added to a row's weight, modulo 256, where a and b become the letters of an image
 unfoldable pub pairWeight : Letter → Letter → ℕ
@@ -54,7 +62,7 @@ weightChange a b i = (256 + pairWeight (i .first) (i .second) - pairWeight a b) 
 -- Its phase times that of an image, the image's letters on qubits q and r, and its weight by the difference.
 unfoldable pub withPair : ℕ → ℕ → PairImage → List ℕ → List ℕ
 withPair q r i b =
-    rowWith q r (phaseByte (phaseOf (getD b 0 0) · i .phase))
+    rowWithPair q r (phaseByte (phaseOf (getD b 0 0) · i .phase))
     ((getD b weightPlace 0 + weightChange (letterIn b q) (letterIn b r) i) % 256) (letterByte (i .first)) (letterByte (i .second)) b
 
 -- its letter bytes

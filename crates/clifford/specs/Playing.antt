@@ -1,5 +1,5 @@
 -- A gate composed on the left of a tableau record, in place: each row changes its phase, and its letters on the gate's qubits.
-use Prim.Native.Nat.{ℕ, _+_, _*_, _/_, _%_}
+use Prim.Native.Nat.{ℕ, _+_, _*_, _-_, _/_, _%_}
 use mathlib.Core.Path.{_≡_}
 use mathlib.Core.Bool.{Bool, true, cond, not, _&&_}
 use mathlib.Core.List.{List, [], _∷_}
@@ -12,23 +12,14 @@ use Rattle.clifford_gates.specs.GateNumbers.{oneQubitGate, twoQubitGate}
 use Rattle.clifford_gates.specs.Updates.{letterImage, pairImage}
 use Rattle.pauli.specs.Places.{listed}
 use Rattle.pauli.specs.Layout.{phaseByte, phaseOf, letterByte, letterOf}
-use Rattle.clifford.specs.Layout.{recordLength, widthOf, weightPlace, letterIn, weightChange, rowWith, withPair, eachRow}
+use Rattle.clifford.specs.Layout.{recordLength, widthOf, weightPlace, letterIn, rowWith, withImage, weightChange, rowWithPair, withPair, eachRow}
 
--- an image with its letter as the first and as the second
-unfoldable pub twice : Image → PairImage
-twice i = record { phase = i .phase; first = i .letter; second = i .letter }
-
--- what gate g makes of the letters on its qubits; a one-qubit gate looks at the first alone
-unfoldable pub movedBy : ℕ → Letter → Letter → PairImage
-movedBy g a b = cond (ltb g 24) (twice (letterImage (oneQubitGate g) a)) (pairImage (twoQubitGate g) a b)
-
--- the gate's second qubit; the qubit of a one-qubit gate stands for both
-unfoldable pub secondQubit : ℕ → ℕ → ℕ → ℕ
-secondQubit g q r = cond (ltb g 24) q r
-
--- gate g on qubits q and s of a row
+-- gate g on qubit q of a row, or on qubits q and r
 unfoldable pub gateOnRow : ℕ → ℕ → ℕ → List ℕ → List ℕ
-gateOnRow g q s b = withPair q s (movedBy g (letterIn b q) (letterIn b s)) b
+gateOnRow g q r b =
+    cond (ltb g 24)
+    (withImage q (letterImage (oneQubitGate g) (letterIn b q)) b)
+    (withPair q r (pairImage (twoQubitGate g) (letterIn b q) (letterIn b r)) b)
 
 -- the second qubit of a two-qubit gate is below the width w and another than the first; that of a one-qubit gate isn't looked at
 unfoldable pub secondFits : ℕ → ℕ → ℕ → ℕ → Bool
@@ -42,7 +33,7 @@ playable g q r t =
 
 -- the record after the gate; where the gate has no place in it, it stays
 unfoldable pub played : ℕ → ℕ → ℕ → List ℕ → List ℕ
-played g q r t = cond (playable g q r t) (eachRow (gateOnRow g q (secondQubit g q r)) t) t
+played g q r t = cond (playable g q r t) (eachRow (gateOnRow g q r) t) t
 
 -- what the kernel promises of a record t: whether the gate was played, and the bytes e at exit
 pub record GatePlayed (g q r : ℕ) (t e : List ℕ) (b : Bool) : Type 0 where
@@ -51,37 +42,58 @@ pub record GatePlayed (g q r : ℕ) (t e : List ℕ) (b : Bool) : Type 0 where
 
 -- ---- the gates' tables
 
--- what gate g makes of the letters a and b, at 4a + b
-unfoldable pub column : ℕ → (Letter → Letter → PairImage → ℕ) → List ℕ
-column g f = listed 16 (λ k. f (letterOf (k / 4)) (letterOf (k % 4)) (movedBy g (letterOf (k / 4)) (letterOf (k % 4))))
+-- what a one-qubit gate makes of the letter a, at a: the signs and the letters
+unfoldable pub letterColumn : ℕ → (Image → ℕ) → List ℕ
+letterColumn g f = listed 4 (λ k. f (letterImage (oneQubitGate g) (letterOf k)))
 
--- the signs, what is added to the weight, the first letters and the second ones
-unfoldable pub tableOf : ℕ → List (List ℕ)
-tableOf g =
-    column g (λ a b i. phaseByte (i .phase)) ∷
-    column g weightChange ∷
-    column g (λ a b i. letterByte (i .first)) ∷
-    column g (λ a b i. letterByte (i .second)) ∷
+unfoldable pub letterTable : ℕ → List (List ℕ)
+letterTable g = letterColumn g (λ i. phaseByte (i .phase)) ∷ letterColumn g (λ i. letterByte (i .letter)) ∷ []
+
+-- what a two-qubit gate makes of the letters a and b, at 4a + b: the signs, what is added to the weight, the first letters and the
+-- second ones
+unfoldable pub pairColumn : ℕ → (Letter → Letter → PairImage → ℕ) → List ℕ
+pairColumn g f = listed 16 (λ k. f (letterOf (k / 4)) (letterOf (k % 4)) (pairImage (twoQubitGate g) (letterOf (k / 4)) (letterOf (k % 4))))
+
+unfoldable pub pairTable : ℕ → List (List ℕ)
+pairTable g =
+    pairColumn g (λ a b i. phaseByte (i .phase)) ∷
+    pairColumn g weightChange ∷
+    pairColumn g (λ a b i. letterByte (i .first)) ∷
+    pairColumn g (λ a b i. letterByte (i .second)) ∷
     []
 
-unfoldable pub gateTables : List (List (List ℕ))
-gateTables = listed 38 tableOf
+-- of gates 0 to 23, and of gates 24 to 37
+unfoldable pub letterTables : List (List (List ℕ))
+letterTables = listed 24 letterTable
 
--- what row j of a table of any bytes has for two letters
-unfoldable pub entry : List (List ℕ) → ℕ → Letter → Letter → ℕ
-entry e j a b = getD (getD e j []) (4 * letterByte a + letterByte b) 0
+unfoldable pub pairTables : List (List (List ℕ))
+pairTables = listed 14 (λ k. pairTable (24 + k))
 
--- a row changed on qubits q and s as a table says; a sign is put into the phase's byte by its bits
-unfoldable pub tableOnRow : List (List ℕ) → ℕ → ℕ → List ℕ → List ℕ
-tableOnRow e q s b =
-    let at : ℕ → ℕ = λ j. entry e j (letterIn b q) (letterIn b s) in
-    rowWith q s (bitXor (phaseByte (phaseOf (getD b 0 0))) (at 0)) ((getD b weightPlace 0 + at 1) % 256) (at 2) (at 3) b
+-- what row j of a table of any bytes has at place k
+unfoldable pub tableEntry : List (List ℕ) → ℕ → ℕ → ℕ
+tableEntry e j k = getD (getD e j []) k 0
 
--- the record after gate g by tables of any bytes; `gate-played`: by the gates' own it is `played`
-unfoldable pub playedBy : List (List (List ℕ)) → ℕ → ℕ → ℕ → List ℕ → List ℕ
-playedBy ts g q r t = cond (playable g q r t) (eachRow (tableOnRow (getD ts g []) q (secondQubit g q r)) t) t
+-- a row changed on qubit q as a table says; a sign is put into the phase's byte by its bits
+unfoldable pub letterTableOnRow : List (List ℕ) → ℕ → List ℕ → List ℕ
+letterTableOnRow e q b =
+    let at : ℕ → ℕ = λ j. tableEntry e j (letterByte (letterIn b q)) in
+    rowWith q (bitXor (phaseByte (phaseOf (getD b 0 0))) (at 0)) (at 1) b
 
--- what the kernel promises where it is lent the tables ts
-pub record PlayedBy (ts : List (List (List ℕ))) (g q r : ℕ) (t e : List ℕ) (b : Bool) : Type 0 where
+-- and on qubits q and r
+unfoldable pub pairTableOnRow : List (List ℕ) → ℕ → ℕ → List ℕ → List ℕ
+pairTableOnRow e q r b =
+    let at : ℕ → ℕ = λ j. tableEntry e j (4 * letterByte (letterIn b q) + letterByte (letterIn b r)) in
+    rowWithPair q r (bitXor (phaseByte (phaseOf (getD b 0 0))) (at 0)) ((getD b weightPlace 0 + at 1) % 256) (at 2) (at 3) b
+
+-- gate g on a row by tables of any bytes: `ones` for the one-qubit gates, `twos` for the others
+unfoldable pub tableOnRow : (ones twos : List (List (List ℕ))) → ℕ → ℕ → ℕ → List ℕ → List ℕ
+tableOnRow ones twos g q r = cond (ltb g 24) (letterTableOnRow (getD ones g []) q) (pairTableOnRow (getD twos (g - 24) []) q r)
+
+-- the record after it; `gate-played`: by the gates' own tables it is `played`
+unfoldable pub playedBy : (ones twos : List (List (List ℕ))) → ℕ → ℕ → ℕ → List ℕ → List ℕ
+playedBy ones twos g q r t = cond (playable g q r t) (eachRow (tableOnRow ones twos g q r) t) t
+
+-- what the kernel promises where it is lent tables
+pub record PlayedBy (ones twos : List (List (List ℕ))) (g q r : ℕ) (t e : List ℕ) (b : Bool) : Type 0 where
   pub flag : b ≡ playable g q r t
-  pub bytes : e ≡ playedBy ts g q r t
+  pub bytes : e ≡ playedBy ones twos g q r t

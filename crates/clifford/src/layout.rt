@@ -3,10 +3,10 @@ ghost use mathlib.Core.Path.{_≡_};
 ghost use Prim.Native.Nat.{_≤_, min};
 ghost use lib.ListN.{getD};
 ghost use Rattle.pauli.specs.Layout.{phaseByte, letterByte};
-ghost use Rattle.clifford.specs.Playing.{tableOnRow};
+ghost use Rattle.clifford.specs.Playing.{letterTableOnRow, pairTableOnRow};
 ghost use Rattle.clifford.specs.Layout.{widthOf, recordLength, rowOffset, rowOf, rowPart, readRow, tableauOf, rowQubit, rowLetter};
 ghost use Rattle.clifford.specs.Questions.{rowQuestion, weightsQuestion};
-ghost use Rattle.clifford.specs.Inside.Rows.{Sized, RowIndex, RowInside, RowAt, RowChecked, FirstFalse, OwnRow, OwnLetter, WorkOnRow, Finished, rowTimes, rowWritten, rowLetters, lettersIn, stringIn, OnRow, PairPlace};
+ghost use Rattle.clifford.specs.Inside.Rows.{Sized, RowIndex, RowInside, RowAt, RowChecked, FirstFalse, OwnRow, OwnLetter, WorkOnRow, Finished, rowTimes, rowWritten, rowLetters, lettersIn, stringIn, OnRow, LetterIndex, PairOnRow, PairIndex};
 use pauli::QUBITS;
 use pauli::refusal::Outcome;
 use pauli::refusal::Refusal;
@@ -212,24 +212,42 @@ pub fn letter_at(t: &[u8], r: usize, q: usize) -> u8
     read_at(t, row_offset(n, r) + 2 + q)
 }
 
-// Where a table has its entry for the letters on qubits q and s of the row at the front of b.
-fn pair_place(b: &[u8], q: usize, s: usize) -> usize
-    requires { ⌜ OnRow q s (now b) ⌝ }
-    ensures { λ k. ⌜ PairPlace (now (b .entry)) q s k ⌝ }
+// Where a table has its entry for the letter on qubit q of the row at the front of b.
+fn letter_index(b: &[u8], q: usize) -> usize
+    requires { ⌜ OnRow q (now b) ⌝ }
+    ensures { λ k. ⌜ LetterIndex (now (b .entry)) q k ⌝ }
 {
-    wide(4 * read(b[q + 2]) + read(b[s + 2]))
+    wide(read(b[q + 2]))
 }
 
-// The row at the front of b, changed on qubits q and s as the table says.
-pub(crate) fn change_row(b: &mut [u8], q: usize, s: usize, table: &[[u8; 16]; 4])
-    requires { ⌜ OnRow q s (now b) ⌝ }
-    ensures { λ _. ⌜ now (b .exit) ≡ tableOnRow (now (table .entry)) q s (now (b .entry)) ⌝ }
+// The row at the front of b, changed on qubit q as the table says.
+pub(crate) fn change_letter(b: &mut [u8], q: usize, table: &[[u8; 4]; 2])
+    requires { ⌜ OnRow q (now b) ⌝ }
+    ensures { λ _. ⌜ now (b .exit) ≡ letterTableOnRow (now (table .entry)) q (now (b .entry)) ⌝ }
 {
-    let k = pair_place(b, q, s);
+    let k = letter_index(b, q);
+    b[0] = read(b[0]) ^ table[0][k];
+    b[q + 2] = table[1][k];
+}
+
+// Where a table has its entry for the letters on qubits q and r of the row at the front of b.
+fn pair_index(b: &[u8], q: usize, r: usize) -> usize
+    requires { ⌜ PairOnRow q r (now b) ⌝ }
+    ensures { λ k. ⌜ PairIndex (now (b .entry)) q r k ⌝ }
+{
+    wide(4 * read(b[q + 2]) + read(b[r + 2]))
+}
+
+// The row at the front of b, changed on qubits q and r as the table says.
+pub(crate) fn change_pair(b: &mut [u8], q: usize, r: usize, table: &[[u8; 16]; 4])
+    requires { ⌜ PairOnRow q r (now b) ⌝ }
+    ensures { λ _. ⌜ now (b .exit) ≡ pairTableOnRow (now (table .entry)) q r (now (b .entry)) ⌝ }
+{
+    let k = pair_index(b, q, r);
     let phase = read(b[0]) ^ table[0][k];
     let weight = std::num::wrapping_add_u8(b[1], table[1][k]);
-    b[0] = phase;
     b[1] = weight;
+    b[0] = phase;
     b[q + 2] = table[2][k];
-    b[s + 2] = table[3][k];
+    b[r + 2] = table[3][k];
 }

@@ -5,92 +5,42 @@ use mathlib.Core.Logic.{_≢_}
 use mathlib.Core.List.{List, _∷_}
 use Prim.Native.Nat.{ℕ, suc, max, _*_, _≤_, _<_}
 use native.Mathlib.Omega.{arith}
-use native.Mathlib.Decide.{ℕ-discrete, decLt}
+use native.Mathlib.Decide.{decLt}
 use lib.ListN.{length}
 use borrow.Author.Tests.{lt-ltb, le-ltb}
-use Rattle.pauli_group.specs.Letter.{Letter, notI}
+use Rattle.pauli_group.specs.Letter.{Letter}
 use Rattle.pauli_group.specs.PauliString.{PauliString, qubits, Within}
-use Rattle.pauli_group.proofs.Strings.{string-ext}
 use Rattle.clifford_group.specs.Tableau.{Tableau, rowImage, imageOf, apply, compose, Clifford, Same}
 use Rattle.clifford_group.specs.Conjugation.{ofX, ofZ}
 use Rattle.clifford_group.proofs.Images.{image-own}
 use Rattle.clifford_group.proofs.Compose.{row-compose, width-compose, proper-compose}
 use Rattle.clifford_group.proofs.Same.{same-refl, compose-same}
-use Rattle.clifford_gates.specs.Gates.{Image}
+use Rattle.clifford_gates.specs.Gates.{Image, PairImage}
 use Rattle.clifford_gates.specs.GateNumbers.{oneQubitGate, twoQubitGate, gateTableau}
-use Rattle.clifford_gates.specs.Updates.{letterImage, pairImage, imageAt, pairAt}
+use Rattle.clifford_gates.specs.Updates.{letterImage, pairImage}
 use Rattle.clifford_gates.proofs.GateTableaux.{clifford-on-qubit}
-use Rattle.clifford_gates.proofs.OneQubitUpdates.{image-notI, with-at, with-off, apply-on-qubit}
+use Rattle.clifford_gates.proofs.OneQubitUpdates.{image-notI, apply-on-qubit}
 use Rattle.clifford_gates.proofs.TwoQubitUpdates.{apply-on-qubits}
 use Rattle.clifford_gates.proofs.GateNames.{gate-valid, pair-gate-valid, gate-one, gate-two, gate-clifford}
-use Rattle.clifford.specs.Layout.{rowLength, encodeRow, decodeRow, rowOf, joined, tableauRecord, widthOf, rowPart, tableauOf, withPair, eachRow, recordLength, FormedTableau, rowQubit, rowLetter}
+use Rattle.clifford.specs.Layout.{rowLength, encodeRow, decodeRow, rowOf, joined, tableauRecord, widthOf, rowPart, tableauOf, withImage, withPair, eachRow, recordLength, FormedRow, FormedTableau, rowQubit, rowLetter}
 use Rattle.clifford.specs.Tableaux.{composeRecord}
 use Rattle.clifford.specs.GateQuestions.{gateWidth}
 use Rattle.clifford.specs.GateAnswers.{gateRecord}
-use Rattle.clifford.specs.Playing.{twice, movedBy, secondQubit, gateOnRow, playable, played, GatePlayed}
+use Rattle.clifford.specs.Playing.{gateOnRow, playable, played, GatePlayed}
 use Rattle.clifford.proofs.Joining.{joined-ext, length-below}
-use Rattle.clifford.proofs.Rows.{length-with, pair-bytes, row-letter-at, row-within, row-part, length-part, width-of}
+use Rattle.clifford.proofs.Rows.{length-with, length-with-pair, image-bytes, pair-bytes, row-letter-at, row-within, row-part, length-part, width-of}
 use Rattle.clifford.proofs.Records.{record-back, proper-of, record-formed, same-record}
 use Rattle.clifford.proofs.RowWriting.{row-made, qubit-below}
 use Rattle.clifford.proofs.RecordLaws.{compose-formed}
 use Rattle.clifford.proofs.GateWriting.{gate-width}
-use Rattle.clifford.proofs.Play.{playable-is, playable-yes, second-one, second-two}
+use Rattle.clifford.proofs.Play.{playable-is, playable-yes, gate-on-letter, gate-on-pair}
 
--- ---- what a gate does to a string
-one-as-pair : (q : ℕ) (i : Image) (u : PauliString) → imageAt q i u ≡ pairAt q q (twice i) u
-unfolding imageAt pairAt twice
-one-as-pair q i u =
-    string-ext (imageAt q i u) (pairAt q q (twice i) u) refl
-    (λ k. elim (ℕ-discrete k q) [
-      | yes e ↦ with-at q (i .letter) _ k e ∙ sym (with-at q (i .letter) _ k e)
-      | no d ↦ with-off q (i .letter) _ k d ∙ sym (with-off q (i .letter) _ k d ∙ with-off q (i .letter) _ k d)
-    ])
-
-both-same : (i : Image) → twice i .first ≡ twice i .second
-unfolding twice
-both-same i = refl
-
-moved-one : (g : ℕ) (a b : Letter) → g < 24 → movedBy g a b ≡ twice (letterImage (oneQubitGate g) a)
-unfolding movedBy
-moved-one g a b h = ap (λ c. cond c (twice (letterImage (oneQubitGate g) a)) (pairImage (twoQubitGate g) a b)) (lt-ltb g 24 h)
-
-moved-two : (g : ℕ) (a b : Letter) → 24 ≤ g → movedBy g a b ≡ pairImage (twoQubitGate g) a b
-unfolding movedBy
-moved-two g a b h = ap (λ c. cond c (twice (letterImage (oneQubitGate g) a)) (pairImage (twoQubitGate g) a b)) (le-ltb g 24 h)
-
-module _ (g q r : ℕ) (hg : g < 38) (hq : q < qubits) (hr : 24 ≤ g → r < qubits) (d : 24 ≤ g → q ≢ r) where
-  pub clifford-gate : Clifford (gateTableau g q r)
-  clifford-gate = elim (decLt g 24) [
-    | yes l ↦ subst Clifford (sym (gate-one g q r l)) (clifford-on-qubit (oneQubitGate g) (gate-valid g l) q hq)
-    | no l ↦ let m : 24 ≤ g = omega arith in gate-clifford g q r hg hq (hr m) d
-  ]
-
-  pub apply-gate : (u : PauliString) → Within qubits u
-      → apply (gateTableau g q r) u ≡ pairAt q (secondQubit g q r) (movedBy g (u .letters q) (u .letters (secondQubit g q r))) u
-  apply-gate u within = elim (decLt g 24) [
-    | yes l ↦ ap (λ t. apply t u) (gate-one g q r l) ∙ apply-on-qubit (oneQubitGate g) (gate-valid g l) q hq u within
-        ∙ one-as-pair q (letterImage (oneQubitGate g) (u .letters q)) u ∙ ap (λ i. pairAt q q i u) (sym (moved-one g (u .letters q) (u .letters q) l))
-        ∙ ap (λ (k : ℕ). pairAt q k (movedBy g (u .letters q) (u .letters k)) u) (second-one q r l)
-    | no l ↦ let m : 24 ≤ g = omega arith in
-        ap (λ t. apply t u) (gate-two g q r m) ∙ apply-on-qubits (twoQubitGate g) (pair-gate-valid g m hg) q r hq (hr m) (d m) u within
-        ∙ ap (λ i. pairAt q r i u) (sym (moved-two g (u .letters q) (u .letters r) m))
-        ∙ ap (λ (k : ℕ). pairAt q k (movedBy g (u .letters q) (u .letters k)) u) (second-two q r m)
-  ]
-
-  -- where the two qubits are one, so are the letters
-  moved-same : (a b : Letter) → q ≡ secondQubit g q r → movedBy g a b .first ≡ movedBy g a b .second
-  moved-same a b e = elim (decLt g 24) [
-    | yes l ↦ ap (λ i. i .first) (moved-one g a b l) ∙ both-same (letterImage (oneQubitGate g) a) ∙ sym (ap (λ i. i .second) (moved-one g a b l))
-    | no l ↦ let m : 24 ≤ g = omega arith in absurd (d m (e ∙ sym (second-two q r m)))
-  ]
-
-  -- and a letter other than I stays one
-  moved-kept : (a b : Letter) → q ≡ secondQubit g q r → notI (movedBy g a b .first) ≡ notI a
-  unfolding twice
-  moved-kept a b e = elim (decLt g 24) [
-    | yes l ↦ ap (λ i. notI (i .first)) (moved-one g a b l) ∙ image-notI (oneQubitGate g) (gate-valid g l) a
-    | no l ↦ let m : 24 ≤ g = omega arith in absurd (d m (e ∙ sym (second-two q r m)))
-  ]
+-- ---- the gate's tableau is one
+pub clifford-gate : (g q r : ℕ) → g < 38 → q < qubits → (24 ≤ g → r < qubits) → (24 ≤ g → q ≢ r) → Clifford (gateTableau g q r)
+clifford-gate g q r hg hq hr d = elim (decLt g 24) [
+  | yes l ↦ subst Clifford (sym (gate-one g q r l)) (clifford-on-qubit (oneQubitGate g) (gate-valid g l) q hq)
+  | no l ↦ let m : 24 ≤ g = omega arith in gate-clifford g q r hg hq (hr m) d
+]
 
 -- ---- a row of a composition is a, applied to b's row
 row-composed : (a : Tableau) {t : List ℕ} → FormedTableau t → a .width ≤ widthOf t → (i : ℕ) → i < 2 * widthOf t
@@ -115,9 +65,6 @@ module _ (g q r : ℕ) (t : List ℕ) (f : FormedTableau t) (hg : g < 38) (hq : 
   abbrev G : Tableau
   G = gateTableau g q r
 
-  abbrev s : ℕ
-  s = secondQubit g q r
-
   narrow : w ≤ qubits
   narrow = unfold qubits in f .narrow
 
@@ -126,12 +73,6 @@ module _ (g q r : ℕ) (t : List ℕ) (f : FormedTableau t) (hg : g < 38) (hq : 
 
   second-qubit : 24 ≤ g → r < qubits
   second-qubit m = omega (arith, narrow, hr m)
-
-  own-second : s < w
-  own-second = elim (decLt g 24) [
-    | yes l ↦ omega (arith, second-one q r l)
-    | no l ↦ let m : 24 ≤ g = omega arith in omega (arith, second-two q r m, hr m)
-  ]
 
   clifford : Clifford G
   clifford = clifford-gate g q r hg first-qubit second-qubit d
@@ -145,20 +86,38 @@ module _ (g q r : ℕ) (t : List ℕ) (f : FormedTableau t) (hg : g < 38) (hq : 
         | no l ↦ let m : 24 ≤ g = omega arith in omega (arith, hr m, ap (λ b. cond b (suc q) (suc (max q r))) (le-ltb g 24 m))
       ]
 
-  row-played : (i : ℕ) → i < 2 * w → gateOnRow g q s (rowPart t i) ≡ encodeRow w (rowOf (compose G T) i)
-  unfolding gateOnRow
-  row-played i l =
-      let b : List ℕ = rowPart t i in
-      let u : PauliString = decodeRow w b in
-      ap₂ (λ (x y : Letter). withPair q s (movedBy g x y) b) (sym (row-letter-at w b q hq)) (sym (row-letter-at w b s own-second))
-      ∙ sym (pair-bytes (movedBy g (u .letters q) (u .letters s)) (f .rows i l) (omega (arith, f .narrow)) hq own-second
-      (moved-same g q r hg first-qubit second-qubit d (u .letters q) (u .letters s))
-      (moved-kept g q r hg first-qubit second-qubit d (u .letters q) (u .letters s)))
-      ∙ ap (encodeRow w)
-      (sym (apply-gate g q r hg first-qubit second-qubit d u (λ k h. row-within w b k (omega (arith, narrow))))
-      ∙ ap (apply G) (sym (row-part t i l)) ∙ sym (row-composed G f inside i l))
+  -- one row, by the kind of the gate
+  module _ {b : List ℕ} (o : FormedRow w b) where
+    abbrev u : PauliString
+    u = decodeRow w b
 
-  rows-played : eachRow (gateOnRow g q s) t ≡ tableauRecord (compose G T)
+    within : Within qubits u
+    within k h = row-within w b k (omega (arith, narrow))
+
+    letter-played : g < 24 → gateOnRow g q r b ≡ encodeRow w (apply G u)
+    letter-played l =
+        let i : Letter → Image = letterImage (oneQubitGate g) in
+        gate-on-letter g q r b l ∙ ap (λ x. withImage q (i x) b) (sym (row-letter-at w b q hq))
+        ∙ sym (image-bytes (i (u .letters q)) o hq (image-notI (oneQubitGate g) (gate-valid g l) (u .letters q)))
+        ∙ ap (encodeRow w) (sym (ap (λ t. apply t u) (gate-one g q r l) ∙ apply-on-qubit (oneQubitGate g) (gate-valid g l) q first-qubit u within))
+
+    pair-played : 24 ≤ g → gateOnRow g q r b ≡ encodeRow w (apply G u)
+    pair-played m =
+        let i : Letter → Letter → PairImage = pairImage (twoQubitGate g) in
+        gate-on-pair g q r b m ∙ ap₂ (λ x y. withPair q r (i x y) b) (sym (row-letter-at w b q hq)) (sym (row-letter-at w b r (hr m)))
+        ∙ sym (pair-bytes (i (u .letters q) (u .letters r)) o (omega (arith, f .narrow)) hq (hr m) (d m))
+        ∙ ap (encodeRow w)
+        (sym (ap (λ t. apply t u) (gate-two g q r m) ∙ apply-on-qubits (twoQubitGate g) (pair-gate-valid g m hg) q r first-qubit (second-qubit m) (d m) u within))
+
+  row-played : (i : ℕ) → i < 2 * w → gateOnRow g q r (rowPart t i) ≡ encodeRow w (rowOf (compose G T) i)
+  row-played i l =
+      elim (decLt g 24) [
+        | yes k ↦ letter-played (f .rows i l) k
+        | no k ↦ let m : 24 ≤ g = omega arith in pair-played (f .rows i l) m
+      ]
+      ∙ ap (λ s. encodeRow w (apply G s)) (sym (row-part t i l)) ∙ ap (encodeRow w) (sym (row-composed G f inside i l))
+
+  rows-played : eachRow (gateOnRow g q r) t ≡ tableauRecord (compose G T)
   unfolding eachRow tableauRecord
   rows-played =
       let wide : w ≡ compose G T .width = omega (arith, width-compose G T, width-of t, inside) in
@@ -166,7 +125,7 @@ module _ (g q r : ℕ) (t : List ℕ) (f : FormedTableau t) (hg : g < 38) (hq : 
 
   played-record : played g q r t ≡ tableauRecord (compose G T)
   unfolding played
-  played-record = ap (λ b. cond b (eachRow (gateOnRow g q s) t) t) (playable-yes g q r t hg hq hr d (f .narrow) (f .long)) ∙ rows-played
+  played-record = ap (λ b. cond b (eachRow (gateOnRow g q r) t) t) (playable-yes g q r t hg hq hr d (f .narrow) (f .long)) ∙ rows-played
 
   -- as tableaux, and byte for byte
   pub played-tableau : Same (tableauOf (played g q r t)) (compose G T)
@@ -194,14 +153,14 @@ pub length-played : (g q r : ℕ) (t : List ℕ) → length (played g q r t) ≡
 unfolding played
 length-played g q r t = by (playable g q r t) refl
   where
-    s : ℕ
-    s = secondQubit g q r
+    same : (b : List ℕ) → length (gateOnRow g q r b) ≡ length b
+    same b = unfold withImage withPair in elim (decLt g 24) [
+      | yes l ↦ ap length (gate-on-letter g q r b l) ∙ length-with q _ _ b
+      | no l ↦ let m : 24 ≤ g = omega arith in ap length (gate-on-pair g q r b m) ∙ length-with-pair q r _ _ _ _ b
+    ]
 
-    same : (b : List ℕ) → length (gateOnRow g q s b) ≡ length b
-    same b = unfold gateOnRow withPair in length-with q s _ _ _ _ b
-
-    by : (b : Bool) → playable g q r t ≡ b → length (cond b (eachRow (gateOnRow g q s) t) t) ≡ length t
-    by true e = length-each (gateOnRow g q s) same t (playable-is g q r t e .on .long)
+    by : (b : Bool) → playable g q r t ≡ b → length (cond b (eachRow (gateOnRow g q r) t) t) ≡ length t
+    by true e = length-each (gateOnRow g q r) same t (playable-is g q r t e .laid .long)
     by false e = refl
 
 pub played-same : {g q r : ℕ} {t e : List ℕ} {b : Bool} → GatePlayed g q r t e b → length e ≡ length t
@@ -211,9 +170,6 @@ pub width-played : (g q r : ℕ) (t : List ℕ) → widthOf (played g q r t) ≡
 unfolding played eachRow
 width-played g q r t = by (playable g q r t)
   where
-    s : ℕ
-    s = secondQubit g q r
-
-    by : (b : Bool) → widthOf (cond b (eachRow (gateOnRow g q s) t) t) ≡ widthOf t
+    by : (b : Bool) → widthOf (cond b (eachRow (gateOnRow g q r) t) t) ≡ widthOf t
     by true = refl
     by false = refl

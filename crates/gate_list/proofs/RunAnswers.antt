@@ -17,7 +17,7 @@ use Rattle.pauli.specs.Questions.{_andThen_, roomQuestion}
 use Rattle.pauli.proofs.Asking.{refused, passed, has-room, done-first, done-second, room-is}
 use Rattle.pauli.proofs.Answers.{count-told}
 use Rattle.clifford.specs.Layout.{recordLength}
-use Rattle.clifford.specs.Playing.{gateTables}
+use Rattle.clifford.specs.Playing.{letterTables, pairTables}
 use Rattle.clifford.specs.Questions.{identityAnswer}
 use Rattle.clifford.specs.Tableaux.{identityRecord}
 use Rattle.clifford.proofs.RecordLaws.{identity-width, identity-good}
@@ -78,10 +78,11 @@ module _ {l d : List ℕ} {n k : ℕ} {e : List ℕ} {r : Outcome}
   pub run-room : k ≤ length e
   run-room = omega (arith, own, o .room, begun-long)
 
-  pub run-part : {ts : List (List (List ℕ))} → ts ≡ gateTables → Begins l ts (take (k - 0) e)
-  run-part h = record {
+  pub run-part : {ones twos : List (List (List ℕ))} → ones ≡ letterTables → twos ≡ pairTables → Begins l ones twos (take (k - 0) e)
+  run-part letters pairs = record {
     asked = o .asked;
-    tables = h;
+    letters = letters;
+    pairs = pairs;
     bytes = ap (take (k - 0)) begun ∙ take-at start (drop k d) (k - 0) (omega (arith, start-long));
   }
 

@@ -59,17 +59,17 @@ pub record Running (l t : List ℕ) (n i : ℕ) : Type 0 where
   pub steps : n + length rest ≡ stepCount l
   pub few : stepCount l ≤ 4095
 
-begins-formed : {l t : List ℕ} {ts : List (List (List ℕ))} → Begins l ts t → FormedTableau t
+begins-formed : {l t : List ℕ} {ones twos : List (List (List ℕ))} → Begins l ones twos t → FormedTableau t
 unfolding qubits
 begins-formed {l} b = subst FormedTableau (sym (b .bytes)) (identity-good (listWidth l) (admitted-narrow l (b .asked)) .formed)
 
-begins-wide : {l t : List ℕ} {ts : List (List (List ℕ))} → Begins l ts t → widthOf t ≡ listWidth l
+begins-wide : {l t : List ℕ} {ones twos : List (List (List ℕ))} → Begins l ones twos t → widthOf t ≡ listWidth l
 begins-wide {l} b = ap widthOf (b .bytes) ∙ identity-width (listWidth l)
 
-pub running-head : {l t : List ℕ} {ts : List (List (List ℕ))} → Begins l ts t → OwnRecord l 0
+pub running-head : {l t : List ℕ} {ones twos : List (List (List ℕ))} → Begins l ones twos t → OwnRecord l 0
 running-head {l} b = record { own = sized-some (admitted-sized l (b .asked)) }
 
-pub running-start : {l t : List ℕ} {ts : List (List (List ℕ))} {i : ℕ} → Begins l ts t → i ≡ nextOf l 0 → Running l t 0 i
+pub running-start : {l t : List ℕ} {ones twos : List (List (List ℕ))} {i : ℕ} → Begins l ones twos t → i ≡ nextOf l 0 → Running l t 0 i
 unfolding runRecord productOf gatesOf
 running-start {l} {t} b e = record {
   rest = chainOf l;
@@ -85,7 +85,7 @@ running-start {l} {t} b e = record {
 running-long : {l t : List ℕ} {n i : ℕ} → Running l t n i → length t ≡ recordLength (listWidth l)
 running-long r = r .formed .long ∙ ap recordLength (r .wide)
 
-pub running-same : {l t e : List ℕ} {ts : List (List (List ℕ))} {n i : ℕ} → Begins l ts t → Running l e n i → length e ≡ length t
+pub running-same : {l t e : List ℕ} {ones twos : List (List (List ℕ))} {n i : ℕ} → Begins l ones twos t → Running l e n i → length e ≡ length t
 running-same b r = running-long r ∙ sym (begins-formed b .long ∙ ap recordLength (begins-wide b))
 
 pub running-end : {l t : List ℕ} {n i : ℕ} → Running l t n i → i ≡ 0 → Ran l t n
@@ -104,8 +104,8 @@ module _ {l t : List ℕ} {n i : ℕ} (r : Running l t n i) (h : i ≡ 0 → ⊥
   pub running-own : OwnRecord l i
   running-own = record { own = here .own }
 
-  pub running-plays : {t₀ : List ℕ} {ts : List (List (List ℕ))} → Begins l ts t₀ → Plays l i ts
-  running-plays b = record { own = running-own; tables = b .tables }
+  pub running-plays : {t₀ : List ℕ} {ones twos : List (List (List ℕ))} → Begins l ones twos t₀ → Plays l i ones twos
+  running-plays b = record { own = running-own; letters = b .letters; pairs = b .pairs }
 
   left : n + suc (length (here .after)) ≡ stepCount l
   left = omega (arith, r .steps, ap length (here .is))
@@ -168,16 +168,16 @@ pub ruleset runs = (
 )
 
 -- ---- one gate
-pub plays-byte : {l : List ℕ} {i k : ℕ} {ts : List (List (List ℕ))} → Plays l i ts → k < recordSize → OwnByte l i k
+pub plays-byte : {l : List ℕ} {i k : ℕ} {ones twos : List (List (List ℕ))} → Plays l i ones twos → k < recordSize → OwnByte l i k
 plays-byte o h = own-byte (o .own) h
 
-pub record-played : {l : List ℕ} {i a b g x y : ℕ} {ts : List (List (List ℕ))} {t e : List ℕ} {f : Bool} → Plays l i ts → a ≡ byteOf l i 1 → ByteSized a x
-    → b ≡ byteOf l i 2 → ByteSized b y → g ≡ byteOf l i 0 → PlayedBy ts g x y t e f → e ≡ recordPlayed l i t
+pub record-played : {l : List ℕ} {i a b g x y : ℕ} {ones twos : List (List (List ℕ))} {t e : List ℕ} {f : Bool} → Plays l i ones twos → a ≡ byteOf l i 1 → ByteSized a x
+    → b ≡ byteOf l i 2 → ByteSized b y → g ≡ byteOf l i 0 → PlayedBy ones twos g x y t e f → e ≡ recordPlayed l i t
 unfolding recordPlayed
 record-played {l} {i} {x = x} {y} {t = t} o ea ex eb ey eg p =
-    gate-played (o .tables) p .bytes ∙ ap (λ (k : ℕ). played k x y t) eg ∙ ap₂ (λ (j k : ℕ). played (byteOf l i 0) j k t) (ex .is ∙ ea) (ey .is ∙ eb)
+    gate-played (o .letters) (o .pairs) p .bytes ∙ ap (λ (k : ℕ). played k x y t) eg ∙ ap₂ (λ (j k : ℕ). played (byteOf l i 0) j k t) (ex .is ∙ ea) (ey .is ∙ eb)
 
-pub plays-same : {l : List ℕ} {i g x y : ℕ} {ts : List (List (List ℕ))} {t e : List ℕ} {f : Bool} → Plays l i ts → PlayedBy ts g x y t e f → length e ≡ length t
-plays-same o p = played-same (gate-played (o .tables) p)
+pub plays-same : {l : List ℕ} {i g x y : ℕ} {ones twos : List (List (List ℕ))} {t e : List ℕ} {f : Bool} → Plays l i ones twos → PlayedBy ones twos g x y t e f → length e ≡ length t
+plays-same o p = played-same (gate-played (o .letters) (o .pairs) p)
 
 pub ruleset record-plays = (plays-byte, record-played, plays-same, needs)

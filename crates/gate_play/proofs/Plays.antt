@@ -22,7 +22,7 @@ use Rattle.clifford.specs.GateAnswers.{gateRecord}
 use Rattle.clifford.specs.Playing.{playable, played, GatePlayed}
 use Rattle.clifford.proofs.Asking.{tableau-formed}
 use Rattle.clifford.proofs.GateAsking.{gate-in, gate-below, own-in, own-below, qubits-one, qubits-of-two, qubits-differ, are-different}
-use Rattle.clifford.proofs.Play.{playable-is, playable-yes, second-two}
+use Rattle.clifford.proofs.Play.{playable-is, playable-yes}
 use Rattle.clifford_laws.proofs.PlayedGates.{played-is, length-played, played-same}
 use Rattle.gate_play.specs.PlayQuestions.{playQuestions}
 
@@ -76,9 +76,9 @@ playable-asked t g q r e h =
     let p = playable-is g q r t h in
     let w = widthOf t in
     let qubits : Done ≡ qubitsQuestions w g q r = elim (decLt g 24) [
-      | yes l ↦ qubits-one w q r (omega arith) (own-in (p .on .first))
+      | yes l ↦ qubits-one w q r (omega arith) (own-in (p .first))
       | no l ↦ let m : 24 ≤ g = omega arith in
-          passed (own-in (p .on .first)) refl (passed (own-in (omega (arith, p .on .second, second-two q r m))) refl (qubits-differ (p .different m))) ∙ qubits-of-two w g q r m
+          passed (own-in (p .first)) refl (passed (own-in (p .second m)) refl (qubits-differ (p .different m))) ∙ qubits-of-two w g q r m
     ] in
     sym (passed (sym e) refl (passed (gate-in (p .gate)) refl qubits))
 

@@ -152,13 +152,20 @@ pub record OwnLetter (b : List ℕ) (r q : ℕ) : Type 0 where
   pub row : OwnRow b r
   pub qubit : q < widthOf b
 
--- the row at the front of b has qubits q and r
-pub record OnRow (q r : ℕ) (b : List ℕ) : Type 0 where
+-- the row at the front of b has qubit q; and it has qubits q and r
+pub record OnRow (q : ℕ) (b : List ℕ) : Type 0 where
+  pub own : q + 2 < length b
+
+pub record PairOnRow (q r : ℕ) (b : List ℕ) : Type 0 where
   pub first : q + 2 < length b
   pub second : r + 2 < length b
 
--- k is where a table has its entry for the letters there
-pub record PairPlace (b : List ℕ) (q r k : ℕ) : Type 0 where
+-- k is where a table has its entry for the letter there; and for the two letters
+pub record LetterIndex (b : List ℕ) (q k : ℕ) : Type 0 where
+  pub is : k ≡ letterByte (letterIn b q)
+  pub small : k < 4
+
+pub record PairIndex (b : List ℕ) (q r k : ℕ) : Type 0 where
   pub is : k ≡ 4 * letterByte (letterIn b q) + letterByte (letterIn b r)
   pub small : k < 16
 

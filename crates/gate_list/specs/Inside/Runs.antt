@@ -6,7 +6,7 @@ use lib.ListN.{length}
 use Rattle.pauli.specs.declared.refusal.Outcome.the-variants.{Done}
 use Rattle.pauli.specs.Answers.{written}
 use Rattle.clifford.specs.Layout.{recordLength}
-use Rattle.clifford.specs.Playing.{played, gateTables}
+use Rattle.clifford.specs.Playing.{played, letterTables, pairTables}
 use Rattle.clifford.specs.Tableaux.{identityRecord}
 use Rattle.gate_list.specs.Lists.{byteOf, listWidth}
 use Rattle.gate_list.specs.ListQuestions.{listQuestions}
@@ -14,17 +14,19 @@ use Rattle.gate_list.specs.Runs.{runRecord, stepCount}
 use Rattle.gate_list.specs.Inside.Reading.{OwnRecord}
 
 -- record i of the list, beside the gates' own tables; and a record t after its gate
-pub record Plays (l : List ℕ) (i : ℕ) (ts : List (List (List ℕ))) : Type 0 where
+pub record Plays (l : List ℕ) (i : ℕ) (ones twos : List (List (List ℕ))) : Type 0 where
   pub own : OwnRecord l i
-  pub tables : ts ≡ gateTables
+  pub letters : ones ≡ letterTables
+  pub pairs : twos ≡ pairTables
 
 unfoldable pub recordPlayed : List ℕ → ℕ → List ℕ → List ℕ
 recordPlayed l i t = played (byteOf l i 0) (byteOf l i 1) (byteOf l i 2) t
 
 -- an admitted list, the gates' own tables, and the identity
-pub record Begins (l : List ℕ) (ts : List (List (List ℕ))) (t : List ℕ) : Type 0 where
+pub record Begins (l : List ℕ) (ones twos : List (List (List ℕ))) (t : List ℕ) : Type 0 where
   pub asked : listQuestions l ≡ Done
-  pub tables : ts ≡ gateTables
+  pub letters : ones ≡ letterTables
+  pub pairs : twos ≡ pairTables
   pub bytes : t ≡ identityRecord (listWidth l)
 
 pub record Ran (l e : List ℕ) (r : ℕ) : Type 0 where

@@ -8,6 +8,13 @@ play-gate-spec =
     tie.close
     (tie.spec
     (λ c κs. search gate-plays)
+    (λ c. search gate-plays)
+    (λ c. search gate-plays)
     (λ c κs. search gate-plays)
+    (λ c κs. search gate-plays)
+    (λ c κs. search gate-plays)
+    (λ c κs. search gate-plays)
+    (λ c. search gate-plays)
+    (λ c. search gate-plays)
     (λ c. search gate-plays)
     (λ c. search gate-plays))

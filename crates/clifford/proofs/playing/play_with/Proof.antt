@@ -8,10 +8,9 @@ play-with-spec =
     tie.close
     (tie.spec
     (λ c κs. search playing)
-    (λ c κs. search playing)
-    (λ c κs. search playing)
     (λ c. search playing)
     (λ c. search playing)
+    (λ c κs. search playing)
     (λ c κs. search playing)
     (λ c. search playing)
     (λ c. search playing)

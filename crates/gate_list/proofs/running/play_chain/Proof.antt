@@ -6,10 +6,10 @@ use Rattle.gate_list.proofs.running.play_chain.Statement.{statement}
 use Rattle.gate_list.proofs.running.play_chain.Tie as tie
 
 abbrev Inv-loop : tie.InvT-loop
-Inv-loop list tables t₀ steps₀ i₀ t steps i = Running list t steps i
+Inv-loop list ones twos t₀ steps₀ i₀ t steps i = Running list t steps i
 
 abbrev μ-loop : tie.MeasureT-loop
-μ-loop list tables t₀ steps₀ i₀ t steps i = stepCount list - steps
+μ-loop list ones twos t₀ steps₀ i₀ t steps i = stepCount list - steps
 
 pub play-chain-spec : {M : Type 1} → statement M
 play-chain-spec =

@@ -9,4 +9,4 @@ write-run-spec =
     (tie.spec
     (λ c. search run-writes) (λ c. search run-writes) (λ c. search run-writes) (λ c. search run-writes)
     (λ c. search run-writes) (λ c. search run-writes) (λ c. search run-writes) (λ c. search run-writes)
-    (λ c. search run-writes) (λ c. search run-writes))
+    (λ c. search run-writes) (λ c. search run-writes) (λ c. search run-writes))

@@ -1,10 +1,10 @@
--- `layout::pair_place` meets its contract.
+-- `layout::pair_index` meets its contract.
 use Rattle.clifford.proofs.RowAccess.{row-changes}
-use Rattle.clifford.proofs.layout.pair_place.Statement.{statement}
-use Rattle.clifford.proofs.layout.pair_place.Tie as tie
+use Rattle.clifford.proofs.layout.pair_index.Statement.{statement}
+use Rattle.clifford.proofs.layout.pair_index.Tie as tie
 
-pub pair-place-spec : {M : Type 1} → statement M
-pair-place-spec =
+pub pair-index-spec : {M : Type 1} → statement M
+pair-index-spec =
     tie.close
     (tie.spec
     (λ c. search row-changes)
