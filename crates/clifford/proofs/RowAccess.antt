@@ -19,7 +19,7 @@ use Rattle.pauli.specs.Layout.{phaseByte, phaseOf, letterByte, encodeString}
 use Rattle.pauli.specs.Rows.{phaseBytesProduct, RowTimes, letterCount, largestTo, Scanned, copied, shorter}
 use Rattle.pauli.proofs.Places.{from, from-is, length-from, none-bad}
 use Rattle.pauli.proofs.StringProducts.{row-product, row-product-is}
-use Rattle.clifford.specs.Layout.{weightPlace, letterPlace, rowLength, lettersOf, encodeRow, decodeRow, rowOffset, recordLength, longestRecord, rowOf, widthOf, rowPart, tableauOf, rowQubit, rowLetter, readRow, letterIn, rowWith, rowWithPair}
+use Rattle.clifford.specs.Layout.{letterPlace, rowLength, lettersOf, encodeRow, decodeRow, rowOffset, recordLength, longestRecord, rowOf, widthOf, rowPart, tableauOf, rowQubit, rowLetter, readRow, letterIn, rowWith, rowWithPair}
 use Rattle.clifford.specs.Inside.Rows.{Sized, RowIndex, RowInside, RowAt, RowChecked, OwnRow, OnRow, PairOnRow, LetterIndex, PairIndex, WorkOnRow, Finished, rowTimes, rowWritten, lettersIn, stringIn, rowLetters, OwnLetter}
 use Rattle.clifford.proofs.Records.{record-small}
 use lib.Dec.{leb, eqb}

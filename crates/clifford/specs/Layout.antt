@@ -44,7 +44,8 @@ decodeRow w b = record {
 unfoldable pub rowWith : ℕ → (phase letter : ℕ) → List ℕ → List ℕ
 rowWith q p x b = set (set b 0 p) (letterPlace q) x
 
--- Its phase times that of an image, and the image's letter on qubit q. The weight stays: a one-qubit gate makes no letter an I.
+-- Its phase times that of an image, and the image's letter on qubit q. The weight stays: a one-qubit gate leaves I and makes no other
+-- letter I.
 unfoldable pub withImage : ℕ → Image → List ℕ → List ℕ
 withImage q i b = rowWith q (phaseByte (phaseOf (getD b 0 0) · i .phase)) (letterByte (i .letter)) b
 

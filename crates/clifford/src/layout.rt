@@ -108,7 +108,9 @@ pub(crate) fn check_weights(t: &[u8], first: usize) -> Outcome
 {
     let n = width(t);
     if first < 2 * n {
-        return Outcome::Refused(Refusal::FalseWeight { offset: row_offset(n, first) + 1 });
+        return Outcome::Refused(Refusal::FalseWeight {
+            offset: row_offset(n, first) + 1,
+        });
     }
     Outcome::Done
 }

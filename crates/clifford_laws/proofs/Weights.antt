@@ -1,6 +1,6 @@
 -- A tableau's questions let by exactly the encodings of tableaux, weights included; without its weights a record is the scope
 -- document's, and the weights follow from that.
-use mathlib.Core.Path.{_≡_, refl, sym, ap, ap₂, _∙_, subst}
+use mathlib.Core.Path.{_≡_, refl, sym, ap, ap₂, _∙_}
 use mathlib.Core.Logic.{_↔_}
 use mathlib.Core.List.{List, _∷_}
 use Prim.Native.Nat.{ℕ, suc, _+_, _*_, _<_}
@@ -11,19 +11,20 @@ use Rattle.clifford_group.specs.Tableau.{Tableau, Proper, Same}
 use Rattle.pauli.specs.declared.refusal.Outcome.the-variants.{Done}
 use Rattle.pauli.specs.Layout.{encodeString, decodeString}
 use Rattle.pauli.proofs.Records.{length-encode, decode-encode}
-use Rattle.clifford.specs.Layout.{weightPlace, letterPlace, rowLength, encodeRow, decodeRow, lettersOf, rowOffset, rowOf, joined, widthOf, rowPart, tableauOf, tableauRecord, eachRow}
+use Rattle.clifford.specs.Layout.{weightPlace, letterPlace, rowLength, encodeRow, lettersOf, rowOffset, rowOf, joined, widthOf, rowPart, tableauOf, tableauRecord, eachRow}
 use Rattle.clifford.specs.Questions.{tableauQuestions}
 use Rattle.clifford.proofs.Joining.{joined-ext, length-joined, joined-part}
-use Rattle.clifford.proofs.Rows.{row-some, same-rows, rows-within, width-of, row-part, getD-part}
+use Rattle.clifford.proofs.Rows.{row-some, same-rows, rows-within, row-part, getD-part}
 use Rattle.clifford.proofs.Records.{part-record, width-record, same-record}
 use Rattle.clifford.proofs.Asking.{tableau-formed, tableaux-admitted, admitted-tableaux, admitted-proper}
 use Rattle.clifford_laws.specs.Weights.{Encodes, withoutWeight, withoutWeights, plainRecord}
 
 -- ---- what is let by
 pub admitted-exactly : (b : List ℕ) → (tableauQuestions b ≡ Done) ↔ Encodes b
-admitted-exactly b =
-    ((λ e. record { tableau = tableauOf b; proper = admitted-proper b e; is = admitted-tableaux b e }),
-    (λ e. ap tableauQuestions (e .is) ∙ tableaux-admitted (e .tableau) (e .proper)))
+admitted-exactly b = (
+  (λ e. record { tableau = tableauOf b; proper = admitted-proper b e; is = admitted-tableaux b e }),
+  (λ e. ap tableauQuestions (e .is) ∙ tableaux-admitted (e .tableau) (e .proper)),
+)
 
 -- the byte behind a row's phase is the number of its letters other than I
 pub weights-true : (b : List ℕ) → tableauQuestions b ≡ Done → (r : ℕ) → r < 2 * widthOf b

@@ -3,7 +3,6 @@ use mathlib.Core.Path.{_≡_, refl, sym, ap, ap₂, _∙_}
 use mathlib.Core.Bool.{Bool, true, false, cond, not, _||_}
 use mathlib.Core.List.{List, [], _∷_}
 use Prim.Native.Nat.{ℕ, zero, suc, _-_, _<_, _≤_}
-use native.Mathlib.Nat.{not-suc-le-zero}
 use native.Mathlib.Decide.{ℕ-discrete}
 use native.Mathlib.Omega.{arith}
 use lib.Dec.{eqb}
@@ -12,7 +11,7 @@ use lib.Seq.{getD-set-same, getD-set-other}
 use borrow.Author.Needs.{needs}
 use borrow.Author.Tests.{ltb-true, eq-eqb, ne-eqb}
 use Rattle.pauli_group.specs.PauliString.{countTo}
-use Rattle.pauli_group.proofs.Products.{countTo-ext}
+use Rattle.pauli_group.proofs.Products.{count-changed}
 use Rattle.pauli.specs.declared.refusal.Refusal.{Refusal}
 use Rattle.pauli.specs.declared.refusal.Refusal.the-variants.{Link, Loop}
 use Rattle.pauli.specs.declared.refusal.Outcome.{Outcome}
@@ -25,15 +24,7 @@ use Rattle.gate_list.specs.Inside.Reading.{OwnRecord, BeforeChain, links
 
 -- ---- one place fewer
 pub count-fewer : (n : ℕ) (f g : ℕ → Bool) (p : ℕ) → p < n → f p ≡ true → g p ≡ false → ((q : ℕ) → (q ≡ p → ⊥) → f q ≡ g q) → countTo n f ≡ suc (countTo n g)
-unfolding countTo
-count-fewer zero f g p h t e s = absurd (not-suc-le-zero h)
-count-fewer (suc n) f g p h t e s = elim (ℕ-discrete p n) [
-  | yes d ↦ omega (arith, countTo-ext n f g (λ q l. s q (λ z. other q l z d)), ap {B = ℕ} (λ b. cond b 1 0) (ap f (sym d) ∙ t), ap {B = ℕ} (λ b. cond b 1 0) (ap g (sym d) ∙ e))
-  | no d ↦ omega (arith, count-fewer n f g p (omega arith) t e s, ap {B = ℕ} (λ b. cond b 1 0) (s n (λ z. d (sym z))))
-]
-  where
-    other : (q : ℕ) → q < n → q ≡ p → p ≡ n → ⊥
-    other q l z d = omega arith
+count-fewer n f g p h t e s = omega (arith, count-changed n f g p h s, ap {B = ℕ} (λ b. cond b 1 0) t, ap {B = ℕ} (λ b. cond b 1 0) e)
 
 pub count-all : (n : ℕ) (f : ℕ → Bool) → ((q : ℕ) → f q ≡ true) → countTo n f ≡ n
 unfolding countTo
