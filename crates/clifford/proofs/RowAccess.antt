@@ -290,13 +290,17 @@ row-written d (y ∷ z ∷ out) {n} {ys} f c h =
     ∙ ap (λ (j : ℕ). take j (drop 1 d) ++ drop j out) short ∙ ap (λ (l : List ℕ). l ++ drop w out) (take-all w (drop 1 d) (omega arith)))
     ∙ ap (λ (l : List ℕ). l ++ drop w out) (sym (row-of-work (f .row) (omega (arith, f .narrow)) (c ∙ ap (λ (l : List ℕ). letterCount l % 256) (from-is 1 d))))
 
-pub written-length : {d out ys : List ℕ} {n : ℕ} → Finished d out → n ≡ letterCount (from 1 d) % 256
-    → ys ≡ copied (from 1 d) (from 2 (set (set out 0 (getD d 0 0)) 1 n))
+pub written-length : {d out ys : List ℕ} (n : ℕ) → Finished d out → ys ≡ copied (from 1 d) (from 2 (set (set out 0 (getD d 0 0)) 1 n))
     → length (withLetters (set (set out 0 (getD d 0 0)) 1 n) ys) ≡ length out
-unfolding rowWritten
-written-length {d} {out} f c h =
-    ap length (row-written d out f c h) ∙ length-append (encodeRow (lettersIn d) (stringIn d)) (drop (rowLength (lettersIn d)) out)
-    ∙ omega (arith, length-row (lettersIn d) (stringIn d), length-drop (rowLength (lettersIn d)) out, f .room)
+unfolding copied
+written-length {d} {out} {ys} n f h =
+    let x : ℕ = getD d 0 0 in
+    let e : List ℕ = set (set out 0 x) 1 n in
+    let short : ℕ = shorter (from 1 d) (from 2 e) in
+    let long : length e ≡ length out = length-set (set out 0 x) 1 n ∙ length-set out 0 x in
+    length-append (take 2 e) (ys ++ drop (length e - 2) (drop 2 e))
+    ∙ omega (arith, finished-letters x n f, long, length-take 2 e, length-append ys (drop (length e - 2) (drop 2 e)), length-drop (length e - 2) (drop 2 e), length-drop 2 e,
+    ap length h, length-append (take short (from 1 d)) (drop short (from 2 e)), length-take short (from 1 d), length-drop short (from 2 e), length-from 2 e)
 
 -- ---- the generator of a row
 pub qubit-x : (w r : ℕ) → r < w → r ≡ rowQubit w r
