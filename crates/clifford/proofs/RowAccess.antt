@@ -299,8 +299,20 @@ written-length {d} {out} {ys} n f h =
     let short : ℕ = shorter (from 1 d) (from 2 e) in
     let long : length e ≡ length out = length-set (set out 0 x) 1 n ∙ length-set out 0 x in
     length-append (take 2 e) (ys ++ drop (length e - 2) (drop 2 e))
-    ∙ omega (arith, finished-letters x n f, long, length-take 2 e, length-append ys (drop (length e - 2) (drop 2 e)), length-drop (length e - 2) (drop 2 e), length-drop 2 e,
-    ap length h, length-append (take short (from 1 d)) (drop short (from 2 e)), length-take short (from 1 d), length-drop short (from 2 e), length-from 2 e)
+    ∙ omega (
+      arith,
+      finished-letters x n f,
+      long,
+      length-take 2 e,
+      length-append ys (drop (length e - 2) (drop 2 e)),
+      length-drop (length e - 2) (drop 2 e),
+      length-drop 2 e,
+      ap length h,
+      length-append (take short (from 1 d)) (drop short (from 2 e)),
+      length-take short (from 1 d),
+      length-drop short (from 2 e),
+      length-from 2 e,
+    )
 
 -- ---- the generator of a row
 pub qubit-x : (w r : ℕ) → r < w → r ≡ rowQubit w r
