@@ -150,7 +150,8 @@ answer; a figure is the least of repeated runs.
 - Rust: PECOS's own files (`tools/oracle`), an ordinary release build, called directly on its own values; nothing is read or written
   as a record inside the timed part.
 - this library: through the C interface, questions on entry included.
-- plain C: `tools/benching/src/plain.c`, loops over bytes with tables, `gcc -O3`. It trusts its inputs.
+- plain C: `tools/benching/src/plain.c`, loops over bytes with tables, `gcc -O3`. It trusts its inputs, and keeps the
+  rows' weights too.
 
 Strings have any letters on the qubits named, the first factor of a product one other than I on the last of them, and I on the
 others. Tableaux are valid, of random gates; how many of their letters are not I stands beside the width, and 75 % is full. A list's
