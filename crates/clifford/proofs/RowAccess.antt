@@ -19,7 +19,7 @@ use Rattle.pauli.specs.Layout.{phaseByte, phaseOf, letterByte, encodeString}
 use Rattle.pauli.specs.Rows.{phaseBytesProduct, RowTimes, letterCount, largestTo, Scanned, copied, shorter}
 use Rattle.pauli.proofs.Places.{from, from-is, length-from, none-bad}
 use Rattle.pauli.proofs.StringProducts.{row-product, row-product-is}
-use Rattle.clifford.specs.Layout.{letterPlace, rowLength, lettersOf, encodeRow, decodeRow, rowOffset, recordLength, longestRecord, rowOf, widthOf, rowPart, tableauOf, rowQubit, rowLetter, readRow, letterIn, rowWith, rowWithPair}
+use Rattle.clifford.specs.Layout.{letterPlace, rowLength, lettersOf, decodeRow, rowOffset, recordLength, longestRecord, rowOf, widthOf, rowPart, tableauOf, rowQubit, rowLetter, readRow, letterIn, rowWith, rowWithPair}
 use Rattle.clifford.specs.Inside.Rows.{Sized, RowIndex, RowInside, RowAt, RowChecked, OwnRow, OnRow, PairOnRow, LetterIndex, PairIndex, WorkOnRow, Finished, rowTimes, rowWritten, lettersIn, stringIn, rowLetters, OwnLetter}
 use Rattle.clifford.proofs.Records.{record-small}
 use lib.Dec.{leb, eqb}
@@ -32,7 +32,7 @@ use Rattle.pauli.proofs.Asking.{asked-yes, asked-no, refused, passed}
 use Rattle.clifford.specs.Questions.{rowQuestion, trueWeight}
 use lib.Bits.{bitXor}
 use Rattle.clifford.specs.Playing.{tableEntry, letterTableOnRow, pairTableOnRow}
-use Rattle.clifford.proofs.Rows.{place-is, row-some, letter-in-row, length-row, letters-from, row-letter, row-phase, row-inside, row-part, row-room, row-string, row-as-string, row-of-work, getD-part, capped-letter, capped-phase, read-own, read-wide, read-over, length-part, own-row, own-some, own-more, own-letter, weight-counted}
+use Rattle.clifford.proofs.Rows.{place-is, row-some, letter-in-row, letters-from, row-letter, row-phase, row-inside, row-part, row-room, row-string, row-as-string, row-of-work, getD-part, capped-letter, capped-phase, read-own, read-wide, read-over, length-part, own-row, own-some, own-more, own-letter, weight-counted}
 use Rattle.clifford.proofs.Asking.{bytes-bad, bytes-good}
 
 -- ---- the length of a record
