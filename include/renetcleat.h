@@ -176,11 +176,13 @@ struct rc_reply rc_set_z_image(uint8_t *t, size_t t_len, size_t slot, const uint
 struct rc_reply rc_apply(const uint8_t *t, size_t t_len, const uint8_t *s, size_t s_len, uint8_t *dst, size_t dst_len);
 /* Writes the tableau of b first, then a, in the larger of the two widths. dst is neither a nor b. */
 struct rc_reply rc_compose(const uint8_t *a, size_t a_len, const uint8_t *b, size_t b_len, uint8_t *dst, size_t dst_len);
-/* Writes the tableau in width n, or a copy where n is no larger than its width. */
+/* Writes the tableau in width n, or a copy where n is no larger than its width. Two tableaux send every string alike exactly when,
+ * in the larger of their widths, they are the same bytes. */
 struct rc_reply rc_extended_to(const uint8_t *t, size_t t_len, size_t n, uint8_t *dst, size_t dst_len);
 /* Writes the inverse, of the width of t. dst is not t. */
 struct rc_reply rc_inverse(const uint8_t *t, size_t t_len, uint8_t *dst, size_t dst_len);
-/* 1 where phases are real and images commute as the generators do, otherwise 0. */
+/* 1 where phases are real and images commute as the generators do, otherwise 0. It is 1 exactly when rc_apply sends the product of
+ * every two strings to the product of their images, phase included (docs/VALIDITY.md). */
 struct rc_reply rc_is_valid(const uint8_t *t, size_t t_len);
 /* Writes the qubits that the tableau touches, rising, a byte each; the value is their count. */
 struct rc_reply rc_support_qubits(const uint8_t *t, size_t t_len, uint8_t *dst, size_t dst_len);

@@ -4,7 +4,7 @@ use mathlib.Core.List.{List}
 use Prim.Native.Nat.{ℕ, max, _≤_}
 use native.Mathlib.Omega.{arith}
 use lib.ListN.{length}
-use Rattle.pauli_group.specs.PauliString.{PauliString, qubits, Within}
+use Rattle.pauli_group.specs.PauliString.{qubits}
 use Rattle.clifford_group.specs.Tableau.{Tableau, identityTableau, apply, compose, inverse, Clifford, Same}
 use Rattle.clifford_group.proofs.Apply.{apply-within}
 use Rattle.clifford_group.proofs.Compose.{width-compose, apply-compose, compose-assoc, identity-compose, proper-compose, clifford-compose}
@@ -15,7 +15,7 @@ use Rattle.pauli.specs.declared.refusal.Outcome.the-variants.{Done}
 use Rattle.pauli.specs.Layout.{stringOf, stringRecord}
 use Rattle.pauli.specs.Questions.{stringQuestions}
 use Rattle.pauli.proofs.Asking.{admitted-strings}
-use Rattle.pauli.proofs.Records.{decode-encode, string-within}
+use Rattle.pauli.proofs.Records.{string-within, string-back}
 use Rattle.clifford.specs.Layout.{widthOf, tableauOf, tableauRecord, recordLength, FormedTableau}
 use Rattle.clifford.specs.Tableaux.{recordValid, Good, identityRecord, applyRecord, composeRecord, inverseRecord}
 use Rattle.clifford.proofs.Rows.{width-of}
@@ -129,10 +129,6 @@ inverse-right {a} g =
     ∙ ap (λ (w : ℕ). tableauRecord (identityTableau w)) (width-of a)
 
 -- ---- strings
-string-back : (s : PauliString) → Within qubits s → stringOf (stringRecord s) ≡ s
-unfolding stringOf stringRecord
-string-back s h = decode-encode qubits s h
-
 -- sent through a composition as through b and then a
 pub send-compose : {a b : List ℕ} → Good a → FormedTableau b → (s : List ℕ) → applyRecord (composeRecord a b) s ≡ applyRecord a (applyRecord b s)
 unfolding applyRecord

@@ -6,10 +6,10 @@ use native.Mathlib.Nat.{not-suc-le-zero}
 use native.Mathlib.Omega.{arith}
 use native.Mathlib.Decide.{ℕ-discrete, decLt}
 use Rattle.pauli_group.specs.Phase.{Phase}
-use Rattle.pauli_group.specs.Letter.{Letter, I}
+use Rattle.pauli_group.specs.Letter.{Letter, I, letterMul}
 use Rattle.pauli_group.specs.PauliString.{PauliString, qubits, mul, identityString, scale, single, Within}
-use Rattle.pauli_group.proofs.Laws.{·-one}
-use Rattle.pauli_group.proofs.Strings.{string-ext, scale-one, scale-mul, identity-mul, mul-identity, within-identity, within-mul}
+use Rattle.pauli_group.proofs.Laws.{·-one, ·-comm, letterMul-I, I-letterMul}
+use Rattle.pauli_group.proofs.Strings.{string-ext, scale-one, scale-mul, mul-scale, mul-assoc, identity-mul, mul-identity, rising-phase, within-identity, within-mul}
 use Rattle.clifford_group.specs.Tableau.{Tableau, imageOf, applyTo, apply, widen, Proper}
 use Rattle.clifford_group.proofs.Singles.{single-at, single-off}
 use Rattle.clifford_group.proofs.Images.{image-I, Alike, alike-widen, within-image}
@@ -77,6 +77,39 @@ applyTo-at (suc k) j t s l h = elim (ℕ-discrete j k) [
 pub apply-single : (t : Tableau) (l : Letter) (j : ℕ) → j < qubits → apply t (single l j) ≡ imageOf t j l
 unfolding apply single
 apply-single t l j h = applyTo-at qubits j t (single l j) h (single-off l j) ∙ scale-one _ ∙ ap (imageOf t j) (single-at l j)
+
+-- ---- two strings in rising order, s with no letter from k on and u with none below: the product is sent to the product, whatever the rows
+module _ (t : Tableau) (s u : PauliString) (k : ℕ) (low : Within k s) (high : (q : ℕ) → q < k → u .letters q ≡ I) where
+  abbrev Rising : ℕ → Type 0
+  Rising j = applyTo j t (mul s u) ≡ mul (applyTo j t s) (applyTo j t u)
+
+  -- below k the letters are those of s
+  rising-start : Rising k
+  unfolding mul scale
+  rising-start =
+      applyTo-local k t t (mul s u) (scale (u .phase) s) (rising-phase s u k low high ∙ ·-comm (s .phase) (u .phase))
+      (λ q l. ap (λ a. imageOf t q (letterMul (s .letters q) a)) (high q l) ∙ ap (imageOf t q) (letterMul-I (s .letters q)))
+      ∙ applyTo-scale k t (u .phase) s ∙ ap (scale (u .phase)) (sym (mul-identity (applyTo k t s)))
+      ∙ sym (ap (mul (applyTo k t s)) (applyTo-none k t u high) ∙ mul-scale (u .phase) (applyTo k t s) identityString)
+
+  -- from k on those of u
+  rising-step : (j : ℕ) → k ≤ j → Rising j → Rising (suc j)
+  unfolding applyTo mul
+  rising-step j h e =
+      ap₂ mul e (ap (λ a. imageOf t j (letterMul a (u .letters j))) (low j h) ∙ ap (imageOf t j) (I-letterMul (u .letters j)))
+      ∙ mul-assoc (applyTo j t s) (applyTo j t u) (imageOf t j (u .letters j))
+      ∙ sym (ap (λ a. mul a (applyTo (suc j) t u)) (ap (λ a. mul (applyTo j t s) (imageOf t j a)) (low j h) ∙ ap (mul (applyTo j t s)) (image-I t j) ∙ mul-identity (applyTo j t s)))
+
+  applyTo-rising : (j : ℕ) → k ≤ j → Rising j
+  applyTo-rising zero h = let e : k ≡ zero = omega arith in subst Rising e rising-start
+  applyTo-rising (suc j) h = elim (ℕ-discrete k (suc j)) [
+    | yes e ↦ subst Rising e rising-start
+    | no d ↦ let l : k ≤ j = omega arith in rising-step j l (applyTo-rising j l)
+  ]
+
+  pub apply-rising : k ≤ qubits → apply t (mul s u) ≡ mul (apply t s) (apply t u)
+  unfolding apply
+  apply-rising = applyTo-rising qubits
 
 -- ---- letters at n or above
 applyTo-within : (k n : ℕ) (t : Tableau) (s : PauliString) → ((q : ℕ) → q < k → Within n (imageOf t q (s .letters q)))

@@ -9,17 +9,16 @@ use native.Mathlib.Omega.{arith}
 use native.Mathlib.Decide.{ℕ-discrete, decLt}
 use lib.Dec.{ltb, eqb}
 use borrow.Author.Tests.{lt-ltb, le-ltb, eq-eqb, ne-eqb}
-use Rattle.pauli_group.specs.Phase.{Phase, PlusOne, PlusI, _·_}
-use Rattle.pauli_group.specs.Letter.{Letter, I, X, Z, Y, letterPhase, letterMul}
-use Rattle.pauli_group.specs.PauliString.{PauliString, qubits, productTo, phaseOfLetters, mul, identityString, scale, single, Within}
+use Rattle.pauli_group.specs.Phase.{Phase, PlusI}
+use Rattle.pauli_group.specs.Letter.{Letter, I, X, Z, Y, letterMul}
+use Rattle.pauli_group.specs.PauliString.{PauliString, qubits, mul, identityString, scale, single, Within}
 use Rattle.pauli_group.specs.Operators.{Numbers, Vector, timesVector, act}
-use Rattle.pauli_group.proofs.Laws.{·-one, letterMul-I, I-letterMul, letterPhase-I, I-letterPhase}
-use Rattle.pauli_group.proofs.Products.{productTo-one}
-use Rattle.pauli_group.proofs.Strings.{string-ext, within-identity, within-mul, within-scale, within-single}
+use Rattle.pauli_group.proofs.Laws.{·-one, letterMul-I, I-letterMul}
+use Rattle.pauli_group.proofs.Strings.{string-ext, rising-phase, within-identity, within-mul, within-scale, within-single}
 use Rattle.pauli_group.proofs.Operators.{act-mul, act-scale, act-identity}
 use Rattle.clifford_group.specs.Tableau.{Tableau, imageOf, applyTo, apply, isValid, Proper, Clifford}
 use Rattle.clifford_group.specs.Conjugation.{Generator, ofX, ofZ, generator, Carries, Conjugation}
-use Rattle.clifford_group.proofs.Singles.{single-I}
+use Rattle.clifford_group.proofs.Singles.{single-I, single-off}
 use Rattle.clifford_group.proofs.Images.{image-I, image-Y, single-Y}
 use Rattle.clifford_group.proofs.Apply.{applyTo-start, apply-scale, apply-identity, apply-single}
 use Rattle.clifford_group.proofs.Conjugation.{apply-mul}
@@ -38,26 +37,18 @@ apply-conjugation t c = record {
 cut : ℕ → PauliString → PauliString
 cut k s = record { phase = s .phase; letters = λ q. cond (ltb q k) (s .letters q) I }
 
+cut-within : (k : ℕ) (s : PauliString) → Within k (cut k s)
+unfolding cut
+cut-within k s q h = ap (λ b. cond b (s .letters q) I) (le-ltb q k h)
+
 cut-step : (k : ℕ) (s : PauliString) → mul (cut k s) (single (s .letters k) k) ≡ cut (suc k) s
-unfolding mul cut single phaseOfLetters
+unfolding mul cut single
 cut-step k s = string-ext (mul (cut k s) (single (s .letters k) k)) (cut (suc k) s) phases letters
   where
-    lower : ℕ → Letter
-    lower q = cond (ltb q k) (s .letters q) I
+    phases : mul (cut k s) (single (s .letters k) k) .phase ≡ s .phase
+    phases = rising-phase _ _ k (cut-within k s) (λ q l. single-off (s .letters k) k q (omega arith)) ∙ ·-one (s .phase)
 
-    next : ℕ → Letter
-    next q = cond (eqb q k) (s .letters k) I
-
-    none : (q : ℕ) → letterPhase (lower q) (next q) ≡ PlusOne
-    none q = elim (decLt q k) [
-      | yes l ↦ ap (λ b. letterPhase (lower q) (cond b (s .letters k) I)) (ne-eqb q k (omega arith)) ∙ letterPhase-I (lower q)
-      | no l ↦ ap (λ b. letterPhase (cond b (s .letters q) I) (next q)) (le-ltb q k (omega arith)) ∙ I-letterPhase (next q)
-    ]
-
-    phases : s .phase · PlusOne · productTo qubits (λ q. letterPhase (lower q) (next q)) ≡ s .phase
-    phases = ap (λ p. s .phase · PlusOne · p) (productTo-one qubits _ (λ q l. none q)) ∙ ·-one (s .phase · PlusOne) ∙ ·-one (s .phase)
-
-    letters : (q : ℕ) → letterMul (lower q) (next q) ≡ cond (ltb q (suc k)) (s .letters q) I
+    letters : (q : ℕ) → letterMul (cond (ltb q k) (s .letters q) I) (cond (eqb q k) (s .letters k) I) ≡ cond (ltb q (suc k)) (s .letters q) I
     letters q = elim (decLt q k) [
       | yes l ↦ simp (lt-ltb q k l, ne-eqb q k (omega arith), lt-ltb q (suc k) (omega arith), letterMul-I)
       | no l ↦ elim (ℕ-discrete q k) [
@@ -71,7 +62,7 @@ cut-all : (s : PauliString) → Within qubits s → cut qubits s ≡ s
 unfolding cut
 cut-all s h = string-ext (cut qubits s) s refl (λ q. elim (decLt q qubits) [
   | yes l ↦ ap (λ b. cond b (s .letters q) I) (lt-ltb q qubits l)
-  | no l ↦ ap (λ b. cond b (s .letters q) I) (le-ltb q qubits (omega arith)) ∙ sym (h q (omega arith))
+  | no l ↦ cut-within qubits s q (omega arith) ∙ sym (h q (omega arith))
 ])
 
 cut-none : (s : PauliString) → cut zero s ≡ scale (s .phase) identityString

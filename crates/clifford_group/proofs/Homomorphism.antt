@@ -1,37 +1,63 @@
 -- What validity amounts to: a tableau is valid exactly when `apply` is multiplicative. And which tableaux `apply` tells apart.
-use mathlib.Core.Path.{_≡_, sym, ap, ap₂, _∙_}
-use mathlib.Core.Bool.{true}
+use mathlib.Core.Path.{_≡_, refl, sym, ap, ap₂, _∙_}
+use mathlib.Core.Bool.{Bool, true, false, not}
 use mathlib.Core.Logic.{_↔_}
 use Prim.Native.Nat.{ℕ, _≤_, _<_, max}
+use native.Mathlib.Nat.{le-trans}
 use native.Mathlib.Omega.{arith}
-use Rattle.pauli_group.specs.Letter.{Letter, letterPhase, letterMul}
-use Rattle.pauli_group.specs.PauliString.{PauliString, qubits, mul, scale, single}
-use Rattle.pauli_group.proofs.Strings.{within-single}
-use Rattle.clifford_group.specs.Tableau.{Tableau, imageOf, apply, widen, isValid, Proper}
-use Rattle.clifford_group.specs.Conjugation.{Multiplicative, SendAlike, SameWidened}
-use Rattle.clifford_group.proofs.Singles.{mul-singles}
-use Rattle.clifford_group.proofs.Commuting.{commuting-singles}
-use Rattle.clifford_group.proofs.Images.{alike-same, same-alike, alike-widen, proper-widen}
-use Rattle.clifford_group.proofs.Apply.{apply-alike, apply-widen, apply-scale, apply-single}
-use Rattle.clifford_group.proofs.Valid.{test-equal}
-use Rattle.clifford_group.proofs.Multiply.{everywhere-valid}
+use native.Mathlib.Decide.{decLt}
+use Rattle.pauli_group.specs.Phase.{isReal, sign}
+use Rattle.pauli_group.specs.Letter.{X, Z, anticommute}
+use Rattle.pauli_group.specs.PauliString.{PauliString, qubits, mul, scale, single, commute}
+use Rattle.pauli_group.proofs.Strings.{mul-swap, sign-single, real-squares, squares-real, within-single}
+use Rattle.clifford_group.specs.Tableau.{Tableau, apply, widen, isValid, Proper}
+use Rattle.clifford_group.specs.Conjugation.{Generator, ofX, ofZ, generator, row, SendsProduct, Multiplicative, SendAlike, SameWidened}
+use Rattle.clifford_group.proofs.Singles.{single-at, single-off}
+use Rattle.clifford_group.proofs.Commuting.{mul-commute}
+use Rattle.clifford_group.proofs.Images.{image-row, alike-same, same-alike, alike-widen, proper-widen}
+use Rattle.clifford_group.proofs.Apply.{apply-alike, apply-widen, apply-scale, apply-identity, apply-single, apply-rising}
+use Rattle.clifford_group.proofs.Valid.{valid-test, test-equal}
 use Rattle.clifford_group.proofs.Conjugation.{apply-mul}
 
-pub multiplicative-valid : (t : Tableau) → t .width ≤ qubits → Multiplicative t → isValid t ≡ true
-multiplicative-valid t n m = everywhere-valid t n (record {
-  together = λ q a b h. product q q a b h h ∙ ap (apply t) (mul-singles a b q h)
-      ∙ apply-scale t (letterPhase a b) (single (letterMul a b) q) ∙ ap (scale (letterPhase a b)) (apply-single t (letterMul a b) q h);
-  apart = λ q r a b h k d. product q r a b h k ∙ ap (apply t) (commuting-singles a b q r k d) ∙ sym (product r q b a k h);
-})
-  where
-    product : (q r : ℕ) (a b : Letter) → q < qubits → r < qubits
-        → mul (imageOf t q a) (imageOf t r b) ≡ apply t (mul (single a q) (single b r))
-    product q r a b h k =
-        ap₂ mul (sym (apply-single t a q h)) (sym (apply-single t b r k))
-        ∙ sym (m (single a q) (single b r) (within-single qubits a q h) (within-single qubits b r k))
+-- ---- products of two generators are enough, the one on the higher qubit first: in rising order they are sent so by any tableau
+module _ (t : Tableau) (n : t .width ≤ qubits)
+    (m : (g k : Generator) (q r : ℕ) → q < t .width → r ≤ q → SendsProduct t (single (generator g) q) (single (generator k) r)) where
+  product : (g k : Generator) (q r : ℕ) → q < t .width → r < t .width
+      → mul (row t g q) (row t k r) ≡ apply t (mul (single (generator g) q) (single (generator k) r))
+  product g k q r h l = sym (either ∙ ap₂ mul (sent g q h) (sent k r l))
+    where
+      sent : (g : Generator) (q : ℕ) → q < t .width → apply t (single (generator g) q) ≡ row t g q
+      sent g q h = apply-single t (generator g) q (le-trans h n) ∙ image-row t g q h
 
-pub valid-iff-multiplicative : (t : Tableau) → Proper t → (isValid t ≡ true) ↔ Multiplicative t
-valid-iff-multiplicative t p =
+      either : SendsProduct t (single (generator g) q) (single (generator k) r)
+      either = elim (decLt q r) [
+        | yes d ↦ apply-rising t _ _ r (within-single r (generator g) q d) (λ j b. single-off (generator k) r j (omega arith)) (omega arith)
+        | no d ↦ m g k q r h (omega arith)
+      ]
+
+  -- rows commute where their generators do
+  commutes : (b : Bool) (g k : Generator) (q r : ℕ) → q < t .width → r < t .width
+      → anticommute (single (generator g) q .letters r) (generator k) ≡ not b → commute (row t g q) (row t k r) ≡ b
+  commutes b g k q r h l e =
+      mul-commute (row t g q) (row t k r) b
+      (product g k q r h l ∙ ap (apply t) (mul-swap _ _) ∙ apply-scale t _ _
+      ∙ ap₂ scale (sign-single _ (generator k) r (le-trans l n) ∙ ap sign e) (sym (product k g r q l h)))
+
+  pub generators-valid : isValid t ≡ true
+  unfolding anticommute
+  generators-valid = valid-test t (record {
+    real = λ g q h. squares-real (row t g q)
+        (product g g q q h h ∙ ap (apply t) (real-squares (single (generator g) q) (unfold single isReal in refl)) ∙ apply-identity t);
+    anticommuting = λ q h. commutes false ofX ofZ q q h h (ap (λ a. anticommute a Z) (single-at X q));
+    commuting = λ g k q r h l d. commutes true g k q r h l (ap (λ a. anticommute a (generator k)) (single-off (generator g) q r (λ e. d (sym e))));
+  })
+
+pub multiplicative-valid : (t : Tableau) → t .width ≤ qubits → Multiplicative t → isValid t ≡ true
+multiplicative-valid t n m = generators-valid t n (λ g k q r h l. m (single (generator g) q) (single (generator k) r)
+    (within-single qubits (generator g) q (omega arith)) (within-single qubits (generator k) r (omega arith)))
+
+pub isValid-iff-multiplicative : (t : Tableau) → Proper t → (isValid t ≡ true) ↔ Multiplicative t
+isValid-iff-multiplicative t p =
     ((λ v s u hs hu. apply-mul t (record { proper = p; valid = v }) s u), multiplicative-valid t (p .narrow))
 
 -- ---- validity over the own rows is validity over all rows of a widening
@@ -44,10 +70,10 @@ isValid-widen n h t p = test-equal (widen n t) t
     sent = apply-widen n t
 
     own : (isValid t ≡ true) ↔ Multiplicative t
-    own = valid-iff-multiplicative t p
+    own = isValid-iff-multiplicative t p
 
     wide : (isValid (widen n t) ≡ true) ↔ Multiplicative (widen n t)
-    wide = valid-iff-multiplicative (widen n t) (proper-widen n h t p)
+    wide = isValid-iff-multiplicative (widen n t) (proper-widen n h t p)
 
 -- ---- two tableaux that send strings alike
 pub alike-iff-same : (a b : Tableau) → a .width ≤ qubits → b .width ≤ qubits → SendAlike a b ↔ SameWidened a b

@@ -1,26 +1,21 @@
--- Where a tableau is valid the images of its qubits multiply as their letters do, and only there; of a proper one then all
--- images below `qubits` do.
+-- Where a tableau is valid the images of its qubits multiply as their letters do; of a proper one then all images below `qubits` do.
 use mathlib.Core.Path.{_≡_, sym, ap, ap₂, _∙_, subst}
-use mathlib.Core.Bool.{true, false}
 use mathlib.Core.Logic.{_≢_}
 use Prim.Native.Nat.{ℕ, _≤_, _<_}
-use native.Mathlib.Nat.{le-refl, le-trans}
+use native.Mathlib.Nat.{le-refl}
 use native.Mathlib.Omega.{arith}
 use native.Mathlib.Decide.{decLt}
-use Rattle.pauli_group.specs.Phase.{MinusOne, PlusI, negate, turn, _·_, sign}
+use Rattle.pauli_group.specs.Phase.{MinusOne, PlusI, negate, turn, _·_}
 use Rattle.pauli_group.specs.Letter.{Letter, I, X, Z, Y, letterProduct, letterPhase, letterMul}
 use Rattle.pauli_group.specs.PauliString.{PauliString, qubits, mul, identityString, scale, single}
-use Rattle.pauli_group.proofs.Laws.{letterMul-self, letterPhase-self}
 use Rattle.pauli_group.proofs.Strings.{scale-scale, scale-one, scale-mul, mul-scale, mul-assoc, identity-mul, mul-identity}
-use Rattle.pauli_group.proofs.Strings.{real-squares, squares-real, commute-mul, anticommute-mul}
-use Rattle.clifford_group.specs.Tableau.{Tableau, rowImage, imageOf, isValid, Clifford}
-use Rattle.clifford_group.specs.Conjugation.{Generator, ofX, ofZ, generator, row, Valid}
+use Rattle.pauli_group.proofs.Strings.{real-squares, commute-mul, anticommute-mul}
+use Rattle.clifford_group.specs.Tableau.{Tableau, rowImage, imageOf, Clifford}
+use Rattle.clifford_group.specs.Conjugation.{Generator, ofX, ofZ, row, Valid}
 use Rattle.clifford_group.proofs.Singles.{mul-singles}
-use Rattle.clifford_group.proofs.Commuting.{Commuting, commuting-free, commuting-singles, commuting-identity, commuting-scale}
-use Rattle.clifford_group.proofs.Commuting.{commuting-mul}
-use Rattle.clifford_group.proofs.Commuting.{mul-commute}
-use Rattle.clifford_group.proofs.Images.{image-own, image-above, image-row, image-I, within-image}
-use Rattle.clifford_group.proofs.Valid.{test-valid, valid-test}
+use Rattle.clifford_group.proofs.Commuting.{Commuting, commuting-free, commuting-singles, commuting-identity, commuting-scale, commuting-mul}
+use Rattle.clifford_group.proofs.Images.{image-own, image-above, within-image}
+use Rattle.clifford_group.proofs.Valid.{test-valid}
 
 -- the images of the first n qubits: on one qubit they multiply by the letter products, and on two they commute
 pub record ImagesMultiply (n : ℕ) (t : Tableau) : Type 0 where
@@ -94,8 +89,8 @@ rows-apart t v q r h k d a b =
     row-commutes (rowImage t q a) t r
     (λ g. sym (row-commutes (row t g r) t q (λ j. sym (commute-mul (row t j q) (row t g r) (v .commuting j g q r h k d))) a)) b
 
--- ---- validity is that images multiply
-pub valid-multiply : (t : Tableau) → Valid t → ImagesMultiply (t .width) t
+-- ---- the own images
+valid-multiply : (t : Tableau) → Valid t → ImagesMultiply (t .width) t
 valid-multiply t v = record {
   together = λ q a b h.
       ap₂ mul (image-own t q a h) (image-own t q b h) ∙ rows-together t v q h a b
@@ -103,33 +98,6 @@ valid-multiply t v = record {
   apart = λ q r a b h k d.
       ap₂ mul (image-own t q a h) (image-own t r b k) ∙ rows-apart t v q r h k d a b
       ∙ ap₂ mul (sym (image-own t r b k)) (sym (image-own t q a h));
-}
-
-pub multiply-valid : (t : Tableau) → ImagesMultiply (t .width) t → Valid t
-unfolding letterProduct letterPhase letterMul _·_ negate sign
-multiply-valid t m = record {
-  real = λ g q h. squares-real (row t g q) (own g g q q h h ∙ squared (generator g) q h);
-  anticommuting = λ q h. mul-commute (t .xImage q) (t .zImage q) false
-      (own ofX ofZ q q h h ∙ m .together q X Z h
-      ∙ sym (ap (scale MinusOne) (own ofZ ofX q q h h ∙ m .together q Z X h) ∙ scale-scale MinusOne PlusI (imageOf t q Y)));
-  commuting = λ g k q r h l d. mul-commute (row t g q) (row t k r) true
-      (own g k q r h l ∙ m .apart q r (generator g) (generator k) h l d ∙ sym (own k g r q l h)
-      ∙ sym (scale-one (mul (row t k r) (row t g q))));
-}
-  where
-    own : (g k : Generator) (q r : ℕ) → q < t .width → r < t .width
-        → mul (row t g q) (row t k r) ≡ mul (imageOf t q (generator g)) (imageOf t r (generator k))
-    own g k q r h l = ap₂ mul (sym (image-row t g q h)) (sym (image-row t k r l))
-
-    squared : (l : Letter) (q : ℕ) → q < t .width → mul (imageOf t q l) (imageOf t q l) ≡ identityString
-    squared l q h =
-        m .together q l l h ∙ ap₂ (λ p a. scale p (imageOf t q a)) (letterPhase-self l) (letterMul-self l) ∙ scale-one (imageOf t q I)
-        ∙ image-I t q
-
-pub multiply-fewer : (n k : ℕ) (t : Tableau) → n ≤ k → ImagesMultiply k t → ImagesMultiply n t
-multiply-fewer n k t l m = record {
-  together = λ q a b h. m .together q a b (le-trans h l);
-  apart = λ q r a b h i. m .apart q r a b (le-trans h l) (le-trans i l);
 }
 
 -- ---- all images below `qubits`
@@ -163,6 +131,3 @@ multiply-everywhere t c = record {
     rows q r a b h k d (no i) (no j) =
         ap₂ mul (above q a (omega arith)) (above r b (omega arith)) ∙ commuting-singles a b q r k d
         ∙ ap₂ mul (sym (above r b (omega arith))) (sym (above q a (omega arith)))
-
-pub everywhere-valid : (t : Tableau) → t .width ≤ qubits → ImagesMultiply qubits t → isValid t ≡ true
-everywhere-valid t n m = valid-test t (multiply-valid t (multiply-fewer (t .width) qubits t n m))

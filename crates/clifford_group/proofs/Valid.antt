@@ -81,16 +81,13 @@ test-valid t v = record {
 
 pub valid-test : (t : Tableau) → Valid t → isValid t ≡ true
 unfolding isValid validQubit validPair
-valid-test t v = each-all (t .width) _ (λ q h. both-and _ _ (qubit q h) (each-all q _ (λ r l. pair q r h l)))
+valid-test t v = each-all (t .width) _ (λ q h. simp (v .real ofX q h, v .real ofZ q h, v .anticommuting q h, pairs q h))
   where
-    qubit : (q : ℕ) → q < t .width → validQubit t q ≡ true
-    qubit q h = both-and _ _ (both-and _ _ (v .real ofX q h) (v .real ofZ q h)) (ap not (v .anticommuting q h))
-
-    pair : (q r : ℕ) → q < t .width → r < q → validPair t q r ≡ true
-    pair q r h l = both-and _ _ (both-and _ _ (each ofX ofX) (each ofX ofZ)) (both-and _ _ (each ofZ ofX) (each ofZ ofZ))
+    pairs : (q : ℕ) → q < t .width → allTo q (validPair t q) ≡ true
+    pairs q h = each-all q _ (λ r l. simp (each r l ofX ofX, each r l ofX ofZ, each r l ofZ ofX, each r l ofZ ofZ))
       where
-        each : (g k : Generator) → commute (row t g q) (row t k r) ≡ true
-        each g k = v .commuting g k q r h (omega arith) (omega arith)
+        each : (r : ℕ) → r < q → (g k : Generator) → commute (row t g q) (row t k r) ≡ true
+        each r l g k = v .commuting g k q r h (omega arith) (omega arith)
 
 pub test-equal : (t u : Tableau) → (isValid t ≡ true → isValid u ≡ true) → (isValid u ≡ true → isValid t ≡ true)
     → isValid t ≡ isValid u

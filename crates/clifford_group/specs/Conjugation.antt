@@ -27,9 +27,12 @@ pub record Valid (t : Tableau) : Type 0 where
   pub anticommuting : (q : ℕ) → q < t .width → commute (t .xImage q) (t .zImage q) ≡ false
   pub commuting : (g k : Generator) (q r : ℕ) → q < t .width → r < t .width → q ≢ r → commute (row t g q) (row t k r) ≡ true
 
--- `apply` sends a product to the product; over the strings that a record holds
+-- `apply` sends the product of two strings to the product of their images; and so with all strings that a record holds
+abbrev pub SendsProduct : Tableau → PauliString → PauliString → Type 0
+SendsProduct t s u = apply t (mul s u) ≡ mul (apply t s) (apply t u)
+
 abbrev pub Multiplicative : Tableau → Type 0
-Multiplicative t = (s u : PauliString) → Within qubits s → Within qubits u → apply t (mul s u) ≡ mul (apply t s) (apply t u)
+Multiplicative t = (s u : PauliString) → Within qubits s → Within qubits u → SendsProduct t s u
 
 -- The papers' conjugation. An operator U has U·X = x'·U and U·Z = z'·U on each qubit, where x' and z' are the tableau's rows, or X and
 -- Z themselves from the width on; for a unitary U these say U·X·U† = x' and U·Z·U† = z'. Of U's being linear, phases are enough.

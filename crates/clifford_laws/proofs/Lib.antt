@@ -7,3 +7,4 @@ pub mod Readings
 pub mod Witnesses
 pub mod DisplayLengths
 pub mod Weights
+pub mod Validity

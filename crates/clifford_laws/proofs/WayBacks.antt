@@ -11,8 +11,8 @@ use Rattle.pauli.specs.declared.refusal.Outcome.{Outcome}
 use Rattle.pauli.specs.declared.refusal.Outcome.the-variants.{Done, Refused}
 use Rattle.pauli.specs.Answers.{written}
 use Rattle.pauli.specs.Layout.{stringLength}
-use Rattle.pauli.specs.Questions.{_andThen_, stringQuestions, roomQuestion}
-use Rattle.pauli.proofs.Asking.{passed, done-first, has-room, strings-admitted}
+use Rattle.pauli.specs.Questions.{stringQuestions}
+use Rattle.pauli.proofs.Asking.{done-both, done-first, done-room, strings-admitted}
 use Rattle.clifford.specs.Layout.{recordLength, widthOf, FormedTableau}
 use Rattle.clifford.specs.Questions.{tableauQuestions, applyQuestions, applyAnswer, composeQuestions, composeAnswer, inverseAnswer}
 use Rattle.clifford.specs.Tableaux.{Good, identityRecord, applyRecord, composeRecord, inverseRecord}
@@ -179,12 +179,6 @@ product-sends n p (a ∷ rest) fp (more g w gs) s =
     product-sends n (composeRecord a p) rest (compose-formed (g .formed) fp) gs s ∙ ap (sentBy rest) (send-compose g fp s)
 
 -- ---- the way back
-done-room : (q : Outcome) (needed room : ℕ) → q ≡ Done → needed ≤ room → q andThen roomQuestion needed room ≡ Done
-done-room q needed room h l = sym (passed (sym h) refl (has-room needed room l))
-
-done-both : (p q : Outcome) → p ≡ Done → q ≡ Done → p andThen q ≡ Done
-done-both p q h k = sym (passed (sym h) refl (sym k))
-
 -- each string on the way is a record, so the next `apply` is accepted
 each-applied : (n : ℕ) (steps : List (List ℕ)) → GoodSteps n steps → (s : List ℕ) → stringQuestions s ≡ Done → (room : ℕ)
     → stringLength ≤ room → EachApplied room steps s

@@ -3,3 +3,4 @@ pub mod Witnesses
 pub mod NamedGates
 pub mod Readings
 pub mod Weights
+pub mod Validity

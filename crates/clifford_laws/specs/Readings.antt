@@ -1,5 +1,5 @@
--- The readings that the scope document marks with a star: what is asked, and what is answered: the number,
--- the value, and the bytes written.
+-- The readings that the scope document marks with a star, and tableaux that are not valid: what is asked, and what is answered: the
+-- number, the value, and the bytes written.
 use Prim.Native.Nat.{ℕ, _+_, _*_, _-_}
 use mathlib.Core.Bool.{cond}
 use lib.Dec.{ltb}
@@ -7,15 +7,16 @@ use mathlib.Core.List.{List, [], _∷_, _++_}
 use lib.ListN.{length, replicate}
 use Rattle.pauli.specs.declared.refusal.Outcome.{Outcome}
 use Rattle.pauli.specs.Answers.{oneOrZero, replyTo}
-use Rattle.pauli.specs.Questions.{pairQuestions}
+use Rattle.pauli.specs.Questions.{pairQuestions, mulQuestions}
 use Rattle.pauli.specs.Rows.{phaseBytesProduct, productPhaseByte, productLetterByte}
+use Rattle.pauli.specs.Strings.{placesTakenOfRecords, productRecord}
 use Rattle.pauli_group.specs.Phase.{PlusI}
 use Rattle.pauli_group.specs.Letter.{Letter, X, Z, Y}
 use Rattle.clifford_gates.specs.Gates.{Image, plus, minus, oneQubit}
 use Rattle.clifford_gates.specs.GateTableaux.{onQubit}
 use Rattle.clifford_gates.specs.GateNumbers.{composeGate}
 use Rattle.clifford.specs.Layout.{longestRecord, tableauRecord}
-use Rattle.clifford.specs.Tableaux.{recordValid, applyRecord, composeRecord, inverseRecord}
+use Rattle.clifford.specs.Tableaux.{recordValid, identityRecord, setXRecord, setZRecord, applyRecord, composeRecord, inverseRecord}
 use Rattle.clifford.specs.Questions.{tableauQuestions, applyAnswer, composeAnswer, inverseAnswer}
 use Rattle.clifford.specs.GateQuestions.{composeGateQuestions}
 use Rattle.clifford.specs.GateAnswers.{gateRecord, recordName}
@@ -23,6 +24,7 @@ use Rattle.clifford.specs.GateAnswers.{gateRecord, recordName}
 pub data Asked : Type 0 where
   phasesMultiplied : ℕ → ℕ → Asked
   lettersMultiplied : ℕ → ℕ → Asked
+  stringsMultiplied : List ℕ → List ℕ → Asked
   applied : List ℕ → List ℕ → Asked
   inverted : List ℕ → Asked
   composed : List ℕ → List ℕ → Asked
@@ -38,6 +40,7 @@ told q v out = replyTo q v .number ∷ replyTo q v .value ∷ out
 unfoldable pub answered : Asked → List ℕ
 answered (phasesMultiplied a b) = told (pairQuestions a b) (phaseBytesProduct a b) []
 answered (lettersMultiplied a b) = told (pairQuestions a b) (4 * productPhaseByte a b + productLetterByte a b) []
+answered (stringsMultiplied s t) = told (mulQuestions s t 129) (placesTakenOfRecords s t) (productRecord s t)
 answered (applied t s) = told (applyAnswer t s 129) 0 (applyRecord t s)
 answered (inverted t) = told (inverseAnswer t longestRecord) 0 (inverseRecord t)
 answered (composed a b) = told (composeAnswer a b longestRecord) 0 (composeRecord a b)
@@ -81,3 +84,33 @@ readings =
     reading (valid (imagesRecord (plusI X) (plus Z))) (0 ∷ 0 ∷ []) ∷  -- X to +iX, Z to Z is not valid
     reading (named (imagesRecord (plusI X) (plus Z))) (0 ∷ 255 ∷ []) ∷  -- and by the change requests it has no name
     []
+
+-- A tableau that is not valid, two strings p and q, their product sent through it, and the product of their images, with the places
+-- that `mul` tells of it.
+abbrev pub invalid : (t p q sent : List ℕ) (places : ℕ) (product : List ℕ) → List Reading → List Reading
+invalid t p q sent places product rest =
+    reading (valid t) (0 ∷ 0 ∷ []) ∷
+    reading (applied t (productRecord p q)) (0 ∷ 0 ∷ sent) ∷
+    reading (stringsMultiplied (applyRecord t p) (applyRecord t q)) (0 ∷ places ∷ product) ∷
+    rest
+
+abbrev pub x0 : List ℕ
+x0 = stringBytes 0 (1 ∷ [])
+
+abbrev pub z0 : List ℕ
+z0 = stringBytes 0 (2 ∷ [])
+
+abbrev pub x1 : List ℕ
+x1 = stringBytes 0 (0 ∷ 1 ∷ [])
+
+-- Each is the identity with one image replaced, so that one part of the rule of validity is broken and all else holds.
+unfoldable pub invalidReadings : List Reading
+invalidReadings =
+    -- X to +iX, a phase that is not real: X0·X0 is sent to 1, the product of the images is −1
+    invalid (setXRecord (identityRecord 1) 0 (stringBytes 2 (1 ∷ []))) x0 x0 (stringBytes 0 []) 1 (stringBytes 1 [])
+    -- Z to X, which commutes with X's image: Z0·X0 is sent to −1, the product of the images is 1
+    (invalid (setZRecord (identityRecord 1) 0 x0) z0 x0 (stringBytes 1 []) 1 (stringBytes 0 [])
+    -- X1 to Z0 X1, which does not commute with X0's image: X1·X0 is sent to −i Y0 X1, the product of the images is +i Y0 X1
+    (invalid (setXRecord (identityRecord 2) 1 (stringBytes 0 (2 ∷ 1 ∷ []))) x1 x0 (stringBytes 3 (3 ∷ 1 ∷ [])) 2 (stringBytes 2 (3 ∷ 1 ∷ []))
+    -- the same in rising order, the order of `apply`, which shows nothing: both are −i Y0 X1
+    (invalid (setXRecord (identityRecord 2) 1 (stringBytes 0 (2 ∷ 1 ∷ []))) x0 x1 (stringBytes 3 (3 ∷ 1 ∷ [])) 2 (stringBytes 3 (3 ∷ 1 ∷ [])) [])))

@@ -54,6 +54,9 @@ then-first b e = refused b refl e
 pub then-asked : {a b r x y : Outcome} → r ≡ a andThen b → a ≡ x → b ≡ y → r ≡ x andThen y
 then-asked e p q = e ∙ ap₂ _andThen_ p q
 
+pub done-both : (q y : Outcome) → q ≡ Done → y ≡ Done → q andThen y ≡ Done
+done-both q y h k = sym (then-second y h) ∙ k
+
 pub done-first : (q y : Outcome) → q andThen y ≡ Done → q ≡ Done
 unfolding _andThen_
 done-first Done y e = refl
@@ -101,6 +104,9 @@ no-room needed room h = asked-no Room (lt-leb needed room h)
 pub has-room : (needed room : ℕ) → needed ≤ room → Done ≡ roomQuestion needed room
 unfolding roomQuestion
 has-room needed room h = asked-yes Room (le-leb needed room h)
+
+pub done-room : (q : Outcome) (needed room : ℕ) → q ≡ Done → needed ≤ room → q andThen roomQuestion needed room ≡ Done
+done-room q needed room h l = done-both q _ h (sym (has-room needed room l))
 
 pub room-is : (needed room : ℕ) → roomQuestion needed room ≡ Done → needed ≤ room
 unfolding roomQuestion

@@ -13,7 +13,7 @@ use Rattle.pauli_group.specs.Phase.{Phase, PlusOne, MinusOne, PlusI, MinusI}
 use Rattle.pauli_group.specs.Letter.{Letter, I, X, Z, Y, notI}
 use Rattle.pauli_group.specs.PauliString.{PauliString, qubits, hasLetter, Within}
 use Rattle.pauli_group.proofs.Strings.{string-ext}
-use Rattle.pauli.specs.Layout.{phaseByte, phaseOf, letterByte, letterOf, encodeString, decodeString, stringOf, WellFormed}
+use Rattle.pauli.specs.Layout.{phaseByte, phaseOf, letterByte, letterOf, encodeString, decodeString, stringRecord, stringOf, WellFormed}
 use Rattle.pauli.proofs.Places.{length-listed, getD-listed}
 
 -- ---- bytes of phases and letters
@@ -117,6 +117,10 @@ encode-decode {w} {b} f = ext-getD 0 (encodeString w (decodeString w b)) b (leng
 pub string-within : (s : List ℕ) → Within qubits (stringOf s)
 unfolding stringOf
 string-within s = decode-within qubits s
+
+pub string-back : (s : PauliString) → Within qubits s → stringOf (stringRecord s) ≡ s
+unfolding stringOf stringRecord
+string-back s h = decode-encode qubits s h
 
 pub letter-of : (s : List ℕ) (q : ℕ) → q < 128 → stringOf s .letters q ≡ letterOf (getD s (suc q) 0)
 unfolding stringOf qubits

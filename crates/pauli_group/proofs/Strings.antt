@@ -4,6 +4,7 @@ use mathlib.Core.Path.{_≡_, refl, sym, ap, ap₂, _∙_, fun-ext}
 use mathlib.Core.Bool.{true, false, cond, not}
 use Prim.Native.Nat.{ℕ, _<_}
 use native.Mathlib.Omega.{arith}
+use native.Mathlib.Decide.{decLt}
 use lib.Dec.{eqb}
 use borrow.Author.Tests.{eq-eqb, ne-eqb}
 use Rattle.pauli_group.specs.Phase.{Phase, PlusOne, MinusOne, _·_, isReal, sign, minusOneTo}
@@ -73,6 +74,17 @@ mul-identity s =
     string-ext (mul s identityString) s
     (ap (λ x. s .phase · PlusOne · x) (productTo-one qubits _ (λ q l. letterPhase-I (s .letters q))) ∙ ·-one (s .phase · PlusOne) ∙ ·-one (s .phase))
     (λ q. letterMul-I (s .letters q))
+
+-- ---- in rising order, s with no letter from k on and u with none below, letters give no phase
+pub rising-phase : (s u : PauliString) (k : ℕ) → Within k s → ((q : ℕ) → q < k → u .letters q ≡ I) → mul s u .phase ≡ s .phase · u .phase
+unfolding mul phaseOfLetters
+rising-phase s u k low high = ap (λ x. s .phase · u .phase · x) (productTo-one qubits _ (λ q h. none q)) ∙ ·-one (s .phase · u .phase)
+  where
+    none : (q : ℕ) → letterPhase (s .letters q) (u .letters q) ≡ PlusOne
+    none q = elim (decLt q k) [
+      | yes l ↦ ap (letterPhase (s .letters q)) (high q l) ∙ letterPhase-I (s .letters q)
+      | no l ↦ ap (λ a. letterPhase a (u .letters q)) (low q (omega arith)) ∙ I-letterPhase (u .letters q)
+    ]
 
 -- ---- P·Q = (-1)^n Q·P
 -- the places' signs, multiplied

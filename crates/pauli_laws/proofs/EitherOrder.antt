@@ -9,13 +9,13 @@ use Rattle.pauli_group.proofs.AnticommutingPlaces.{places-most, even-commute}
 use Rattle.pauli.specs.Layout.{phaseByte, letterByte, stringOf, stringRecord}
 use Rattle.pauli.specs.Rows.{phaseBytesProduct}
 use Rattle.pauli.specs.Strings.{phaseOfRecord, letterOfRecord, placesOfRecords, productRecord}
-use Rattle.pauli.proofs.Records.{phase-back, decode-encode, decode-within}
+use Rattle.pauli.proofs.Records.{phase-back, string-within, string-back}
 use Rattle.pauli_laws.specs.EitherOrder.{EitherOrder}
 
 -- a product's record is read back as the product
 pub read-back : (s t : List ℕ) → stringOf (productRecord s t) ≡ mul (stringOf s) (stringOf t)
-unfolding productRecord stringOf stringRecord
-read-back s t = decode-encode qubits _ (within-mul qubits (stringOf s) (stringOf t) (decode-within qubits s) (decode-within qubits t))
+unfolding productRecord
+read-back s t = string-back _ (within-mul qubits (stringOf s) (stringOf t) (string-within s) (string-within t))
 
 module _ (s t : List ℕ) where
   abbrev S : PauliString

@@ -245,7 +245,8 @@ pub fn compose(a: &[u8], b: &[u8], dst: &mut [u8]) -> Answer {
     })
 }
 
-/// Writes the tableau in width n, or a copy where n is no larger than its width.
+/// Writes the tableau in width n, or a copy where n is no larger than its width. Two tableaux send every string alike exactly when,
+/// in the larger of their widths, they are the same bytes.
 pub fn extended_to(t: &[u8], n: usize, dst: &mut [u8]) -> Answer {
     answer(unsafe { raw::rc_extended_to(t.as_ptr(), t.len(), n, dst.as_mut_ptr(), dst.len()) })
 }
@@ -255,7 +256,8 @@ pub fn inverse(t: &[u8], dst: &mut [u8]) -> Answer {
     answer(unsafe { raw::rc_inverse(t.as_ptr(), t.len(), dst.as_mut_ptr(), dst.len()) })
 }
 
-/// 1 where phases are real and images commute as the generators do, otherwise 0.
+/// 1 where phases are real and images commute as the generators do, otherwise 0. It is 1 exactly when `apply` sends the product of
+/// every two strings to the product of their images, phase included.
 pub fn is_valid(t: &[u8]) -> Answer {
     answer(unsafe { raw::rc_is_valid(t.as_ptr(), t.len()) })
 }

@@ -170,6 +170,68 @@ fn any_three_numbers_have_a_line() {
     );
 }
 
+fn string(text: &str) -> [u8; STRING_LENGTH] {
+    let mut string = [0; STRING_LENGTH];
+    from_str(text.as_bytes(), &mut string).unwrap();
+    string
+}
+
+fn shown(string: &[u8]) -> String {
+    let mut text = [0; 531];
+    let length = to_sparse_str(string, &mut text).unwrap() as usize;
+    String::from_utf8(text[..length].to_vec()).unwrap()
+}
+
+/// The product of two strings sent through a tableau, and the product of their images.
+fn both_ways(t: &[u8], p: &str, q: &str) -> [String; 2] {
+    let (p, q) = (string(p), string(q));
+    let [mut product, mut sent, mut p_sent, mut q_sent, mut images] = [[0; STRING_LENGTH]; 5];
+    mul(&p, &q, &mut product).unwrap();
+    apply(t, &product, &mut sent).unwrap();
+    apply(t, &p, &mut p_sent).unwrap();
+    apply(t, &q, &mut q_sent).unwrap();
+    mul(&p_sent, &q_sent, &mut images).unwrap();
+    [shown(&sent), shown(&images)]
+}
+
+#[test]
+fn a_valid_tableau_sends_products_to_products() {
+    let strings = ["X0", "Z0", "X1", "Z1", "iY0 Z1", "-X0 Y7"];
+    assert_eq!(is_valid(&bell()), Ok(1));
+    for (p, q) in strings.iter().flat_map(|p| strings.map(|q| (p, q))) {
+        let [sent, images] = both_ways(&bell(), p, q);
+        assert_eq!(sent, images, "{p} and {q}");
+    }
+}
+
+/// The table of docs/VALIDITY.md.
+#[test]
+fn a_product_shows_that_a_tableau_is_not_valid() {
+    let mut t = [0; tableau_length(2)];
+    let mut broken = |set: fn(&mut [u8], usize, &[u8]) -> Answer, slot, image, p, q| {
+        identity(2, &mut t).unwrap();
+        set(&mut t, slot, &string(image)).unwrap();
+        assert_eq!(is_valid(&t), Ok(0));
+        both_ways(&t, p, q)
+    };
+    assert_eq!(broken(set_x_image, 0, "iX0", "X0", "X0"), ["+I", "-I"]);
+    assert_eq!(broken(set_z_image, 0, "X0", "Z0", "X0"), ["-I", "+I"]);
+    let z0_x1 = broken(set_x_image, 1, "Z0 X1", "X1", "X0");
+    assert_eq!(z0_x1, ["-iY0 X1", "+iY0 X1"]);
+    let rising = broken(set_x_image, 1, "Z0 X1", "X0", "X1");
+    assert_eq!(rising, ["-iY0 X1", "-iY0 X1"]);
+}
+
+#[test]
+fn tableaux_that_send_strings_alike_are_widened_to_the_same_bytes() {
+    let (mut one, mut two) = ([0; tableau_length(1)], [0; tableau_length(2)]);
+    identity(1, &mut one).unwrap();
+    identity(2, &mut two).unwrap();
+    let mut wide = two.map(|byte| !byte);
+    extended_to(&one, 2, &mut wide).unwrap();
+    assert_eq!(wide, two);
+}
+
 #[test]
 fn a_gate_is_named_by_its_own_tableau() {
     let mut t = [0; tableau_length(1)];

@@ -43,8 +43,8 @@ impl Comparison {
         }
     }
 
-    /// One case, with the destination that the call has.
-    pub fn case(&mut self, call: &Call) {
+    /// One case, with the destination that the call has; what the library made of it.
+    pub fn case(&mut self, call: &Call) -> library::Outcome {
         let outcome = library::call(call, self.cases);
         let expected = expected(call);
         let right = expected.as_ref().is_ok_and(|expected| {
@@ -59,6 +59,15 @@ impl Comparison {
             self.show(call, &outcome, &expected);
         }
         self.count(&call.name, expected.is_ok_and(|it| it.by_rust), right);
+        outcome
+    }
+
+    /// What has to hold of the answers to cases about one record.
+    pub fn claim(&mut self, name: &str, holds: bool, record: &[u8]) {
+        if !holds && self.mismatches < SHOWN {
+            println!("# {name} does not hold of {}", write_bytes(record));
+        }
+        self.count(name, true, holds);
     }
 
     fn count(&mut self, name: &str, by_rust: bool, right: bool) {

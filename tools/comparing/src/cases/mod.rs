@@ -8,3 +8,4 @@ pub mod refusals;
 pub mod strings;
 pub mod tableaux;
 pub mod text;
+pub mod validity;
