@@ -1,6 +1,6 @@
 -- Validity, read off the rows of a record.
 use mathlib.Core.Path.{_≡_, refl, sym, ap, ap₂, _∙_}
-use mathlib.Core.Bool.{Bool, true, false, not, _&&_}
+use mathlib.Core.Bool.{Bool, true, false, not, _&&_, and-false}
 use mathlib.Core.List.{List}
 use Prim.Native.Nat.{ℕ, zero, suc, _+_, _%_, _≤_, _<_}
 use native.Mathlib.Nat.{not-suc-le-zero}
@@ -186,10 +186,6 @@ all-step {n} {f} {i} m h e = record { within = omega arith; all = ap (λ (j : �
     more = unfold allTo in ap₂ (λ x y. x && y) (m .all) e
 
 -- one that fails makes all fail
-pub and-false : (b : Bool) → (b && false) ≡ false
-and-false true = refl
-and-false false = refl
-
 pub all-fail : (n : ℕ) (f : ℕ → Bool) (i : ℕ) → i < n → f i ≡ false → allTo n f ≡ false
 unfolding allTo
 all-fail zero f i h e = absurd (not-suc-le-zero h)

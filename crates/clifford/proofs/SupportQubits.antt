@@ -1,6 +1,6 @@
 -- The support of a tableau, read off the rows of its record.
 use mathlib.Core.Path.{_≡_, refl, sym, ap, ap₂, _∙_, subst}
-use mathlib.Core.Bool.{Bool, true, false, cond, not, _&&_, _||_}
+use mathlib.Core.Bool.{Bool, true, false, cond, not, _&&_, _||_, and-false}
 use mathlib.Core.List.{List, [], _∷_, _++_, append-nil}
 use Prim.Native.Nat.{ℕ, zero, suc, _+_, _-_, _≤_, _<_}
 use native.Mathlib.Nat.{not-suc-le-zero}
@@ -33,7 +33,7 @@ use Rattle.clifford.specs.Inside.Rows.{OwnRow, OwnQubit, OwnQubits, rowL
 use Rattle.clifford.specs.Support.{isPlusOne, alikeAt, isSingle, changedQubit, touchesQubit, supportsQubit, someTo, placesWith, inSupport, supportQubits}
 use Rattle.clifford.specs.Inside.Writing.{IsGenerator, SingleRow, SupportBit, SupportCount, QubitFits, QubitWritten, SupportFits}
 use Rattle.clifford.proofs.Rows.{row-x, row-z, own-phase, own-letters-long, own-letter-byte, width-of}
-use Rattle.clifford.proofs.IsValid.{AllBefore, all-start, all-step, all-fail, all-done, and-false, not-true, not-false}
+use Rattle.clifford.proofs.IsValid.{AllBefore, all-start, all-step, all-fail, all-done, not-true, not-false}
 
 -- ---- one letter
 pub byte-here : {l : ℕ} (q c : ℕ) → IsGenerator l → c ≡ q → l ≡ letterByte (single (letterOf l) q .letters c)

@@ -98,7 +98,8 @@ module _ (t : Tableau) (s u : PauliString) (k : ℕ) (low : Within k s) (high : 
   rising-step j h e =
       ap₂ mul e (ap (λ a. imageOf t j (letterMul a (u .letters j))) (low j h) ∙ ap (imageOf t j) (I-letterMul (u .letters j)))
       ∙ mul-assoc (applyTo j t s) (applyTo j t u) (imageOf t j (u .letters j))
-      ∙ sym (ap (λ a. mul a (applyTo (suc j) t u)) (ap (λ a. mul (applyTo j t s) (imageOf t j a)) (low j h) ∙ ap (mul (applyTo j t s)) (image-I t j) ∙ mul-identity (applyTo j t s)))
+      ∙ sym (ap (λ a. mul a (applyTo (suc j) t u))
+      (ap (mul (applyTo j t s)) (ap (imageOf t j) (low j h) ∙ image-I t j) ∙ mul-identity (applyTo j t s)))
 
   applyTo-rising : (j : ℕ) → k ≤ j → Rising j
   applyTo-rising zero h = let e : k ≡ zero = omega arith in subst Rising e rising-start

@@ -1,6 +1,6 @@
 -- The rule of validity over a tableau's own rows, and the test `isValid`, which passes exactly where the rule holds.
 use mathlib.Core.Path.{_≡_, refl, sym, ap, ap₂, _∙_}
-use mathlib.Core.Bool.{Bool, true, false, not, _&&_}
+use mathlib.Core.Bool.{Bool, true, false, not, _&&_, and-false}
 use Prim.Native.Nat.{ℕ, zero, suc, _<_}
 use native.Mathlib.Nat.{not-suc-le-zero}
 use native.Mathlib.Omega.{arith}
@@ -28,18 +28,23 @@ unfolding allTo
 each-all zero f h = refl
 each-all (suc n) f h = both-and (allTo n f) (f n) (each-all n f (λ q l. h q (omega arith))) (h n (omega arith))
 
+-- ---- a test that is no where one of its parts is no: where it is yes, the part is yes
+part-yes : (test part : Bool) → (part ≡ false → test ≡ false) → test ≡ true → part ≡ true
+part-yes test true f e = refl
+part-yes test false f e = sym (f refl) ∙ e
+
 -- ---- the rows of one qubit, and of two
 module _ (t : Tableau) (q : ℕ) (v : validQubit t q ≡ true) where
-  parts : ((isReal (t .xImage q .phase) && isReal (t .zImage q .phase)) ≡ true) × (not (commute (t .xImage q) (t .zImage q)) ≡ true)
-  unfolding validQubit
-  parts = and-both _ _ v
-
   qubit-real : (g : Generator) → isReal (row t g q .phase) ≡ true
-  qubit-real ofX = and-both _ _ (parts .0) .0
-  qubit-real ofZ = and-both (isReal (t .xImage q .phase)) _ (parts .0) .1
+  unfolding validQubit
+  qubit-real ofX = part-yes (validQubit t q) (isReal (t .xImage q .phase)) (λ e. simp (e)) v
+  qubit-real ofZ = part-yes (validQubit t q) (isReal (t .zImage q .phase)) (λ e. simp (e, and-false)) v
 
   qubit-anticommuting : commute (t .xImage q) (t .zImage q) ≡ false
-  qubit-anticommuting = turned (commute (t .xImage q) (t .zImage q)) (parts .1)
+  unfolding validQubit
+  qubit-anticommuting =
+      turned (commute (t .xImage q) (t .zImage q))
+      (part-yes (validQubit t q) (not (commute (t .xImage q) (t .zImage q))) (λ e. simp (e, and-false)) v)
     where
       turned : (b : Bool) → not b ≡ true → b ≡ false
       turned true e = sym e
@@ -47,37 +52,31 @@ module _ (t : Tableau) (q : ℕ) (v : validQubit t q ≡ true) where
 
 pair-commuting : (t : Tableau) (q r : ℕ) → validPair t q r ≡ true → (g k : Generator) → commute (row t g q) (row t k r) ≡ true
 unfolding validPair
-pair-commuting t q r v = each
-  where
-    x : (commute (t .xImage q) (t .xImage r) ≡ true) × (commute (t .xImage q) (t .zImage r) ≡ true)
-    x = and-both _ _ (and-both _ _ v .0)
-
-    z : (commute (t .zImage q) (t .xImage r) ≡ true) × (commute (t .zImage q) (t .zImage r) ≡ true)
-    z = and-both _ _ (and-both (commute (t .xImage q) (t .xImage r) && commute (t .xImage q) (t .zImage r)) _ v .1)
-
-    each : (g k : Generator) → commute (row t g q) (row t k r) ≡ true
-    each ofX ofX = x .0
-    each ofX ofZ = x .1
-    each ofZ ofX = z .0
-    each ofZ ofZ = z .1
+pair-commuting t q r v ofX ofX = part-yes (validPair t q r) (commute (t .xImage q) (t .xImage r)) (λ e. simp (e)) v
+pair-commuting t q r v ofX ofZ = part-yes (validPair t q r) (commute (t .xImage q) (t .zImage r)) (λ e. simp (e, and-false)) v
+pair-commuting t q r v ofZ ofX = part-yes (validPair t q r) (commute (t .zImage q) (t .xImage r)) (λ e. simp (e, and-false)) v
+pair-commuting t q r v ofZ ofZ = part-yes (validPair t q r) (commute (t .zImage q) (t .zImage r)) (λ e. simp (e, and-false)) v
 
 -- ---- the test and the rule
 pub test-valid : (t : Tableau) → isValid t ≡ true → Valid t
 unfolding isValid
 test-valid t v = record {
-  real = λ g q h. qubit-real t q (both q h .0) g;
-  anticommuting = λ q h. qubit-anticommuting t q (both q h .0);
+  real = λ g q h. qubit-real t q (own q h) g;
+  anticommuting = λ q h. qubit-anticommuting t q (own q h);
   commuting = λ g k q r h l d. elim (decLt r q) [
     | yes m ↦ lower g k q r h m
     | no m ↦ commute-sym (row t g q) (row t k r) ∙ lower k g r q l (omega arith)
   ];
 }
   where
-    both : (q : ℕ) → q < t .width → (validQubit t q ≡ true) × (allTo q (validPair t q) ≡ true)
-    both q h = and-both (validQubit t q) (allTo q (validPair t q)) (all-each (t .width) _ v q h)
+    own : (q : ℕ) → q < t .width → validQubit t q ≡ true
+    own q h = part-yes _ (validQubit t q) (λ e. simp (e)) (all-each (t .width) _ v q h)
+
+    others : (q : ℕ) → q < t .width → allTo q (validPair t q) ≡ true
+    others q h = part-yes _ (allTo q (validPair t q)) (λ e. simp (e, and-false)) (all-each (t .width) _ v q h)
 
     lower : (g k : Generator) (q r : ℕ) → q < t .width → r < q → commute (row t g q) (row t k r) ≡ true
-    lower g k q r h l = pair-commuting t q r (all-each q (validPair t q) (both q h .1) r l) g k
+    lower g k q r h l = pair-commuting t q r (all-each q (validPair t q) (others q h) r l) g k
 
 pub valid-test : (t : Tableau) → Valid t → isValid t ≡ true
 unfolding isValid validQubit validPair

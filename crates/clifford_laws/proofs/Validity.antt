@@ -9,11 +9,12 @@ use native.Mathlib.Nat.{le-trans}
 use native.Mathlib.Omega.{arith}
 use Rattle.pauli_group.specs.PauliString.{PauliString, qubits, mul, single, Within}
 use Rattle.pauli_group.proofs.Strings.{within-mul, within-single}
-use Rattle.clifford_group.specs.Tableau.{Tableau, apply, widen, Proper}
+use Rattle.clifford_group.specs.Tableau.{Tableau, apply, widen, Proper, Same}
 use Rattle.clifford_group.specs.Conjugation.{Generator, generator, SendsProduct, SendAlike, SameWidened}
 use Rattle.clifford_group.proofs.Images.{alike-widen, same-alike, proper-widen}
-use Rattle.clifford_group.proofs.Apply.{apply-within}
-use Rattle.clifford_group.proofs.Homomorphism.{generators-valid, isValid-iff-multiplicative, alike-iff-same}
+use Rattle.clifford_group.proofs.Apply.{apply-widen, apply-within}
+use Rattle.clifford_group.proofs.Homomorphism.{generators-valid, isValid-iff-multiplicative, isValid-widen, alike-iff-same}
+use Rattle.clifford_group.proofs.Same.{apply-same, isValid-same}
 use Rattle.pauli.specs.declared.refusal.Outcome.{Outcome}
 use Rattle.pauli.specs.declared.refusal.Outcome.the-variants.{Done, Refused}
 use Rattle.pauli.specs.declared.refusal.Flag.the-variants.{Yes}
@@ -27,7 +28,7 @@ use Rattle.clifford.specs.Layout.{widthOf, recordLength, tableauOf}
 use Rattle.clifford.specs.Questions.{tableauQuestions, applyQuestions, applyAnswer, extendQuestions, extendAnswer}
 use Rattle.clifford.specs.Tableaux.{recordValid, applyRecord, extendRecord}
 use Rattle.clifford.proofs.Asking.{width-narrow, admitted-tableaux, admitted-proper}
-use Rattle.clifford.proofs.Records.{same-record, record-same}
+use Rattle.clifford.proofs.Records.{record-back, same-record, record-same}
 use Rattle.clifford_laws.specs.Validity.{ProductSent, RecordMultiplicative, generatorRecord, GeneratorsSent, RecordsSendAlike, largerWidth, SameBytesWidened, ValiditySentence}
 
 -- two strings with one record are the same
@@ -67,7 +68,8 @@ module _ (t : List ℕ) (asked : tableauQuestions t ≡ Done) where
 
   valid-multiplicative : recordValid t ≡ true → RecordMultiplicative t
   unfolding recordValid
-  valid-multiplicative v p q hp hq = product-sent p q .0 (isValid-iff-multiplicative T proper .0 v (stringOf p) (stringOf q) (string-within p) (string-within q))
+  valid-multiplicative v p q hp hq =
+      product-sent p q .0 (isValid-iff-multiplicative T proper .0 v (stringOf p) (stringOf q) (string-within p) (string-within q))
 
   -- the generators' products are enough
   sent-valid : GeneratorsSent t → recordValid t ≡ true
@@ -104,7 +106,7 @@ module _ (t u : List ℕ) (askedT : tableauQuestions t ≡ Done) (askedU : table
   unfolding applyRecord extendRecord tableauOf
   alike-iff-same-bytes = (
     (λ e. same-record (widen n T) (widen n U) (objects .0 (strings e))),
-    (λ e s h. ap stringRecord (objects .1 (record-same (widen n T) (widen n U) (wide-proper t askedT) (wide-proper u askedU) e) (stringOf s) (string-within s))),
+    (λ e s h. ap stringRecord (objects .1 (same e) (stringOf s) (string-within s))),
   )
     where
       T : Tableau
@@ -116,16 +118,34 @@ module _ (t u : List ℕ) (askedT : tableauQuestions t ≡ Done) (askedU : table
       objects : SendAlike T U ↔ SameWidened T U
       objects = alike-iff-same T U (admitted-proper t askedT .narrow) (admitted-proper u askedU .narrow)
 
+      same : SameBytesWidened t u → SameWidened T U
+      same = record-same (widen n T) (widen n U) (wide-proper t askedT) (wide-proper u askedU)
+
       strings : RecordsSendAlike t u → (s : PauliString) → Within qubits s → apply T s ≡ apply U s
       strings e s h = string-equal (apply T s) (apply U s) (apply-within T (admitted-proper t askedT) s) (apply-within U (admitted-proper u askedU) s)
           (subst (λ v. stringRecord (apply T v) ≡ stringRecord (apply U v)) (string-back s h) (e (stringRecord s) (strings-admitted s)))
+
+-- ---- a record widened: what it sends and whether it is valid stay
+module _ (t : List ℕ) (asked : tableauQuestions t ≡ Done) (n : ℕ) (h : n ≤ qubits) where
+  widened : Same (tableauOf (extendRecord t n)) (widen n (tableauOf t))
+  unfolding extendRecord
+  widened = record-back (widen n (tableauOf t)) (proper-widen n h (tableauOf t) (admitted-proper t asked))
+
+  pub extend-sends : (s : List ℕ) → applyRecord (extendRecord t n) s ≡ applyRecord t s
+  unfolding applyRecord
+  extend-sends s = ap stringRecord (apply-same _ _ widened (stringOf s) ∙ apply-widen n (tableauOf t) (stringOf s))
+
+  pub extend-valid : recordValid (extendRecord t n) ≡ recordValid t
+  unfolding recordValid
+  extend-valid = isValid-same _ _ widened ∙ isValid-widen n h (tableauOf t) (admitted-proper t asked)
 
 -- "a smaller width gives a copy"
 pub extend-copy : (t : List ℕ) → tableauQuestions t ≡ Done → (n : ℕ) → n ≤ widthOf t → extendRecord t n ≡ t
 unfolding extendRecord tableauOf
 extend-copy t e n h =
     let T = tableauOf t in
-    same-record (widen n T) T (same-alike (widen n T) T (unfold widen in omega arith) (unfold widen in omega (arith, admitted-proper t e .narrow)) (alike-widen n T))
+    let same = same-alike (widen n T) T (unfold widen in omega arith) (unfold widen in omega (arith, admitted-proper t e .narrow)) (alike-widen n T) in
+    same-record (widen n T) T same
     ∙ sym (admitted-tableaux t e)
 
 -- so records of one width that send every string alike are the same
@@ -146,8 +166,9 @@ small : (t u : List ℕ) → tableauQuestions t ≡ Done → tableauQuestions u 
 unfolding qubits
 small = narrow
 
-widest : (t u : List ℕ) → largerWidth t u ≡ max (widthOf t) (largerWidth t u)
-widest t u = omega arith
+widening : (b : List ℕ) (n room : ℕ) → tableauQuestions b ≡ Done → n ≤ 128 → n ≡ max (widthOf b) n → recordLength n ≤ room → extendAnswer b n room ≡ Done
+unfolding extendAnswer extendQuestions
+widening b n room e h w l = done-room _ _ room (done-both _ _ e (sym (width-narrow h))) (subst (λ (m : ℕ). recordLength m ≤ room) w l)
 
 yes-told : (q : Outcome) (b : Bool) → flagAnswer q b ≡ Yes → (q ≡ Done) × (b ≡ true)
 unfolding flagAnswer
@@ -156,7 +177,7 @@ yes-told Done false e = (refl, cc)
 yes-told (Refused x) b e = (cc, cc)
 
 pub validity-sentence : ValiditySentence
-unfolding flagAnswer applyRecord productRecord applyAnswer applyQuestions mulQuestions stringsQuestions extendAnswer extendQuestions
+unfolding flagAnswer applyRecord productRecord applyAnswer applyQuestions mulQuestions stringsQuestions
 validity-sentence = record {
   products = valid-iff-multiplicative;
   alike = λ t u et eu vt vu. alike-iff-same-bytes t u et eu;
@@ -168,5 +189,6 @@ validity-sentence = record {
   multiplied = λ p q. strings-admitted _;
   sends = λ t s et es room h. done-room _ _ room (done-both _ _ et es) h;
   multiplies = λ p q ep eq room h. done-room _ _ room (done-both _ _ ep eq) h;
-  widens = λ t u et eu room h. done-room _ _ room (done-both _ _ et (sym (width-narrow (small t u et eu)))) (subst (λ (w : ℕ). recordLength w ≤ room) (widest t u) h);
+  widens = λ t u et eu room h. let n : largerWidth t u ≤ 128 = small t u et eu in
+      (widening t (largerWidth t u) room et n (omega arith) h, widening u (largerWidth t u) room eu n (omega arith) h);
 }

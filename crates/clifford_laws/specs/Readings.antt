@@ -87,12 +87,12 @@ readings =
 
 -- A tableau that is not valid, two strings p and q, their product sent through it, and the product of their images, with the places
 -- that `mul` tells of it.
-abbrev pub invalid : (t p q sent : List ℕ) (places : ℕ) (product : List ℕ) → List Reading → List Reading
-invalid t p q sent places product rest =
+abbrev pub invalid : (t p q sent : List ℕ) (places : ℕ) (product : List ℕ) → List Reading
+invalid t p q sent places product =
     reading (valid t) (0 ∷ 0 ∷ []) ∷
     reading (applied t (productRecord p q)) (0 ∷ 0 ∷ sent) ∷
     reading (stringsMultiplied (applyRecord t p) (applyRecord t q)) (0 ∷ places ∷ product) ∷
-    rest
+    []
 
 abbrev pub x0 : List ℕ
 x0 = stringBytes 0 (1 ∷ [])
@@ -103,14 +103,20 @@ z0 = stringBytes 0 (2 ∷ [])
 abbrev pub x1 : List ℕ
 x1 = stringBytes 0 (0 ∷ 1 ∷ [])
 
--- Each is the identity with one image replaced, so that one part of the rule of validity is broken and all else holds.
+-- The identity with one image replaced, so that one part of the rule of validity is broken and all else holds: X0 to +i X0, a phase
+-- that is not real; Z0 to X0, which commutes with the image of X0; X1 to Z0 X1, which does not commute with that of X0.
+abbrev pub phaseBroken : List ℕ
+phaseBroken = setXRecord (identityRecord 1) 0 (stringBytes 2 (1 ∷ []))
+
+abbrev pub qubitBroken : List ℕ
+qubitBroken = setZRecord (identityRecord 1) 0 x0
+
+abbrev pub pairBroken : List ℕ
+pairBroken = setXRecord (identityRecord 2) 1 (stringBytes 0 (2 ∷ 1 ∷ []))
+
 unfoldable pub invalidReadings : List Reading
 invalidReadings =
-    -- X to +iX, a phase that is not real: X0·X0 is sent to 1, the product of the images is −1
-    invalid (setXRecord (identityRecord 1) 0 (stringBytes 2 (1 ∷ []))) x0 x0 (stringBytes 0 []) 1 (stringBytes 1 [])
-    -- Z to X, which commutes with X's image: Z0·X0 is sent to −1, the product of the images is 1
-    (invalid (setZRecord (identityRecord 1) 0 x0) z0 x0 (stringBytes 1 []) 1 (stringBytes 0 [])
-    -- X1 to Z0 X1, which does not commute with X0's image: X1·X0 is sent to −i Y0 X1, the product of the images is +i Y0 X1
-    (invalid (setXRecord (identityRecord 2) 1 (stringBytes 0 (2 ∷ 1 ∷ []))) x1 x0 (stringBytes 3 (3 ∷ 1 ∷ [])) 2 (stringBytes 2 (3 ∷ 1 ∷ []))
-    -- the same in rising order, the order of `apply`, which shows nothing: both are −i Y0 X1
-    (invalid (setXRecord (identityRecord 2) 1 (stringBytes 0 (2 ∷ 1 ∷ []))) x0 x1 (stringBytes 3 (3 ∷ 1 ∷ [])) 2 (stringBytes 3 (3 ∷ 1 ∷ [])) [])))
+    invalid phaseBroken x0 x0 (stringBytes 0 []) 1 (stringBytes 1 [])  -- +1 and −1
+    ++ invalid qubitBroken z0 x0 (stringBytes 1 []) 1 (stringBytes 0 [])  -- −1 and +1
+    ++ invalid pairBroken x1 x0 (stringBytes 3 (3 ∷ 1 ∷ [])) 2 (stringBytes 2 (3 ∷ 1 ∷ []))  -- −i Y0 X1 and +i Y0 X1
+    ++ invalid pairBroken x0 x1 (stringBytes 3 (3 ∷ 1 ∷ [])) 2 (stringBytes 3 (3 ∷ 1 ∷ []))  -- rising, as `apply` goes: the same

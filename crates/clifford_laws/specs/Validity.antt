@@ -59,5 +59,5 @@ pub record ValiditySentence : Type 0 where
       → applyAnswer t s room ≡ Done
   pub multiplies : (p q : List ℕ) → stringQuestions p ≡ Done → stringQuestions q ≡ Done → (room : ℕ) → stringLength ≤ room
       → mulQuestions p q room ≡ Done
-  pub widens : (t u : List ℕ) → tableauQuestions t ≡ Done → tableauQuestions u ≡ Done → (room : ℕ)
-      → recordLength (largerWidth t u) ≤ room → extendAnswer t (largerWidth t u) room ≡ Done
+  pub widens : (t u : List ℕ) → tableauQuestions t ≡ Done → tableauQuestions u ≡ Done → (room : ℕ) → recordLength (largerWidth t u) ≤ room
+      → (extendAnswer t (largerWidth t u) room ≡ Done) × (extendAnswer u (largerWidth t u) room ≡ Done)

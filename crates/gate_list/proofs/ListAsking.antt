@@ -1,6 +1,6 @@
 -- A list's questions one by one: what the tests of the code say of each.
 use mathlib.Core.Path.{_≡_, refl, sym, ap, ap₂, _∙_}
-use mathlib.Core.Bool.{Bool, true, false, cond, not, _&&_, _||_}
+use mathlib.Core.Bool.{Bool, true, false, cond, not, _&&_, _||_, and-false}
 use mathlib.Core.List.{List}
 use Prim.Native.Nat.{ℕ, _+_, _*_, _/_, _%_, _<_, _≤_}
 use native.Mathlib.Omega.{arith}
@@ -63,10 +63,6 @@ module _ (l : List ℕ) where
   pub size-short : length l < 6 → Refused ListLength ≡ sizeQuestion l
   unfolding sizeQuestion
   size-short h = asked-no ListLength (sizes refl (lt-leb _ _ h) refl (and-false (eqb (length l % 6) 0)))
-    where
-      and-false : (a : Bool) → (a && false) ≡ false
-      and-false true = refl
-      and-false false = refl
 
   pub size-long : length l % 6 ≡ 0 → 6 ≤ length l → 24576 < length l → Refused ListLength ≡ sizeQuestion l
   unfolding sizeQuestion
