@@ -100,7 +100,7 @@ module _ {m : Made} {a b : List ℕ} {w r : ℕ} {s k out : List ℕ} (o : Makes
 
   module _ {q : ℕ} (eq : q ≡ row_qubit w r) where
     below : q < w
-    below = qubit-below w r eq o.row.own_val
+    below = qubit-below w r eq o.row.own
 
     pub widened_letter : m ≡ Widened → AppliesLetter a k q
     widened_letter e = record {
@@ -124,7 +124,7 @@ module _ {m : Made} {a b : List ℕ} {w r : ℕ} {s k out : List ℕ} (o : Makes
       widened_made e ek =
           held ek
           (ap₂ (image_of (tableau_of a)) eq (letter_of-row w r el)
-          ∙ sym (row_made (widen w (tableau_of a)) (image_of (tableau_of a)) (λ q. refl) (λ q. refl) w r (width_widened (tableau_of a) w (omega (arith, (as_widened o.row.makes e).wide, width_of_lem a))) o.row.own_val)
+          ∙ sym (row_made (widen w (tableau_of a)) (image_of (tableau_of a)) (λ q. refl) (λ q. refl) w r (width_widened (tableau_of a) w (omega (arith, (as_widened o.row.makes e).wide, width_of_lem a))) o.row.own)
           ∙ ap (λ x. row_of (made_tableau x a b w) r) (sym e))
 
       abbrev image : PauliString
@@ -164,7 +164,7 @@ module _ {m : Made} {a b : List ℕ} {w r : ℕ} {s k out : List ℕ} (o : Makes
             ∙ ap₂ (λ (j : ℕ) (x : PauliString). row_written j x out) letters_k
             (ap (apply A) (encoded_row w image long_s es_w image_in_lem ∙ ap₂ (image_of B) eq (letter_of-row w r el))
             ∙ sym (row_made (compose A B) (λ q l. apply A (image_of B q l)) (row-compose A B of_x) (row-compose A B of_z) w r
-            (width-compose A B ∙ ap₂ max (width_of_lem a) (width_of_lem b) ∙ sym c.wide) o.row.own_val)
+            (width-compose A B ∙ ap₂ max (width_of_lem a) (width_of_lem b) ∙ sym c.wide) o.row.own)
             ∙ ap (λ x. row_of (made_tableau x a b w) r) (sym e))
 
       pub pauli_here : m ≡ OfPauli → PauliRow a q l k
@@ -179,7 +179,7 @@ module _ {m : Made} {a b : List ℕ} {w r : ℕ} {s k out : List ℕ} (o : Makes
       unfolding made_tableau
       pauli_made e ek =
           held ek
-          (ap (conjugated (string_of a)) (ap₂ single (letter_of-row w r el) eq) ∙ sym (row_pauli (string_of a) w r (as_pauli o.row.makes e).wide.is o.row.own_val)
+          (ap (conjugated (string_of a)) (ap₂ single (letter_of-row w r el) eq) ∙ sym (row_pauli (string_of a) w r (as_pauli o.row.makes e).wide.is o.row.own)
           ∙ ap (λ x. row_of (made_tableau x a b w) r) (sym e))
 
       module _ {g p v : ℕ} (e : m ≡ OfGate g p v) where
@@ -203,12 +203,12 @@ module _ {m : Made} {a b : List ℕ} {w r : ℕ} {s k out : List ℕ} (o : Makes
           gate_made ek =
               held ek
               (im.string ∙ ap₂ (image_of (gate_tableau g p v)) eq (letter_of-row w r el)
-              ∙ sym (row_made (widen w (gate_tableau g p v)) (image_of (gate_tableau g p v)) (λ q. refl) (λ q. refl) w r (width_widened (gate_tableau g p v) w (omega (arith, i.wide, gate-width g p v))) o.row.own_val)
+              ∙ sym (row_made (widen w (gate_tableau g p v)) (image_of (gate_tableau g p v)) (λ q. refl) (λ q. refl) w r (width_widened (gate_tableau g p v) w (omega (arith, i.wide, gate-width g p v))) o.row.own)
               ∙ ap (λ x. row_of (made_tableau x a b w) r) (sym e))
 
   pub inverse_here : m ≡ Inverse → InvertsRow a w r s k
   inverse_here e = record {
-    row = record { old = record { tableau = (as_inverse o.row.makes e).tableau; own = omega (arith, (as_inverse o.row.makes e).wide, o.row.own_val) }; wide = (as_inverse o.row.makes e).wide };
+    row = record { old = record { tableau = (as_inverse o.row.makes e).tableau; own = omega (arith, (as_inverse o.row.makes e).wide, o.row.own) }; wide = (as_inverse o.row.makes e).wide };
     source = o.source;
     work = o.work;
   }
@@ -223,7 +223,7 @@ module _ {m : Made} {a b : List ℕ} {w r : ℕ} {s k out : List ℕ} (o : Makes
     made_finished = put_room w row ek o.row.makes.narrow o.row.room
 
     pub made_put : {e' : List ℕ} → e' ≡ row_written (letters_in k') (string_in k') out → e' ≡ row_written w row out
-    made_put ee = put_row w out row ek (made_within m a b w r o.row.makes o.row.own_val) ee
+    made_put ee = put_row w out row ek (made_within m a b w r o.row.makes o.row.own) ee
 
 pub ruleset made_rows = (
   widened_letter,

@@ -17,7 +17,7 @@ use pauli::questions::{and_then, check_qubit};
 use pauli::refusal::{Outcome, Refusal, Reply, refusal_reply};
 
 // A gate, no gate, or the refusal.
-#[derive(Drop)]
+#[derive(Clone, Copy)]
 pub enum GateAnswer {
     Named(u8),
     Unnamed,

@@ -74,7 +74,7 @@ const INVERSES: [u8; 38] = [
 ];
 
 // A sign, a letter on a qubit, and one more letter on a qubit.
-#[derive(Drop)]
+#[derive(Clone, Copy)]
 pub(crate) struct RowImage {
     sign: u8,
     first: u8,

@@ -75,7 +75,7 @@ fn check_codes(row: &[u8], at: usize, largest: u8) -> Outcome
 }
 
 // What question 3 comes to in a row, and whether its weight is true.
-#[derive(Drop)]
+#[derive(Clone, Copy)]
 pub(crate) struct RowCheck {
     pub(crate) codes: Outcome,
     pub(crate) weighed: bool,

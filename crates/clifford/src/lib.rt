@@ -1,5 +1,7 @@
 // Clifford tableaux as byte records: the images of X and Z on each qubit, how they act on strings, their composition and their inverses.
 // Every public function is total: any bytes of any length get an answer or a numbered refusal.
+#![tactic(auto)]
+
 mod applying;
 pub mod clifford;
 pub mod clifford_rep;

@@ -17,7 +17,7 @@ use pauli::refusal::Outcome;
 
 // Which tableau is made from the bytes a and b: the tableau a widened, a composed with b, the inverse of a, the tableau of the
 // string a, or that of a gate, widened, which needs no bytes.
-#[derive(Drop)]
+#[derive(Clone, Copy)]
 pub(crate) enum Made {
     Widened,
     Composite,

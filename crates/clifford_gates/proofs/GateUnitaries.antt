@@ -159,7 +159,7 @@ two_qubit_circuits_lem =
     first_entry : Blocks → Blocks → Gaussian
     first_entry n m = m.a.a
 
--- U-as-P and P'·U are the same
+-- U·P and P'·U are the same
 abbrev carries : Blocks → Blocks → Blocks → Bool
 carries u p image = same_blocks (block_product u p) (block_product image u)
 

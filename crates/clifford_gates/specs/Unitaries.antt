@@ -204,12 +204,12 @@ two_qubit_unitaries =
     controlled Y ∷  -- CY
     controlled Z ∷  -- CZ
     exchange PlusOne ∷  -- SWAP
-    root_of MinusI X ∷  -- SXX = 1 - i-XX
-    root_of PlusI X ∷  -- SXXdg = 1 + i-XX
-    root_of MinusI Y ∷  -- SYY = 1 - i-YY
-    root_of PlusI Y ∷  -- SYYdg = 1 + i-YY
-    root_of MinusI Z ∷  -- SZZ = 1 - i-ZZ
-    root_of PlusI Z ∷  -- SZZdg = 1 + i-ZZ
+    root_of MinusI X ∷  -- SXX = 1 - i·XX
+    root_of PlusI X ∷  -- SXXdg = 1 + i·XX
+    root_of MinusI Y ∷  -- SYY = 1 - i·YY
+    root_of PlusI Y ∷  -- SYYdg = 1 + i·YY
+    root_of MinusI Z ∷  -- SZZ = 1 - i·ZZ
+    root_of PlusI Z ∷  -- SZZdg = 1 + i·ZZ
     exchange PlusI ∷  -- ISWAP
     exchange MinusI ∷  -- ISWAPdg
     g_gate ∷  -- G

@@ -93,7 +93,7 @@ module _ (t : Tableau) (R : PauliString → PauliString → Type 0) (f : Follows
   unfolding apply
   follows s h = rw (cut_all s h) at (follows_cut qubits (le_refl qubits) s)
 
--- U-as-P = P'·U for every string P, and P' is `apply` of it
+-- U·P = P'·U for every string P, and P' is `apply` of it
 pub carries_strings : (n : Numbers) (t : Tableau) (u : Vector n → Vector n) → Carries n t u → (s : PauliString) → Within qubits s
     → (v : Vector n) → u (act n s v) ≡ act n (apply t s) (u v)
 carries_strings n t u c = follows t (λ s a. (v : Vector n) → u (act n s v) ≡ act n a (u v)) (record {

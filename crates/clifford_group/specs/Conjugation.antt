@@ -31,7 +31,7 @@ SendsProduct t s u = apply t (mul s u) ≡ mul (apply t s) (apply t u)
 abbrev pub Multiplicative : Tableau → Type 0
 Multiplicative t = (s u : PauliString) → Within qubits s → Within qubits u → SendsProduct t s u
 
--- The papers' conjugation. An operator U has U-as-X = x'·U and U-as-Z = z'·U on each qubit, where x' and z' are the tableau's rows, or X and
+-- The papers' conjugation. An operator U has U·X = x'·U and U·Z = z'·U on each qubit, where x' and z' are the tableau's rows, or X and
 -- Z themselves from the width on; for a unitary U these say U·X·U† = x' and U·Z·U† = z'. Of U's being linear, phases are enough.
 pub record Carries (n : Numbers) (t : Tableau) (u : Vector n → Vector n) : Type 0 where
   pub phases : (p : Phase) (v : Vector n) → u (times_vector n p v) ≡ times_vector n p (u v)

@@ -1,1 +1,2 @@
 // The mathematics of Clifford tableaux: definitions in specs/, laws in proofs/. No code runs from here.
+#![tactic(auto)]

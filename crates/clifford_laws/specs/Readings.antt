@@ -65,7 +65,7 @@ reading q a = record { asked = q; answer = a }
 unfoldable pub readings : List Reading
 readings =
     reading (phases_multiplied 2 2) (0 ∷ 1 ∷ []) ∷  -- i·i = −1
-    reading (letters_multiplied 1 2) (0 ∷ 15 ∷ []) ∷  -- X-Z = −iY, phase 3 and letter 3
+    reading (letters_multiplied 1 2) (0 ∷ 15 ∷ []) ∷  -- X·Z = −iY, phase 3 and letter 3
     reading (applied (gate_record 4 0 0) (string_bytes 0 (3 ∷ []))) (0 ∷ 0 ∷ string_bytes 1 (3 ∷ [])) ∷  -- `h` on Y0: −Y0
     reading (applied (gate_record 24 0 1) (string_bytes 0 (1 ∷ 2 ∷ []))) (0 ∷ 0 ∷ string_bytes 1 (3 ∷ 3 ∷ [])) ∷  -- `cx(0,1)` on X0 Z1: −Y0 Y1
     reading (inverted (gate_record 14 0 0)) (0 ∷ 0 ∷ images_record (minus Y) (plus Z)) ∷  -- inverse of `sz`: X to −Y, Z to Z

@@ -1,30 +1,30 @@
 // Reads a gate list from standard input and writes the tableau of its run, or its refusal. No contract can say what is read or
 // written: what is handed to `write` is said by the contracts of the functions on slices.
+#![tactic(auto)]
+
 ghost use Rattle.std.specs.Prelude.{length, take};
 ghost use Rattle.clifford_run.specs.Inside.Program.{Buffers, InputRead, ReportRoom, ReportWritten, Owed};
 
 use gate_list::gate_list::report;
-use libc::{STDERR_FILENO, STDIN_FILENO, STDOUT_FILENO};
 use pauli::refusal::CountAnswer;
+use std::io::{Read, Write};
 
 // How many bytes were read.
-#[derive(Drop)]
+#[derive(Clone, Copy)]
 enum Input {
     Read(usize),
     Failed,
 }
 
 // Reads until the input ends or the buffer is full.
-fn read_input(input: &mut [u8]) -> Input
+fn read_input<R: Read>(from: &mut R, input: &mut [u8]) -> Input
     ensures { InputRead input.old input.new result }
 {
     let mut done = 0;
     while done < input.len() {
-        let got = libc::read(STDIN_FILENO, &mut input[done..]);
-        if got < 0 {
+        let Ok(more) = from.read(&mut input[done..]) else {
             return Input::Failed;
-        }
-        let more = io::count(got, &input[done..]);
+        };
         if more == 0 {
             return Input::Read(done);
         }
@@ -45,36 +45,53 @@ fn make_report(list: &[u8], text: &mut [u8]) -> usize
     }
 }
 
+// Whether the whole text was written.
+fn write_whole<W: Write>(to: &mut W, text: &[u8]) -> bool {
+    to.write_all(text).is_ok()
+}
+
 // Writes the text that is owed to the first n bytes of the input.
-fn write_report(input: &[u8], n: usize, text: &[u8])
+fn write_report<W: Write, E: Write>(
+    output: &mut W,
+    errors: &mut E,
+    input: &[u8],
+    n: usize,
+    text: &[u8],
+)
     requires { Owed (length input.now) (take n input.now) text.now }
 {
-    if !io::write_all(STDOUT_FILENO, text) {
-        io::write_all(
-            STDERR_FILENO,
-            b"clifford_run: standard output cannot be written\n",
-        );
+    if !write_whole(output, text) {
+        write_whole(errors, b"clifford_run: standard output cannot be written\n");
     }
 }
 
-fn answer_input(input: &mut [u8], text: &mut [u8])
+fn answer_input<R: Read, W: Write, E: Write>(
+    from: &mut R,
+    output: &mut W,
+    errors: &mut E,
+    input: &mut [u8],
+    text: &mut [u8],
+)
     requires { Buffers input.old text.old }
 {
-    let read = read_input(input);
+    let read = read_input(from, input);
     let Input::Read(n) = read else {
-        io::write_all(
-            STDERR_FILENO,
-            b"clifford_run: standard input cannot be read\n",
-        );
+        write_whole(errors, b"clifford_run: standard input cannot be read\n");
         return;
     };
     let length = make_report(&input[..n], text);
-    write_report(input, n, &text[..length]);
+    write_report(output, errors, input, n, &text[..length]);
 }
 
 // One byte more than the longest list has, so that a longer input is seen to be one; and room for any report (`report-most`).
-fn main() {
+fn main(rt: HostRuntime) {
     let mut input = [0u8; 24577];
     let mut text = [0u8; 138557];
-    answer_input(&mut input, &mut text);
+    answer_input(
+        &mut rt.stdin(),
+        &mut rt.stdout(),
+        &mut rt.stderr(),
+        &mut input,
+        &mut text,
+    );
 }

@@ -75,7 +75,7 @@ chain_answer {l} {met} {i} h zero e w = elim (ℕ_discrete i 0) [
 ]
 chain_answer {l} {met} {i} h (suc n) e w = elim (ℕ_discrete i 0) [
   | yes z ↦ subst (Answer l) (sym (chain_end l met (suc n) i z)) (ended h (subst (Walk l met) z w))
-  | no z ↦ by z (λ e w. chain_answer h n e w) (is_met met i) refl
+  | no z ↦ by z (λ e w. chain_answer {met = i ∷ met} h n e w) (is_met met i) refl
 ]
   where
     by : (i ≡ 0 → ⊥) → (n ≡ left l (i ∷ met) → Walk l (i ∷ met) (next_of l i) → Answer l (chain_questions l (i ∷ met) n (next_of l i)))

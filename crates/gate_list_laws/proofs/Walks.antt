@@ -111,7 +111,7 @@ pub record Ended (l : List ℕ) : Type 0 where
 
 pub chain_walked : {l met xs : List ℕ} {i : ℕ} → RightHead l → Walk l met i → Chain l i xs → All (RightRecord l) xs → Ended l
 chain_walked {met = met} h w ends All.none = record { met = met; walk = w }
-chain_walked h w (links z o c) (All.more r rs) = chain_walked h (meets w z (chain_unmet h w (links z o c)) r) c rs
+chain_walked {met = met} h w (links {i = i} z o c) (All.more r rs) = chain_walked {met = i ∷ met} h (meets w z (chain_unmet h w (links z o c)) r) c rs
 
 pub record Forward (l : List ℕ) : Type 0 where
   pub chain : List ℕ

@@ -1,4 +1,6 @@
 // A gate on a tableau record, in place: its own tableau composed on the left, after all questions. Nothing of it is PECOS's.
+#![tactic(auto)]
+
 ghost use Rattle.std.specs.Prelude.{◌≡◌};
 ghost use Rattle.gate_play.specs.PlayQuestions.{play_questions};
 ghost use Rattle.gate_play.specs.Promises.{Played};

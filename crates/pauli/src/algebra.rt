@@ -19,7 +19,7 @@ use crate::rows::{copy, larger, letter_turns, turned_phase};
 use crate::{QUBITS, STRING_LENGTH};
 
 // A phase and a letter.
-#[derive(Drop)]
+#[derive(Clone, Copy)]
 pub struct PhasedLetter(pub u8, pub u8);
 
 // The product of two letters: I is neutral, equal letters give I, XY = iZ, YZ = iX, ZX = iY, and -i in the reverse orders.
@@ -73,7 +73,7 @@ pub fn letter_product(a: u8, b: u8) -> LetterAnswer
 }
 
 // What one pass over two strings sees: the largest byte, and the places that their product takes.
-#[derive(Drop)]
+#[derive(Clone, Copy)]
 struct Sight {
     largest: u8,
     places: u8,

@@ -1,5 +1,7 @@
 // Pauli strings as byte records: phases, letters, strings, their products and their commutation.
 // Every public function is total: any bytes of any length get an answer or a numbered refusal.
+#![tactic(auto)]
+
 pub mod algebra;
 mod dense_reader;
 mod entries;

@@ -4,7 +4,7 @@ ghost use Rattle.pauli.specs.Answers.{refusal_number, refusal_detail, refusal_re
 
 // A question that was answered no, with the values that its answer names: of a list's step its record, with the number of the gate's
 // own question.
-#[derive(Drop)]
+#[derive(Clone, Copy)]
 pub enum Refusal {
     Width,
     Length,
@@ -32,26 +32,26 @@ pub enum Refusal {
 }
 
 // What questions come to; also the answer of a function that writes.
-#[derive(Drop)]
+#[derive(Clone, Copy)]
 pub enum Outcome {
     Done,
     Refused(Refusal),
 }
 
 // The answer of the product of strings: the places that it took.
-#[derive(Drop)]
+#[derive(Clone, Copy)]
 pub enum Product {
     Multiplied { places: usize },
     NoProduct(Refusal),
 }
 
-#[derive(Drop)]
+#[derive(Clone, Copy)]
 pub enum ByteAnswer {
     Byte(u8),
     NoByte(Refusal),
 }
 
-#[derive(Drop)]
+#[derive(Clone, Copy)]
 pub enum Flag {
     Yes,
     No,
@@ -59,14 +59,14 @@ pub enum Flag {
 }
 
 // A count, a length or an offset.
-#[derive(Drop)]
+#[derive(Clone, Copy)]
 pub enum CountAnswer {
     Count(usize),
     NoCount(Refusal),
 }
 
 // The answer of the product of two letters.
-#[derive(Drop)]
+#[derive(Clone, Copy)]
 pub enum LetterAnswer {
     Phased { phase: u8, letter: u8 },
     NoLetter(Refusal),
@@ -74,7 +74,7 @@ pub enum LetterAnswer {
 
 // Number 0 and the answer's value, or a refusal's number and its detail.
 #[repr(C)]
-#[derive(Drop)]
+#[derive(Clone, Copy)]
 pub struct Reply {
     pub number: u64,
     pub value: u64,

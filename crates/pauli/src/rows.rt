@@ -186,7 +186,7 @@ fn largest(s: &[u8]) -> u8
 }
 
 // What one pass over a row of letters sees.
-#[derive(Drop)]
+#[derive(Clone, Copy)]
 pub struct LetterScan {
     pub largest: u8,
     pub letters: u8,

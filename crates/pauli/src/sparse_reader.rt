@@ -14,7 +14,7 @@ use crate::text::{
 };
 
 // The qubit that an index names, or the offset of an index that is too high for one.
-#[derive(Drop)]
+#[derive(Clone, Copy)]
 pub(crate) enum IndexAnswer {
     At(usize),
     TooHigh { offset: usize },
@@ -22,7 +22,7 @@ pub(crate) enum IndexAnswer {
 }
 
 // One letter and its qubit, or the offset of an index too high; and the offset after them.
-#[derive(Drop)]
+#[derive(Clone, Copy)]
 pub(crate) enum EntryAnswer {
     Entry {
         letter: u8,

@@ -122,7 +122,7 @@ pub(crate) fn byte_at(t: &[u8], k: usize) -> u8
     if k < t.len() { t[k] } else { 0 }
 }
 
-#[derive(Drop)]
+#[derive(Clone, Copy)]
 pub(crate) struct Prefix {
     pub phase: u8,
     pub length: usize,
@@ -168,7 +168,7 @@ fn read_prefix(a: u8, b: u8) -> Prefix
     }
 }
 
-#[derive(Drop)]
+#[derive(Clone, Copy)]
 pub(crate) struct Head {
     pub phase: u8,
     pub at: usize,
@@ -216,7 +216,7 @@ fn digit_value(c: u8) -> u64
     (c - 48) as u64
 }
 
-#[derive(Drop)]
+#[derive(Clone, Copy)]
 pub(crate) enum Numeral {
     Value(u64),
     NotNumber,

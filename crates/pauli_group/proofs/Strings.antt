@@ -1,4 +1,4 @@
--- Pauli strings are a group under `mul`: associative, the identity neutral, phases central, P-as-Q = (-1)^n Q-as-P for the number n of
+-- Pauli strings are a group under `mul`: associative, the identity neutral, phases central, P·Q = (-1)^n Q·P for the number n of
 -- places at which they anticommute.
 use mathlib.Core.Path.{◌≡◌, refl, sym, ap, ap₂, ◌∙◌, fun_ext}
 use mathlib.Core.Bool.{true, false, cond, not}
@@ -86,7 +86,7 @@ rising_phase s u k low high = ap (λ x. s.phase · u.phase · x) (product_to-one
       | no l ↦ ap (λ a. letter_phase a (u.letters q)) (low q (omega arith)) ∙ I-letter_phase (u.letters q)
     ]
 
--- ---- P-as-Q = (-1)^n Q-as-P
+-- ---- P·Q = (-1)^n Q·P
 -- the places' signs, multiplied
 abbrev signs : PauliString → PauliString → Phase
 signs s t = product_to qubits (λ q. sign (anticommute (s.letters q) (t.letters q)))

@@ -1,5 +1,7 @@
 // One row of a composition, looked at before composing: X or Z on a qubit sent through the second tableau and then the first. No
 // tableau is made. Nothing of it is PECOS's.
+#![tactic(auto)]
+
 ghost use Rattle.std.specs.Prelude.{◌≡◌, ◌≤◌, max};
 ghost use Rattle.clifford_group.specs.Conjugation.{of_x, of_z};
 ghost use Rattle.clifford.specs.Layout.{width_of};

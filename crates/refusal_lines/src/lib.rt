@@ -1,5 +1,7 @@
 // The line of a refusal, for people. The wording of 14 and 15 is that of `PauliWidthError` of pauli_string.rs of PECOS:
 // Copyright 2024 The PECOS Developers, Apache License, Version 2.0.
+#![tactic(auto)]
+
 ghost use Rattle.std.specs.Prelude.{◌≡◌, length};
 ghost use Rattle.pauli.specs.TextWriting.{Stored};
 ghost use Rattle.pauli.specs.Inside.TextWriting.{TextWritten};

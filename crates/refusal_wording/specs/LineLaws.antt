@@ -1,4 +1,4 @@
--- What the line of a refusal tells, and how it is written: statements about `refusal_line`, which `refusal_line` cites.
+-- What the line of a refusal tells, and how it is written: statements about the definition `refusal_line`, which the function of that name cites.
 use Rattle.std.specs.Prelude.{ℕ, ◌<◌, ◌≤◌, ◌≡◌, true, List, length, get_or}
 use Rattle.pauli.specs.Text.{all_digits, digits_value}
 use Rattle.refusal_wording.specs.RefusalLines.{has_detail, is_width_error, refusal_line}

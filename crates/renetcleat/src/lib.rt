@@ -1,6 +1,8 @@
 // What C and other languages call: each function of the library by a name of its own. An answer is two numbers, 0 and the value or
 // the refusal's number and its detail. The one thing trusted: pointers are valid for their lengths, and a destination overlaps no
 // other buffer.
+#![tactic(auto)]
+
 ghost use Rattle.pauli.specs.Answers.{outcome_reply, product_reply, byte_reply, flag_reply, count_reply, letter_reply};
 ghost use Rattle.pauli.specs.Promises.{PhasesMultiplied, PhaseConjugated, PhaseIsReal, LettersMultiplied, PhaseOfString, LetterOfString, PlacesCounted, StringsMultiplied, FromEntries, FromSparseText, FromDenseText, FromText, SparseTextWritten};
 ghost use Rattle.clifford.specs.GateAnswers.{gate_reply};

@@ -1,4 +1,6 @@
 // Writes the lines of all refusals, as docs/REFUSALS.md lists them.
+#![tactic(auto)]
+
 use pauli::refusal::CountAnswer;
 use pauli::rows::smaller;
 use refusal_lines::refusal_line;

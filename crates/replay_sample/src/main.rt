@@ -1,5 +1,7 @@
 // Replays vectors from standard input on two made-up functions, `sum` and `say`: the shape that a
 // replay program has. Only `call`, and what it calls, is this program's own.
+#![tactic(auto)]
+
 use vectors::{Case, Outcome, Reply, Tally};
 
 // Puts all of `a` at the front of `d`.

@@ -1,5 +1,7 @@
 // Replays vectors from standard input on the functions of `pauli`, and on the lines of refusals. From `run_in` on the program is that
 // of `replay_sample`.
+#![tactic(auto)]
+
 use pauli::{algebra, pauli_string, quarter_phase, refusal};
 use refusal_lines::refusal_line;
 use vectors::{Byte, Case, Outcome, Reply, Tally};

@@ -1,5 +1,7 @@
 // Replays vectors from standard input on the functions of `clifford`, `gate_play`, `preview` and `gate_list`. From
 // `run_in` on the program is that of `replay_sample`.
+#![tactic(auto)]
+
 use clifford::{clifford as gates, clifford_rep};
 use gate_list::gate_list as lists;
 use pauli::refusal;
@@ -179,7 +181,7 @@ fn one_qubit(number: u8) -> [u8; 7] {
 }
 
 // The number of a record of width 1; bytes that are no such record, also for a false weight, have none.
-#[derive(Drop)]
+#[derive(Clone, Copy)]
 enum Numbered {
     Number(u8),
     NoRecord,

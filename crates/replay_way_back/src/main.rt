@@ -2,6 +2,8 @@
 // `identity` starts a list of the width of its first number, `mark` makes the record as it stands the one to come back to; the second
 // number of both is the width of the identity that the product of the later steps starts from. `send` sends strings through a step's
 // own tableau, and the next `send` has its answers; `back` sends strings through the record that is brought back.
+#![tactic(auto)]
+
 use clifford::layout::width;
 use clifford::{clifford_rep, questions};
 use pauli::{refusal, rows};

@@ -2,7 +2,7 @@
 ghost use Rattle.std.specs.Prelude.{◌≡◌, ◌≤◌, length};
 ghost use Rattle.vectors.specs.Bounds.{Reached, Passed};
 
-#[derive(Drop)]
+#[derive(Clone, Copy)]
 pub enum Number {
     Of(u64),
     Malformed,
@@ -49,7 +49,7 @@ pub fn decimal(s: &[u8]) -> Number {
 }
 
 // A number as a byte.
-#[derive(Drop)]
+#[derive(Clone, Copy)]
 pub enum Byte {
     Of(u8),
     Wide,
@@ -63,7 +63,7 @@ pub fn narrow(n: u64) -> Byte {
 }
 
 // What a field of bytes holds: how many, 0 where it is malformed.
-#[derive(Drop)]
+#[derive(Clone, Copy)]
 pub struct Decoded {
     pub ok: bool,
     pub len: usize,
@@ -103,7 +103,7 @@ fn digits_end(s: &[u8], at: usize) -> usize
 }
 
 // How often a pair stands, 0 where that is malformed, and where the next pair starts.
-#[derive(Drop)]
+#[derive(Clone, Copy)]
 struct Repeat {
     times: u64,
     next: usize,
@@ -147,7 +147,7 @@ fn repeat_at(s: &[u8], at: usize) -> Repeat
 }
 
 // A pair of hex digits with its count, 0 where either is malformed.
-#[derive(Drop)]
+#[derive(Clone, Copy)]
 struct Run {
     byte: u8,
     times: u64,

@@ -19,6 +19,8 @@
 // as before.
 //
 // No function has a `requires`: what is not a case is answered as malformed.
+#![tactic(auto)]
+
 mod decode;
 mod reading;
 mod scan;

@@ -6,7 +6,7 @@ ghost use Rattle.vectors.specs.Inside.Cases.{Empty, Filled};
 use crate::decode::{Decoded, Number, bytes, decimal};
 use crate::scan::{field, fields};
 
-#[derive(Drop)]
+#[derive(Clone, Copy)]
 pub enum Kind {
     Case,
     Blank,
@@ -15,7 +15,7 @@ pub enum Kind {
 
 // The reply that a line expects: its number and its value, or, for `!`, a refusal of bad syntax,
 // which is number 9, 10 or 11, whatever its value.
-#[derive(Drop)]
+#[derive(Clone, Copy)]
 pub enum Expected {
     Exactly(u64, u64),
     BadSyntax,
@@ -23,7 +23,7 @@ pub enum Expected {
 
 // What a line says. `a_len` to `e_len` count the bytes at the front of the four buffers: the two
 // arguments, the destination before the call and after it. All are 0 in a line that is no case.
-#[derive(Drop)]
+#[derive(Clone, Copy)]
 pub struct Case {
     pub kind: Kind,
     pub a_len: usize,
@@ -118,7 +118,7 @@ fn after_field(line: &[u8]) -> usize {
     }
 }
 
-#[derive(Drop)]
+#[derive(Clone, Copy)]
 struct Numbers {
     ok: bool,
     n1: u64,
@@ -151,7 +151,7 @@ fn read_numbers(line: &[u8]) -> Numbers {
 }
 
 // What stands for the reply.
-#[derive(Drop)]
+#[derive(Clone, Copy)]
 enum Answer {
     Of(Expected),
     Malformed,
@@ -177,7 +177,7 @@ fn field_bytes(line: &[u8], k: usize, buf: &mut [u8]) -> Decoded
     bytes(field(line, k), buf)
 }
 
-#[derive(Drop)]
+#[derive(Clone, Copy)]
 struct Lengths {
     ok: bool,
     a: usize,

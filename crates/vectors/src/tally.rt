@@ -4,16 +4,17 @@ ghost use Rattle.vectors.specs.Verdicts.{Told, Judged, Compared};
 ghost use Rattle.vectors.specs.Tallies.{next, Tallied};
 
 use crate::reading::{Case, Expected, Kind};
-use libc::STDOUT_FILENO;
+
+const STDOUT_FILENO: i32 = 1;
 
 // What a function under test answers, or that no function has the name and takes the arguments.
-#[derive(Drop)]
+#[derive(Clone, Copy)]
 pub enum Reply {
     Of(u64, u64),
     Unknown,
 }
 
-#[derive(Drop)]
+#[derive(Clone, Copy)]
 pub enum Outcome {
     Blank,
     Match,
@@ -78,7 +79,7 @@ fn more(n: u64) -> u64
 }
 
 // Lines, cases and mismatches so far. Each line that is not blank is a case.
-#[derive(Drop)]
+#[derive(Clone, Copy)]
 pub struct Tally {
     pub lines: u64,
     pub cases: u64,

@@ -7,5 +7,5 @@ pub put_detail_spec : {M : Type 1} → statement M
 put_detail_spec =
     tie.close
     (tie.spec
-    (λ c κs. search details) (λ c. search details) (λ c. search details) (λ c κs. search details) (λ c κs. search details)
-    (λ c. search details) (λ c. search details))
+    (λ c. search details) (λ c. search details) (λ c. search details) (λ c. search details) (λ c. search details)
+    (λ c. search details))

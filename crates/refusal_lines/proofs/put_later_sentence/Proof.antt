@@ -10,5 +10,5 @@ unfolding sentences sentence_among sentence_from
 put_later_sentence_spec =
     tie.close
     (tie.spec
-    (λ c. search sentence_arms) (λ c κs. search sentence_arms) (λ c. search sentence_arms) (λ c κs. search sentence_arms)
-    (λ c. search sentence_arms) (λ c. search sentence_arms) (λ c. search sentence_arms) (λ c. search sentence_arms))
+    (λ c. search sentence_arms) (λ c. search sentence_arms) (λ c. search sentence_arms) (λ c. search sentence_arms)
+    (λ c. search sentence_arms) (λ c. search sentence_arms))

@@ -10,10 +10,9 @@ unfolding sentences sentence_among sentence_from
 put_text_sentence_spec =
     tie.close
     (tie.spec
-    (λ c. search sentence_arms) (λ c κs. search sentence_arms) (λ c. search sentence_arms) (λ c κs. search sentence_arms)
-    (λ c. search sentence_arms) (λ c κs. search sentence_arms) (λ c. search sentence_arms) (λ c κs. search sentence_arms)
-    (λ c. search sentence_arms) (λ c κs. search sentence_arms) (λ c. search sentence_arms) (λ c κs. search sentence_arms)
-    (λ c κs. search sentence_arms) (λ c. search sentence_arms) (λ c. search sentence_arms) (λ c. search sentence_arms)
     (λ c. search sentence_arms) (λ c. search sentence_arms) (λ c. search sentence_arms) (λ c. search sentence_arms)
     (λ c. search sentence_arms) (λ c. search sentence_arms) (λ c. search sentence_arms) (λ c. search sentence_arms)
-    (λ c. search sentence_arms) (λ c. search sentence_arms) (λ c. search sentence_arms))
+    (λ c. search sentence_arms) (λ c. search sentence_arms) (λ c. search sentence_arms) (λ c. search sentence_arms)
+    (λ c. search sentence_arms) (λ c. search sentence_arms) (λ c. search sentence_arms) (λ c. search sentence_arms)
+    (λ c. search sentence_arms) (λ c. search sentence_arms) (λ c. search sentence_arms) (λ c. search sentence_arms)
+    (λ c. search sentence_arms))

@@ -7,5 +7,5 @@ pub put_width_error_spec : {M : Type 1} → statement M
 put_width_error_spec =
     tie.close
     (tie.spec
-    (λ c. search errors) (λ c κs. search errors) (λ c κs. search errors) (λ c. search errors) (λ c κs. search errors)
-    (λ c κs. search errors) (λ c. search errors) (λ c κs. search errors) (λ c. search errors) (λ c. search errors))
+    (λ c. search errors) (λ c. search errors) (λ c. search errors) (λ c. search errors) (λ c. search errors)
+    (λ c. search errors) (λ c. search errors))

@@ -7,5 +7,5 @@ pub put_wording_spec : {M : Type 1} → statement M
 put_wording_spec =
     tie.close
     (tie.spec
-    (λ c κs. search wordings) (λ c κs. search wordings) (λ c. search wordings) (λ c. search wordings) (λ c κs. search wordings)
-    (λ c κs. search wordings) (λ c. search wordings) (λ c. search wordings))
+    (λ c. search wordings) (λ c. search wordings) (λ c. search wordings) (λ c. search wordings) (λ c. search wordings)
+    (λ c. search wordings) (λ c. search wordings) (λ c. search wordings))

@@ -7,5 +7,4 @@ pub write_line_spec : {M : Type 1} → statement M
 write_line_spec =
     tie.close
     (tie.spec
-    (λ c κs. search lines) (λ c. search lines) (λ c κs. search lines) (λ c κs. search lines) (λ c. search lines)
-    (λ c. search lines))
+    (λ c. search lines) (λ c. search lines) (λ c. search lines) (λ c. search lines) (λ c. search lines))

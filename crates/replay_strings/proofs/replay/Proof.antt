@@ -4,10 +4,10 @@ use borrow.Author.Rules.{rules}
 use Rattle.replay_strings.proofs.replay.Statement.{statement}
 use Rattle.replay_strings.proofs.replay.Tie as tie
 
-abbrev invariant-loop : tie.invariant-loop
+abbrev invariant-loop : tie.invariant-loop-at
 invariant-loop text tally₀ at₀ tally at = Unit {0}
 
-abbrev decreases-loop : tie.decreases-loop
+abbrev decreases-loop : tie.decreases-loop-at
 decreases-loop text tally₀ at₀ tally at = length text - at
 
 pub replay_spec : {M : Type 1} → statement M

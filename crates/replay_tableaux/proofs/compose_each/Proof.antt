@@ -3,10 +3,10 @@ use Rattle.std.proofs.Common.{◌≡◌, ◌-◌, length, rules}
 use Rattle.replay_tableaux.proofs.compose_each.Statement.{statement}
 use Rattle.replay_tableaux.proofs.compose_each.Tie as tie
 
-abbrev invariant-loop : tie.invariant-loop
+abbrev invariant-loop : tie.invariant-loop-i
 invariant-loop a d₀ i₀ d i = length d ≡ length d₀
 
-abbrev decreases-loop : tie.decreases-loop
+abbrev decreases-loop : tie.decreases-loop-i
 decreases-loop a d₀ i₀ d i = length d₀ - i
 
 pub compose_each_spec : {M : Type 1} → statement M

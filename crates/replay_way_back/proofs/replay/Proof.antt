@@ -15,10 +15,10 @@ record Rooms (a b c : List ℕ) : Type 0 where
 rooms : {a b c : List ℕ} → length a ≡ 65536 → length b ≡ 65536 → length c ≡ 65536 → Rooms a b c
 rooms p q r = record { first = p; second = q; third = r }
 
-abbrev invariant-loop : tie.invariant-loop
+abbrev invariant-loop : tie.invariant-loop-at
 invariant-loop text then₀ now₀ product₀ tally₀ at₀ then now product tally at = Rooms then now product
 
-abbrev decreases-loop : tie.decreases-loop
+abbrev decreases-loop : tie.decreases-loop-at
 decreases-loop text then₀ now₀ product₀ tally₀ at₀ then now product tally at = length text - at
 
 pub replay_spec : {M : Type 1} → statement M

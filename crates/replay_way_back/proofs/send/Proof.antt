@@ -15,10 +15,10 @@ record Reached (strings d₀ d : List ℕ) (at : ℕ) : Type 0 where
 reached : {strings d₀ d : List ℕ} {at : ℕ} → length d₀ ≡ length strings → length d ≡ length d₀ → at ≤ length strings → Reached strings d₀ d at
 reached l s w = record { long = l; same = s; within = w }
 
-abbrev invariant-loop : tie.invariant-loop
+abbrev invariant-loop : tie.invariant-loop-at
 invariant-loop t strings d₀ at₀ d at = Reached strings d₀ d at
 
-abbrev decreases-loop : tie.decreases-loop
+abbrev decreases-loop : tie.decreases-loop-at
 decreases-loop t strings d₀ at₀ d at = length strings - at
 
 pub send_spec : {M : Type 1} → statement M

@@ -5,10 +5,10 @@ use Rattle.clifford.proofs.WorkRows.{Cleared}
 use Rattle.clifford.proofs.applying.clear_row.Statement.{statement}
 use Rattle.clifford.proofs.applying.clear_row.Tie as tie
 
-abbrev invariant-loop : tie.invariant-loop
+abbrev invariant-loop : tie.invariant-loop-i
 invariant-loop work₀ phase i₀ work i = Cleared (length work₀) i work
 
-abbrev decreases-loop : tie.decreases-loop
+abbrev decreases-loop : tie.decreases-loop-i
 decreases-loop work₀ phase i₀ work i = length work₀ - i
 
 pub clear_row_spec : {M : Type 1} → statement M

@@ -7,15 +7,7 @@ pub on_qubit_spec : {M : Type 1} → statement M
 on_qubit_spec =
     tie.close
     (tie.spec
-    (λ c κs. search one_qubit_answers)
-    (λ c κs. search one_qubit_answers)
-    (λ c κs. search one_qubit_answers)
-    (λ c. search one_qubit_answers)
-    (λ c. search one_qubit_answers)
-    (λ c. search one_qubit_answers)
-    (λ c. search one_qubit_answers)
-    (λ c κs. search one_qubit_answers)
-    (λ c. search one_qubit_answers)
-    (λ c. search one_qubit_answers)
-    (λ c. search one_qubit_answers)
+    (λ c κs. search one_qubit_answers) (λ c κs. search one_qubit_answers) (λ c κs. search one_qubit_answers)
+    (λ c. search one_qubit_answers) (λ c. search one_qubit_answers) (λ c κs. search one_qubit_answers)
+    (λ c. search one_qubit_answers) (λ c. search one_qubit_answers) (λ c. search one_qubit_answers)
     (λ c. search one_qubit_answers))

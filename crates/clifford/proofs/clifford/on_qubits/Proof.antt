@@ -7,15 +7,6 @@ pub on_qubits_spec : {M : Type 1} → statement M
 on_qubits_spec =
     tie.close
     (tie.spec
-    (λ c κs. search gate_answers)
-    (λ c κs. search gate_answers)
-    (λ c κs. search gate_answers)
-    (λ c. search gate_answers)
-    (λ c. search gate_answers)
-    (λ c. search gate_answers)
-    (λ c κs. search gate_answers)
-    (λ c κs. search gate_answers)
-    (λ c. search gate_answers)
-    (λ c. search gate_answers)
-    (λ c. search gate_answers)
-    (λ c. search gate_answers))
+    (λ c κs. search gate_answers) (λ c κs. search gate_answers) (λ c κs. search gate_answers) (λ c. search gate_answers)
+    (λ c κs. search gate_answers) (λ c κs. search gate_answers) (λ c. search gate_answers) (λ c. search gate_answers)
+    (λ c. search gate_answers) (λ c. search gate_answers))

@@ -7,16 +7,6 @@ pub on_width_spec : {M : Type 1} → statement M
 on_width_spec =
     tie.close
     (tie.spec
-    (λ c κs. search width_answers)
-    (λ c κs. search width_answers)
-    (λ c κs. search width_answers)
-    (λ c κs. search width_answers)
-    (λ c κs. search width_answers)
-    (λ c. search width_answers)
-    (λ c. search width_answers)
-    (λ c. search width_answers)
-    (λ c κs. search width_answers)
-    (λ c. search width_answers)
-    (λ c. search width_answers)
-    (λ c. search width_answers)
-    (λ c. search width_answers))
+    (λ c κs. search width_answers) (λ c κs. search width_answers) (λ c κs. search width_answers)
+    (λ c κs. search width_answers) (λ c κs. search width_answers) (λ c. search width_answers) (λ c κs. search width_answers)
+    (λ c. search width_answers) (λ c. search width_answers) (λ c. search width_answers) (λ c. search width_answers))

@@ -7,16 +7,7 @@ pub single_qubit_clifford_spec : {M : Type 1} → statement M
 single_qubit_clifford_spec =
     tie.close
     (tie.spec
-    (λ c κs. search one_qubit_answers)
-    (λ c κs. search one_qubit_answers)
-    (λ c κs. search one_qubit_answers)
-    (λ c. search one_qubit_answers)
-    (λ c κs. search one_qubit_answers)
-    (λ c. search one_qubit_answers)
-    (λ c. search one_qubit_answers)
-    (λ c. search one_qubit_answers)
-    (λ c κs. search one_qubit_answers)
-    (λ c. search one_qubit_answers)
-    (λ c. search one_qubit_answers)
-    (λ c. search one_qubit_answers)
-    (λ c. search one_qubit_answers))
+    (λ c κs. search one_qubit_answers) (λ c κs. search one_qubit_answers) (λ c κs. search one_qubit_answers)
+    (λ c. search one_qubit_answers) (λ c κs. search one_qubit_answers) (λ c. search one_qubit_answers)
+    (λ c κs. search one_qubit_answers) (λ c. search one_qubit_answers) (λ c. search one_qubit_answers)
+    (λ c. search one_qubit_answers) (λ c. search one_qubit_answers))

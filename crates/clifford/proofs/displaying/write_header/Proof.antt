@@ -7,5 +7,4 @@ pub write_header_spec : {M : Type 1} → statement M
 write_header_spec =
     tie.close
     (tie.spec
-    (λ c. search headers) (λ c. search headers) (λ c. search headers) (λ c. search headers) (λ c. search headers)
-    (λ c. search headers) (λ c. search headers))
+    (λ c. search headers) (λ c. search headers) (λ c. search headers) (λ c. search headers) (λ c. search headers))

@@ -8,4 +8,4 @@ write_label_spec =
     tie.close
     (tie.spec
     (λ c. search labels) (λ c. search labels) (λ c. search labels) (λ c. search labels) (λ c. search labels)
-    (λ c. search labels) (λ c. search labels) (λ c. search labels) (λ c. search labels))
+    (λ c. search labels) (λ c. search labels))

@@ -8,5 +8,4 @@ write_letter_spec =
     tie.close
     (tie.spec
     (λ c. search generator-letters) (λ c. search generator-letters) (λ c. search generator-letters)
-    (λ c. search generator-letters) (λ c. search generator-letters) (λ c. search generator-letters)
-    (λ c. search generator-letters) (λ c. search generator-letters))
+    (λ c. search generator-letters) (λ c. search generator-letters) (λ c. search generator-letters))

@@ -8,5 +8,4 @@ write_line_spec =
     tie.close
     (tie.spec
     (λ c. search text_lines) (λ c. search text_lines) (λ c. search text_lines) (λ c. search text_lines)
-    (λ c. search text_lines) (λ c. search text_lines) (λ c. search text_lines) (λ c. search text_lines)
-    (λ c. search text_lines))
+    (λ c. search text_lines) (λ c. search text_lines) (λ c. search text_lines) (λ c. search text_lines))

@@ -4,10 +4,10 @@ use Rattle.clifford.proofs.GateNaming.{NoneBefore, gate_searches}
 use Rattle.clifford.proofs.gates.first_gate.Statement.{statement}
 use Rattle.clifford.proofs.gates.first_gate.Tie as tie
 
-abbrev invariant-loop : tie.invariant-loop
+abbrev invariant-loop : tie.invariant-loop-gate
 invariant-loop images gate₀ gate = NoneBefore images gate
 
-abbrev decreases-loop : tie.decreases-loop
+abbrev decreases-loop : tie.decreases-loop-gate
 decreases-loop images gate₀ gate = 24 - gate
 
 pub first_gate_spec : {M : Type 1} → statement M

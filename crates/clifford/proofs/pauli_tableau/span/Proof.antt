@@ -4,10 +4,10 @@ use Rattle.clifford.proofs.PauliTableau.{SpanFrom}
 use Rattle.clifford.proofs.pauli_tableau.span.Statement.{statement}
 use Rattle.clifford.proofs.pauli_tableau.span.Tie as tie
 
-abbrev invariant-loop : tie.invariant-loop
+abbrev invariant-loop : tie.invariant-loop-n
 invariant-loop s n₀ n = SpanFrom s n
 
-abbrev decreases-loop : tie.decreases-loop
+abbrev decreases-loop : tie.decreases-loop-n
 decreases-loop s n₀ n = n
 
 pub span_spec : {M : Type 1} → statement M

@@ -5,10 +5,10 @@ use Rattle.clifford.proofs.Play.{PlayedTo, plays}
 use Rattle.clifford.proofs.playing.play_letters.Statement.{statement}
 use Rattle.clifford.proofs.playing.play_letters.Tie as tie
 
-abbrev invariant-loop : tie.invariant-loop
+abbrev invariant-loop : tie.invariant-loop-i
 invariant-loop tables gate q t₀ table n i₀ t i = PlayedTo (letter_table_on_row table q) n t₀ i t
 
-abbrev decreases-loop : tie.decreases-loop
+abbrev decreases-loop : tie.decreases-loop-i
 decreases-loop tables gate q t₀ table n i₀ t i = 2 * n - i
 
 pub play_letters_spec : {M : Type 1} → statement M

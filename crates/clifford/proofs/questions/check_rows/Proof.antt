@@ -4,10 +4,10 @@ use Rattle.clifford.proofs.Asking.{RowsGood, rows-questions}
 use Rattle.clifford.proofs.questions.check_rows.Statement.{statement}
 use Rattle.clifford.proofs.questions.check_rows.Tie as tie
 
-abbrev invariant-loop : tie.invariant-loop
+abbrev invariant-loop : tie.invariant-loop-r
 invariant-loop t rows first₀ r₀ first r = RowsGood t rows first r
 
-abbrev decreases-loop : tie.decreases-loop
+abbrev decreases-loop : tie.decreases-loop-r
 decreases-loop t rows first₀ r₀ first r = rows - r
 
 pub check_rows_spec : {M : Type 1} → statement M

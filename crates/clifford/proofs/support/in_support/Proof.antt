@@ -7,10 +7,10 @@ use Rattle.clifford.proofs.SupportQubits.{NoneSo}
 use Rattle.clifford.proofs.support.in_support.Statement.{statement}
 use Rattle.clifford.proofs.support.in_support.Tie as tie
 
-abbrev invariant-loop : tie.invariant-loop
+abbrev invariant-loop : tie.invariant-loop-q
 invariant-loop t k n q₀ q = NoneSo n (supports_qubit (tableau_of t) k) q
 
-abbrev decreases-loop : tie.decreases-loop
+abbrev decreases-loop : tie.decreases-loop-q
 decreases-loop t k n q₀ q = n - q
 
 pub in_support_spec : {M : Type 1} → statement M

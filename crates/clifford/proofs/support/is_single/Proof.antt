@@ -9,10 +9,10 @@ use Rattle.clifford.proofs.SupportQubits.{single-rows}
 use Rattle.clifford.proofs.support.is_single.Statement.{statement}
 use Rattle.clifford.proofs.support.is_single.Tie as tie
 
-abbrev invariant-loop : tie.invariant-loop
+abbrev invariant-loop : tie.invariant-loop-c
 invariant-loop t r letter q n letters c₀ c = AllBefore n (alike_at (row_of (tableau_of t) r) (single (letter_of letter) q)) c
 
-abbrev decreases-loop : tie.decreases-loop
+abbrev decreases-loop : tie.decreases-loop-c
 decreases-loop t r letter q n letters c₀ c = n - c
 
 pub is_single_spec : {M : Type 1} → statement M

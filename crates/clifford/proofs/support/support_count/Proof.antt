@@ -5,10 +5,10 @@ use Rattle.clifford.proofs.SupportQubits.{CountTo}
 use Rattle.clifford.proofs.support.support_count.Statement.{statement}
 use Rattle.clifford.proofs.support.support_count.Tie as tie
 
-abbrev invariant-loop : tie.invariant-loop
+abbrev invariant-loop : tie.invariant-loop-k
 invariant-loop t n count₀ k₀ count k = CountTo t n k count
 
-abbrev decreases-loop : tie.decreases-loop
+abbrev decreases-loop : tie.decreases-loop-k
 decreases-loop t n count₀ k₀ count k = n - k
 
 pub support_count_spec : {M : Type 1} → statement M

@@ -7,10 +7,10 @@ use Rattle.clifford.proofs.IsValid.{AllBefore}
 use Rattle.clifford.proofs.validity.valid_before.Statement.{statement}
 use Rattle.clifford.proofs.validity.valid_before.Tie as tie
 
-abbrev invariant-loop : tie.invariant-loop
+abbrev invariant-loop : tie.invariant-loop-r
 invariant-loop t q r₀ r = AllBefore q (valid_pair (tableau_of t) q) r
 
-abbrev decreases-loop : tie.decreases-loop
+abbrev decreases-loop : tie.decreases-loop-r
 decreases-loop t q r₀ r = q - r
 
 pub valid_before_spec : {M : Type 1} → statement M

@@ -6,10 +6,10 @@ use Rattle.gate_list.proofs.Chains.{unmet, Walking, walks}
 use Rattle.gate_list.proofs.chain.check_chain.Statement.{statement}
 use Rattle.gate_list.proofs.chain.check_chain.Tie as tie
 
-abbrev invariant-loop : tie.invariant-loop
+abbrev invariant-loop : tie.invariant-loop-at
 invariant-loop list met₀ at₀ met at = Walking list (links_question list) met at
 
-abbrev decreases-loop : tie.decreases-loop
+abbrev decreases-loop : tie.decreases-loop-at
 decreases-loop list met₀ at₀ met at = unmet (record_count list - 1) met
 
 pub check_chain_spec : {M : Type 1} → statement M

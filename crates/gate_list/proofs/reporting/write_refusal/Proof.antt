@@ -9,4 +9,4 @@ write_refusal_spec =
     (tie.spec
     (λ c. search refusal_texts) (λ c. search refusal_texts) (λ c. search refusal_texts) (λ c. search refusal_texts)
     (λ c. search refusal_texts) (λ c. search refusal_texts) (λ c. search refusal_texts) (λ c. search refusal_texts)
-    (λ c. search refusal_texts) (λ c. search refusal_texts) (λ c. search refusal_texts) (λ c. search refusal_texts))
+    (λ c. search refusal_texts))

@@ -4,10 +4,10 @@ use Rattle.pauli.proofs.Multiplying.{PlacesTo, taking}
 use Rattle.pauli.proofs.algebra.multiply_places.Statement.{statement}
 use Rattle.pauli.proofs.algebra.multiply_places.Tie as tie
 
-abbrev invariant-loop : tie.invariant-loop
+abbrev invariant-loop : tie.invariant-loop-at
 invariant-loop s t places row₀ turns₀ at₀ row turns at = PlacesTo s t places row₀ at row turns
 
-abbrev decreases-loop : tie.decreases-loop
+abbrev decreases-loop : tie.decreases-loop-at
 decreases-loop s t places row₀ turns₀ at₀ row turns at = places - at
 
 pub multiply_places_spec : {M : Type 1} → statement M

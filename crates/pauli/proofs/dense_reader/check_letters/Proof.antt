@@ -4,10 +4,10 @@ use Rattle.pauli.proofs.DenseReading.{Lettered, letterings}
 use Rattle.pauli.proofs.dense_reader.check_letters.Statement.{statement}
 use Rattle.pauli.proofs.dense_reader.check_letters.Tie as tie
 
-abbrev invariant-loop : tie.invariant-loop
+abbrev invariant-loop : tie.invariant-loop-i
 invariant-loop body offset i₀ i = Lettered body offset i
 
-abbrev decreases-loop : tie.decreases-loop
+abbrev decreases-loop : tie.decreases-loop-i
 decreases-loop body offset i₀ i = length body - i
 
 pub check_letters_spec : {M : Type 1} → statement M

@@ -6,10 +6,10 @@ use Rattle.pauli.proofs.DenseReading.{named_fills}
 use Rattle.pauli.proofs.dense_reader.write_named.Statement.{statement}
 use Rattle.pauli.proofs.dense_reader.write_named.Tie as tie
 
-abbrev invariant-loop : tie.invariant-loop
+abbrev invariant-loop : tie.invariant-loop-i
 invariant-loop body dst₀ n i₀ dst i = Filled (letters_named (length dst₀) body) dst₀ (length dst₀) i dst
 
-abbrev decreases-loop : tie.decreases-loop
+abbrev decreases-loop : tie.decreases-loop-i
 decreases-loop body dst₀ n i₀ dst i = n - i
 
 pub write_named_spec : {M : Type 1} → statement M

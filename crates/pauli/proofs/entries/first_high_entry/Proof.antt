@@ -7,10 +7,10 @@ use Rattle.pauli.proofs.Places.{NoneBefore, scans}
 use Rattle.pauli.proofs.entries.first_high_entry.Statement.{statement}
 use Rattle.pauli.proofs.entries.first_high_entry.Tie as tie
 
-abbrev invariant-loop : tie.invariant-loop
+abbrev invariant-loop : tie.invariant-loop-j
 invariant-loop entries n j₀ j = NoneBefore (length entries / 2) (λ k. leb 128 (entry_qubit entries k)) j
 
-abbrev decreases-loop : tie.decreases-loop
+abbrev decreases-loop : tie.decreases-loop-j
 decreases-loop entries n j₀ j = n - j
 
 pub first_high_entry_spec : {M : Type 1} → statement M

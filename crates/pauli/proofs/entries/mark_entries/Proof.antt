@@ -4,16 +4,14 @@ use Rattle.pauli.proofs.EntryMarks.{Marking, marking_step, marks}
 use Rattle.pauli.proofs.entries.mark_entries.Statement.{statement}
 use Rattle.pauli.proofs.entries.mark_entries.Tie as tie
 
-abbrev invariant-loop : tie.invariant-loop
+abbrev invariant-loop : tie.invariant-loop-j
 invariant-loop entries marks₀ n j₀ marks j = Marking entries n j marks
 
-abbrev decreases-loop : tie.decreases-loop
+abbrev decreases-loop : tie.decreases-loop-j
 decreases-loop entries marks₀ n j₀ marks j = n - j
 
-again : tie.Need-loop-preserved invariant-loop decreases-loop
-again c =
-    let turn = c.before.before.before.before in
-    marking_step turn.before.before.before.before.loop.invariant (omega arith) turn.wide.ensures c.before.before.mark.ensures
+again : tie.Need-loop-j-preserved invariant-loop decreases-loop
+again c = marking_step c.loop-j.invariant (omega arith) c.wide-qubit.ensures c.mark.ensures
 
 pub mark_entries_spec : {M : Type 1} → statement M
 mark_entries_spec =

@@ -6,10 +6,10 @@ use Rattle.pauli.proofs.EntryStrings.{letter_fills}
 use Rattle.pauli.proofs.entries.write_letters.Statement.{statement}
 use Rattle.pauli.proofs.entries.write_letters.Tie as tie
 
-abbrev invariant-loop : tie.invariant-loop
+abbrev invariant-loop : tie.invariant-loop-i
 invariant-loop marks dst₀ n i₀ dst i = Filled (letters_marked n marks) dst₀ n i dst
 
-abbrev decreases-loop : tie.decreases-loop
+abbrev decreases-loop : tie.decreases-loop-i
 decreases-loop marks dst₀ n i₀ dst i = n - i
 
 pub write_letters_spec : {M : Type 1} → statement M

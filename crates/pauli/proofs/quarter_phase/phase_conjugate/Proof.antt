@@ -12,5 +12,5 @@ unfolding conjugate phase_byte phase_of conjugate_byte
 phase_conjugate_spec =
     tie.close
     (tie.spec
-    (λ c. at-case conjugate_byte c.match.keys1 refl) (λ c. at-case conjugate_byte c.match.keys2 refl)
-    (λ c. at-case conjugate_byte c.match.keys3 refl) (λ c. at-case conjugate_byte (three_up c.match.rest) refl))
+    (λ c. at-case conjugate_byte c.in-0.is refl) (λ c. at-case conjugate_byte c.in-1.is refl)
+    (λ c. at-case conjugate_byte c.in-2.is refl) (λ c. at-case conjugate_byte (three_up c.in_default.in_default-own.rest) refl))

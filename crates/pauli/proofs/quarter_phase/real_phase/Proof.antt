@@ -16,5 +16,5 @@ unfolding is_real phase_of
 real_phase_spec =
     tie.close
     (tie.spec
-    (λ c. at-case real c.match.keys1 refl) (λ c. at-case real c.match.keys2 refl)
-    (λ c. at-case real c.match.keys3 refl) (λ c. at-case real (three_up c.match.rest) refl))
+    (λ c. at-case real c.in-0.is refl) (λ c. at-case real c.in-1.is refl)
+    (λ c. at-case real c.in-2.is refl) (λ c. at-case real (three_up c.in_default.in_default-own.rest) refl))

@@ -5,10 +5,10 @@ use Rattle.pauli.proofs.Places.{Filled, fills}
 use Rattle.pauli.proofs.rows.copy.Statement.{statement}
 use Rattle.pauli.proofs.rows.copy.Tie as tie
 
-abbrev invariant-loop : tie.invariant-loop
+abbrev invariant-loop : tie.invariant-loop-i
 invariant-loop src dst₀ n i₀ dst i = Filled src dst₀ n i dst
 
-abbrev decreases-loop : tie.decreases-loop
+abbrev decreases-loop : tie.decreases-loop-i
 decreases-loop src dst₀ n i₀ dst i = n - i
 
 pub copy_spec : {M : Type 1} → statement M

@@ -4,10 +4,10 @@ use Rattle.pauli.proofs.RowProducts.{Counted, crosses, counts}
 use Rattle.pauli.proofs.rows.count_anticommuting.Statement.{statement}
 use Rattle.pauli.proofs.rows.count_anticommuting.Tie as tie
 
-abbrev invariant-loop : tie.invariant-loop
+abbrev invariant-loop : tie.invariant-loop-i
 invariant-loop a b n count₀ i₀ count i = Counted (crosses a b) n i count
 
-abbrev decreases-loop : tie.decreases-loop
+abbrev decreases-loop : tie.decreases-loop-i
 decreases-loop a b n count₀ i₀ count i = n - i
 
 pub count_anticommuting_spec : {M : Type 1} → statement M

@@ -4,10 +4,10 @@ use Rattle.pauli.proofs.RowProducts.{Counted, letter_here, counts}
 use Rattle.pauli.proofs.rows.count_letters.Statement.{statement}
 use Rattle.pauli.proofs.rows.count_letters.Tie as tie
 
-abbrev invariant-loop : tie.invariant-loop
+abbrev invariant-loop : tie.invariant-loop-i
 invariant-loop s count₀ i₀ count i = Counted (letter_here s) (length s) i count
 
-abbrev decreases-loop : tie.decreases-loop
+abbrev decreases-loop : tie.decreases-loop-i
 decreases-loop s count₀ i₀ count i = length s - i
 
 pub count_letters_spec : {M : Type 1} → statement M

@@ -5,10 +5,10 @@ use Rattle.pauli.proofs.Places.{NoneBefore, scans}
 use Rattle.pauli.proofs.rows.first_bad.Statement.{statement}
 use Rattle.pauli.proofs.rows.first_bad.Tie as tie
 
-abbrev invariant-loop : tie.invariant-loop
+abbrev invariant-loop : tie.invariant-loop-i
 invariant-loop s i₀ i = NoneBefore (length s) (λ k. ltb 3 (get_or s k 0)) i
 
-abbrev decreases-loop : tie.decreases-loop
+abbrev decreases-loop : tie.decreases-loop-i
 decreases-loop s i₀ i = length s - i
 
 pub first_bad_spec : {M : Type 1} → statement M

@@ -13,5 +13,5 @@ unfolding phase_of power turn
 phase_turns_spec =
     tie.close
     (tie.spec
-    (λ c. phase_key 0 c.match.keys1 refl) (λ c. phase_key 1 c.match.keys2 refl)
-    (λ c. phase_key 2 c.match.keys3 refl) (λ c. phase_key _ (three_up c.match.rest) refl))
+    (λ c. phase_key 0 c.in-0.is refl) (λ c. phase_key 1 c.in-1.is refl)
+    (λ c. phase_key 2 c.in-2.is refl) (λ c. phase_key _ (three_up c.in_default.in_default-own.rest) refl))

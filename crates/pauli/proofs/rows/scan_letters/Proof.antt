@@ -4,10 +4,10 @@ use Rattle.pauli.proofs.RowProducts.{ScannedTo, letter_scans}
 use Rattle.pauli.proofs.rows.scan_letters.Statement.{statement}
 use Rattle.pauli.proofs.rows.scan_letters.Tie as tie
 
-abbrev invariant-loop : tie.invariant-loop
+abbrev invariant-loop : tie.invariant-loop-i
 invariant-loop s seen₀ i₀ seen i = ScannedTo s i seen
 
-abbrev decreases-loop : tie.decreases-loop
+abbrev decreases-loop : tie.decreases-loop-i
 decreases-loop s seen₀ i₀ seen i = length s - i
 
 pub scan_letters_spec : {M : Type 1} → statement M

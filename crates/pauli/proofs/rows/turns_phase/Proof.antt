@@ -12,5 +12,5 @@ unfolding phase_byte power turn
 turns_phase_spec =
     tie.close
     (tie.spec
-    (λ c. turn_key _ 0 c.match.keys1 refl) (λ c. turn_key _ 1 c.match.keys2 refl)
-    (λ c. turn_key _ 2 c.match.keys3 refl) (λ c. turn-rest _ c.match.rest))
+    (λ c. turn_key _ 0 c.in-0.is refl) (λ c. turn_key _ 1 c.in-1.is refl)
+    (λ c. turn_key _ 2 c.in-2.is refl) (λ c. turn-rest _ c.in_default.in_default-own.rest))

@@ -5,10 +5,10 @@ use Rattle.pauli.proofs.SparseTokens.{Reading, reading-refused, readings}
 use Rattle.pauli.proofs.sparse_reader.read_tokens.Statement.{statement}
 use Rattle.pauli.proofs.sparse_reader.read_tokens.Tie as tie
 
-abbrev invariant-loop : tie.invariant-loop
+abbrev invariant-loop : tie.invariant-loop-at
 invariant-loop t start marks₀ high₀ at₀ marks high at = Reading (tokens start (drop start t)) t at high marks
 
-abbrev decreases-loop : tie.decreases-loop
+abbrev decreases-loop : tie.decreases-loop-at
 decreases-loop t start marks₀ high₀ at₀ marks high at = length t - at
 
 pub read_tokens_spec : {M : Type 1} → statement M

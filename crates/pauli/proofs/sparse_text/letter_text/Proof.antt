@@ -11,6 +11,6 @@ unfolding letter_text letter_of
 letter_text_spec =
     tie.close
     (tie.spec
-    (λ c. at-case (λ x. letter_text (letter_of x)) c.match.keys1 refl) (λ c. at-case (λ x. letter_text (letter_of x)) c.match.keys2 refl)
-    (λ c. at-case (λ x. letter_text (letter_of x)) c.match.keys3 refl)
-    (λ c. at-case (λ x. letter_text (letter_of x)) (three_up c.match.rest) refl))
+    (λ c. at-case (λ x. letter_text (letter_of x)) c.in-0.is refl) (λ c. at-case (λ x. letter_text (letter_of x)) c.in-1.is refl)
+    (λ c. at-case (λ x. letter_text (letter_of x)) c.in-2.is refl)
+    (λ c. at-case (λ x. letter_text (letter_of x)) (three_up c.in_default.in_default-own.rest) refl))

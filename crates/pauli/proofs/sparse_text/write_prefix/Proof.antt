@@ -7,7 +7,6 @@ pub write_prefix_spec : {M : Type 1} → statement M
 write_prefix_spec =
     tie.close
     (tie.spec
-    (λ c. search prefixes) (λ c. search prefixes) (λ c. search prefixes) (λ c. search prefixes) (λ c. search prefixes)
-    (λ c. search prefixes) (λ c. search prefixes) (λ c. search prefixes) (λ c. search prefixes) (λ c. search prefixes)
-    (λ c. search prefixes) (λ c. search prefixes) (λ c. search prefixes) (λ c. search prefixes) (λ c. search prefixes)
-    (λ c. search prefixes))
+    (λ c. search prefixes) (λ c. search prefixes) (λ c. search prefixes) (λ c. search prefixes)
+    (λ c. search prefixes) (λ c. search prefixes) (λ c. search prefixes) (λ c. search prefixes)
+    (λ c. search prefixes) (λ c. search prefixes) (λ c. search prefixes) (λ c. search prefixes))

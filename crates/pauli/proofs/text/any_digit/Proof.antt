@@ -4,10 +4,10 @@ use Rattle.pauli.proofs.EitherText.{NoDigit, digit_scans}
 use Rattle.pauli.proofs.text.any_digit.Statement.{statement}
 use Rattle.pauli.proofs.text.any_digit.Tie as tie
 
-abbrev invariant-loop : tie.invariant-loop
+abbrev invariant-loop : tie.invariant-loop-i
 invariant-loop t i₀ i = NoDigit t i
 
-abbrev decreases-loop : tie.decreases-loop
+abbrev decreases-loop : tie.decreases-loop-i
 decreases-loop t i₀ i = length t - i
 
 pub any_digit_spec : {M : Type 1} → statement M

@@ -4,10 +4,10 @@ use Rattle.pauli.proofs.Numerals.{Digits, numerals}
 use Rattle.pauli.proofs.text.digits.Statement.{statement}
 use Rattle.pauli.proofs.text.digits.Tie as tie
 
-abbrev invariant-loop : tie.invariant-loop
+abbrev invariant-loop : tie.invariant-loop-i
 invariant-loop ds value₀ i₀ value i = Digits ds i value
 
-abbrev decreases-loop : tie.decreases-loop
+abbrev decreases-loop : tie.decreases-loop-i
 decreases-loop ds value₀ i₀ value i = length ds - i
 
 pub digits_spec : {M : Type 1} → statement M

@@ -5,10 +5,10 @@ use Rattle.pauli.proofs.Places.{NoneBefore, scans}
 use Rattle.pauli.proofs.text.first_not_ascii.Statement.{statement}
 use Rattle.pauli.proofs.text.first_not_ascii.Tie as tie
 
-abbrev invariant-loop : tie.invariant-loop
+abbrev invariant-loop : tie.invariant-loop-i
 invariant-loop t i₀ i = NoneBefore (length t) (λ k. leb 128 (get_or t k 0)) i
 
-abbrev decreases-loop : tie.decreases-loop
+abbrev decreases-loop : tie.decreases-loop-i
 decreases-loop t i₀ i = length t - i
 
 pub first_not_ascii_spec : {M : Type 1} → statement M

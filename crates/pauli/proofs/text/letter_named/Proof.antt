@@ -11,7 +11,7 @@ unfolding letter_named
 letter_named_spec =
     tie.close
     (tie.spec
-    (λ c. at-case letter_named c.match.keys1 refl) (λ c. at-case letter_named c.match.keys2 refl)
-    (λ c. at-case letter_named c.match.keys3 refl) (λ c. at-case letter_named c.match.keys4 refl)
-    (λ c. at-case letter_named c.match.keys5 refl) (λ c. at-case letter_named c.match.keys6 refl)
-    (λ c. named_none c.match.rest))
+    (λ c. at-case letter_named c.in-88.is refl) (λ c. at-case letter_named c.in-120.is refl)
+    (λ c. at-case letter_named c.in-90.is refl) (λ c. at-case letter_named c.in-122.is refl)
+    (λ c. at-case letter_named c.in-89.is refl) (λ c. at-case letter_named c.in-121.is refl)
+    (λ c. named_none c.in_default.in_default-own.rest))

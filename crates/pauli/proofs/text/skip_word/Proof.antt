@@ -10,7 +10,7 @@ returns c =
     let start = c.before.before.before in
     skipped leading_word words-within start.args.t.now start.args.at c.word.ensures start.requires
 
-add_result : tie.Need-overflow-add-result
+add_result : tie.Need-overflow_add-result
 add_result c = let r = returns c in record { fits = omega (arith, r.within) }
 
 pub skip_word_spec : {M : Type 1} → statement M

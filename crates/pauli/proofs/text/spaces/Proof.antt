@@ -6,10 +6,10 @@ use Rattle.pauli.proofs.TextBytes.{space_scans}
 use Rattle.pauli.proofs.text.spaces.Statement.{statement}
 use Rattle.pauli.proofs.text.spaces.Tie as tie
 
-abbrev invariant-loop : tie.invariant-loop
+abbrev invariant-loop : tie.invariant-loop-i
 invariant-loop t i₀ i = NoneBefore (length t) (λ k. not (is_space (get_or t k 0))) i
 
-abbrev decreases-loop : tie.decreases-loop
+abbrev decreases-loop : tie.decreases-loop-i
 decreases-loop t i₀ i = length t - i
 
 pub spaces_spec : {M : Type 1} → statement M

@@ -7,10 +7,10 @@ use Rattle.pauli.proofs.TextBytes.{word_scans}
 use Rattle.pauli.proofs.text.word.Statement.{statement}
 use Rattle.pauli.proofs.text.word.Tie as tie
 
-abbrev invariant-loop : tie.invariant-loop
+abbrev invariant-loop : tie.invariant-loop-i
 invariant-loop t i₀ i = NoneBefore (length t) (λ k. is_space (get_or t k 0)) i
 
-abbrev decreases-loop : tie.decreases-loop
+abbrev decreases-loop : tie.decreases-loop-i
 decreases-loop t i₀ i = length t - i
 
 pub word_spec : {M : Type 1} → statement M

@@ -19,7 +19,7 @@ put_decimal_at t = and 1 put-decimal-kinds.ps (is 1 put-decimal-kinds.ps μ-put-
 abbrev put_decimal_below : ℕ → In 1 put-decimal-kinds.ps
 put_decimal_below t = and 1 put-decimal-kinds.ps (falls 1 put-decimal-kinds.ps ◌<◌ μ-put-decimal t) put-decimal.Pre
 
-tenth_falls : (t : ℕ) → put-decimal-lts.Need-put-decimal-requires (put_reads.Asked, put_reads.Learnt, put_decimal_below t, put-decimal.Post) (put_decimal_at t) put-decimal.Post
+tenth_falls : (t : ℕ) → put-decimal-lts.Need-put_decimal-next-requires (put_reads.Asked, put_reads.Learnt, put_decimal_below t, put-decimal.Post) (put_decimal_at t) put-decimal.Post
 tenth_falls t c κs = (omega (arith, c.before.before.before.requires.0), tt)
 
 pub +put_decimal_spec : {M : Type 1} → statement M

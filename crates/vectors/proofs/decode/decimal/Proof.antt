@@ -2,10 +2,10 @@ use Rattle.std.proofs.Common.{◌-◌, length, rules}
 use Rattle.vectors.proofs.decode.decimal.Statement.{statement}
 use Rattle.vectors.proofs.decode.decimal.Tie as tie
 
-abbrev invariant-loop : tie.invariant-loop
+abbrev invariant-loop : tie.invariant-loop-i
 invariant-loop s value₀ i₀ value i = Unit {0}
 
-abbrev decreases-loop : tie.decreases-loop
+abbrev decreases-loop : tie.decreases-loop-i
 decreases-loop s value₀ i₀ value i = length s - i
 
 pub decimal_spec : {M : Type 1} → statement M

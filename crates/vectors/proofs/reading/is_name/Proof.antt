@@ -2,10 +2,10 @@ use Rattle.std.proofs.Common.{◌-◌, length, rules}
 use Rattle.vectors.proofs.reading.is_name.Statement.{statement}
 use Rattle.vectors.proofs.reading.is_name.Tie as tie
 
-abbrev invariant-loop : tie.invariant-loop
+abbrev invariant-loop : tie.invariant-loop-i
 invariant-loop s i₀ i = Unit {0}
 
-abbrev decreases-loop : tie.decreases-loop
+abbrev decreases-loop : tie.decreases-loop-i
 decreases-loop s i₀ i = length s - i
 
 pub is_name_spec : {M : Type 1} → statement M

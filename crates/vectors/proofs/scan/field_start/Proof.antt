@@ -2,10 +2,10 @@ use Rattle.std.proofs.Common.{◌-◌, length, rules}
 use Rattle.vectors.proofs.scan.field_start.Statement.{statement}
 use Rattle.vectors.proofs.scan.field_start.Tie as tie
 
-abbrev invariant-loop : tie.invariant-loop
+abbrev invariant-loop : tie.invariant-loop-at
 invariant-loop line k at₀ left₀ at left = Unit {0}
 
-abbrev decreases-loop : tie.decreases-loop
+abbrev decreases-loop : tie.decreases-loop-at
 decreases-loop line k at₀ left₀ at left = length line - at
 
 pub field_start_spec : {M : Type 1} → statement M

@@ -2,10 +2,10 @@ use Rattle.std.proofs.Common.{◌+◌, ◌-◌, ◌≤◌, length, rules}
 use Rattle.vectors.proofs.scan.fields.Statement.{statement}
 use Rattle.vectors.proofs.scan.fields.Tie as tie
 
-abbrev invariant-loop : tie.invariant-loop
+abbrev invariant-loop : tie.invariant-loop-i
 invariant-loop line n₀ i₀ n i = n ≤ i + 1
 
-abbrev decreases-loop : tie.decreases-loop
+abbrev decreases-loop : tie.decreases-loop-i
 decreases-loop line n₀ i₀ n i = length line - i
 
 pub fields_spec : {M : Type 1} → statement M

@@ -2,10 +2,10 @@ use Rattle.std.proofs.Common.{◌-◌, ◌≤◌, length, rules}
 use Rattle.vectors.proofs.scan.stop.Statement.{statement}
 use Rattle.vectors.proofs.scan.stop.Tie as tie
 
-abbrev invariant-loop : tie.invariant-loop
+abbrev invariant-loop : tie.invariant-loop-i
 invariant-loop s at x i₀ i = at ≤ i
 
-abbrev decreases-loop : tie.decreases-loop
+abbrev decreases-loop : tie.decreases-loop-i
 decreases-loop s at x i₀ i = length s - i
 
 pub stop_spec : {M : Type 1} → statement M

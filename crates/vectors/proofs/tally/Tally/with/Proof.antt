@@ -21,7 +21,4 @@ with_spec =
     (λ c. search tallies)
     (λ c. search tallies)
     (λ c. search tallies)
-    (λ c. search tallies)
-    (λ c. search tallies)
-    (λ c. search tallies)
     (λ c. search tallies))
