@@ -1,6 +1,6 @@
 /* Pauli strings and Clifford tableaux over byte records: the C interface.
  *
- * Link with target/staticlib/librenetcleat.a, which `rt staticlib renetcleat` writes: x86-64 Linux, calls by the System V
+ * Link with target/staticlib/librenetcleat.a, which `tools/staticlib` writes: x86-64 Linux, calls by the System V
  * convention. It needs memcpy and memset, of any C library, and nothing else: no heap, no input or output, no writable data of its
  * own.
  *

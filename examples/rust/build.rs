@@ -1,4 +1,4 @@
-//! Links the archive that `rt staticlib renetcleat` writes.
+//! Links the archive that `tools/staticlib` writes.
 
 use std::path::PathBuf;
 use std::{env, fs};
@@ -9,7 +9,7 @@ fn main() {
         PathBuf::from(env::var("CARGO_MANIFEST_DIR").unwrap()).join("../../target/staticlib");
     let folder = env::var("RENETCLEAT_LIB").map_or(beside, PathBuf::from);
     let folder = fs::canonicalize(&folder).unwrap_or_else(|error| {
-        panic!("{}: {error}; run `rt staticlib renetcleat`, or name the archive's folder in RENETCLEAT_LIB", folder.display())
+        panic!("{}: {error}; run `tools/staticlib`, or name the archive's folder in RENETCLEAT_LIB", folder.display())
     });
     println!(
         "cargo:rerun-if-changed={}",
