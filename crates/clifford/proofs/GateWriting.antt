@@ -15,7 +15,6 @@ use Rattle.clifford_gates.specs.Updates.{letter_image}
 use Rattle.clifford_gates.proofs.GateNames.{gate-one, gate_clifford}
 use Rattle.pauli.specs.declared.algebra.PhasedLetter.{PhasedLetter}
 use Rattle.pauli.specs.Layout.{phase_of, letter_of, encode_string}
-use Rattle.pauli.proofs.Places.{from}
 use Rattle.pauli.proofs.Records.{phase-back, phase-small, letter-back, length_encode}
 use Rattle.clifford.specs.declared.gates.RowImage.{RowImage}
 use Rattle.clifford.specs.Inside.Rows.{ClearRow, WorkPlace, row_times, cleared_row, letters_in}
