@@ -79,7 +79,7 @@ pub pair_read : (g k q r : ℕ) {e : List ℕ} → e ≡ pair_bytes (two_qubit_g
 unfolding entry_pair
 pair_read g k q r h = ap (λ (l : List ℕ). entry_pair l k q r) h
 
-pub ruleset Pair_reads = (place-two, place_inside, pair_read, rules)
+pub ruleset pair_reads = (place-two, place_inside, pair_read, rules)
 
 -- the four images of an entry
 module _ (g : TwoQubit) (q r : ℕ) where

@@ -20,10 +20,10 @@ use Rattle.pauli.proofs.Asking.{asked_yes, asked_no, ask_done, refused, passed, 
 use Rattle.pauli.proofs.Places.{NoneBefore, none_more, none_found, none_left_lem, first-before, from, length_from}
 use Rattle.pauli.proofs.Records.{decode_within, decode_letter, decode_phase, letter_of_lem, has_none, has_one}
 use Rattle.clifford.specs.Layout.{row_length, encode_row, row_offset, record_length, row_of, row_part, width_of, tableau_of, tableau_record, FormedTableau}
-use Rattle.clifford.specs.Images.{with_ximage, with_zimage}
+use Rattle.clifford.specs.Images.{with_x_image, with_z_image}
 use Rattle.clifford.specs.Questions.{tableau_questions, apply_questions, lowest_outside, inside_question, slot_question, set_questions}
 use Rattle.clifford.specs.Inside.Rows.{Sized, RowIndex, Finished, Beside, with_row, row_written, letters_in, string_in}
-use Rattle.clifford.specs.Tableaux.{set_xrecord, set_zrecord}
+use Rattle.clifford.specs.Tableaux.{set_x_record, set_z_record}
 use Rattle.clifford.specs.Inside.Writing.{SetsRow, Sets}
 use Rattle.clifford.proofs.RowWriting.{RowsTo, rows-own, rows_kept_to, rows_more, rows_end}
 use Rattle.clifford.proofs.Asking.{tableau-formed, slot_is}
@@ -246,8 +246,8 @@ module _ {t : List ℕ} {slot : ℕ} {s : List ℕ} (o : Sets t slot s) where
   unfolding written
   whole {out} h = sym (ap (λ (l : List ℕ). out ++ l) (drop_of_length-le t {i = length out} (omega arith)) ∙ append-nil out)
 
-  x-same : Same (with_row (tableau_of t) slot (string_of s)) (with_ximage (tableau_of t) slot (string_of s))
-  unfolding with_row with_ximage
+  x-same : Same (with_row (tableau_of t) slot (string_of s)) (with_x_image (tableau_of t) slot (string_of s))
+  unfolding with_row with_x_image
   x-same = record {
     width = refl;
     x_image = λ q l. refl;
@@ -257,8 +257,8 @@ module _ {t : List ℕ} {slot : ℕ} {s : List ℕ} (o : Sets t slot s) where
       apart : (q : ℕ) → (tableau_of t).width + q ≡ slot → ⊥
       apart q e = omega (arith, o.slot, width_of_lem t)
 
-  z-same : Same (with_row (tableau_of t) (width_of t + slot) (string_of s)) (with_zimage (tableau_of t) slot (string_of s))
-  unfolding with_row with_zimage
+  z-same : Same (with_row (tableau_of t) (width_of t + slot) (string_of s)) (with_z_image (tableau_of t) slot (string_of s))
+  unfolding with_row with_z_image
   z-same = record {
     width = refl;
     x_image = λ q l. ap (λ b. cond b (string_of s) ((tableau_of t).x_image q)) (ne_eqb q (width_of t + slot) (apart q l));
@@ -274,19 +274,19 @@ module _ {t : List ℕ} {slot : ℕ} {s : List ℕ} (o : Sets t slot s) where
         | no n ↦ ne_eqb ((tableau_of t).width + q) (width_of t + slot) (λ e. n (omega (arith, width_of_lem t))) ∙ sym (ne_eqb q slot n)
       ]
 
-  pub x_written : {e : List ℕ} → e ≡ tableau_record (with_row (tableau_of t) slot (string_of s)) → e ≡ written Done (set_xrecord t slot s) t
-  unfolding set_xrecord
+  pub x_written : {e : List ℕ} → e ≡ tableau_record (with_row (tableau_of t) slot (string_of s)) → e ≡ written Done (set_x_record t slot s) t
+  unfolding set_x_record
   x_written h =
       h ∙ whole (set_length set_x_row)
-      ∙ ap (λ (l : List ℕ). written Done l t) (same-record (with_row (tableau_of t) slot (string_of s)) (with_ximage (tableau_of t) slot (string_of s)) x-same)
+      ∙ ap (λ (l : List ℕ). written Done l t) (same-record (with_row (tableau_of t) slot (string_of s)) (with_x_image (tableau_of t) slot (string_of s)) x-same)
 
   pub z_written : {e : List ℕ} {n : ℕ} → n ≡ width_of t → e ≡ tableau_record (with_row (tableau_of t) (n + slot) (string_of s))
-      → e ≡ written Done (set_zrecord t slot s) t
-  unfolding set_zrecord
+      → e ≡ written Done (set_z_record t slot s) t
+  unfolding set_z_record
   z_written en h =
       h ∙ ap (λ (j : ℕ). tableau_record (with_row (tableau_of t) (j + slot) (string_of s))) en ∙ whole (set_length (set_z_row refl))
       ∙ ap (λ (l : List ℕ). written Done l t)
-      (same-record (with_row (tableau_of t) (width_of t + slot) (string_of s)) (with_zimage (tableau_of t) slot (string_of s)) z-same)
+      (same-record (with_row (tableau_of t) (width_of t + slot) (string_of s)) (with_z_image (tableau_of t) slot (string_of s)) z-same)
 
 pub set_fits : (t : List ℕ) (slot : ℕ) (s : List ℕ) {r : Outcome} {n : ℕ} → r ≡ set_questions t slot s → r ≡ Done → n ≡ width_of t → Fits w64 (n + slot)
 set_fits t slot s p h e = let o : Sets t slot s = sets p h in record { fits = omega (arith, o.slot, o.sets.tableau.narrow) }

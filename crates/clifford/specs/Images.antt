@@ -5,11 +5,11 @@ use Rattle.pauli_group.specs.PauliString.{PauliString, qubits, last_to, has_lett
 use Rattle.clifford_group.specs.Tableau.{Tableau}
 
 -- one image replaced
-unfoldable pub with_ximage : Tableau → ℕ → PauliString → Tableau
-with_ximage t q s = record { width = t.width; x_image = λ r. cond (r == q) s (t.x_image r); z_image = t.z_image }
+unfoldable pub with_x_image : Tableau → ℕ → PauliString → Tableau
+with_x_image t q s = record { width = t.width; x_image = λ r. cond (r == q) s (t.x_image r); z_image = t.z_image }
 
-unfoldable pub with_zimage : Tableau → ℕ → PauliString → Tableau
-with_zimage t q s = record { width = t.width; x_image = t.x_image; z_image = λ r. cond (r == q) s (t.z_image r) }
+unfoldable pub with_z_image : Tableau → ℕ → PauliString → Tableau
+with_z_image t q s = record { width = t.width; x_image = t.x_image; z_image = λ r. cond (r == q) s (t.z_image r) }
 
 -- 1 + the highest qubit that has a letter, and 1 where none has ("width 1 for no letters")
 unfoldable pub pauli_width : PauliString → ℕ

@@ -9,7 +9,7 @@ use Rattle.pauli.specs.Answers.{FlagAnswered, CountAnswered, Written, CountWritt
 use Rattle.clifford.specs.declared.clifford.GateAnswer.{GateAnswer}
 use Rattle.clifford.specs.Layout.{width_of, row_offset}
 use Rattle.clifford.specs.Questions.{tableau_questions, image_questions, set_questions, identity_answer, apply_answer, compose_answer, extend_answer, inverse_answer, pauli_answer, support_answer}
-use Rattle.clifford.specs.Tableaux.{record_valid, set_xrecord, set_zrecord, identity_record, apply_record, compose_record, extend_record, inverse_record, pauli_record, support_bytes}
+use Rattle.clifford.specs.Tableaux.{record_valid, set_x_record, set_z_record, identity_record, apply_record, compose_record, extend_record, inverse_record, pauli_record, support_bytes}
 use Rattle.clifford.specs.Display.{text_of_tableau, display_answer}
 use Rattle.clifford.specs.GateQuestions.{gate_question, on_qubits_answer, on_width_answer, on_qubit_answer, compose_gate_questions}
 use Rattle.clifford.specs.GateAnswers.{GateAnswered, NameAnswered, gate_record, width_gate_record, one_qubit_record, single_qubit_clifford_record, record_name}
@@ -23,10 +23,10 @@ abbrev pub ZImageAt : (t : List ℕ) (q : ℕ) (r : CountAnswer) → Type 0
 ZImageAt t q r = CountAnswered (image_questions t q) (row_offset (width_of t) (width_of t + q)) r
 
 abbrev pub XImageSet : (q : ℕ) (s t e : List ℕ) (r : Outcome) → Type 0
-XImageSet q s t e r = Written (set_questions t q s) (set_xrecord t q s) t e r
+XImageSet q s t e r = Written (set_questions t q s) (set_x_record t q s) t e r
 
 abbrev pub ZImageSet : (q : ℕ) (s t e : List ℕ) (r : Outcome) → Type 0
-ZImageSet q s t e r = Written (set_questions t q s) (set_zrecord t q s) t e r
+ZImageSet q s t e r = Written (set_questions t q s) (set_z_record t q s) t e r
 
 -- ---- tableaux
 

@@ -5,7 +5,7 @@ use Rattle.pauli.specs.Layout.{string_of, string_record}
 use Rattle.clifford.specs.Layout.{width_of, row_part, tableau_of, tableau_record, FormedTableau}
 use Rattle.clifford.specs.Answers.{part_answer}
 use Rattle.clifford.specs.Support.{support_qubits}
-use Rattle.clifford.specs.Images.{with_ximage, with_zimage, pauli_tableau}
+use Rattle.clifford.specs.Images.{with_x_image, with_z_image, pauli_tableau}
 use Rattle.clifford.specs.Questions.{image_questions}
 
 unfoldable pub record_valid : List ℕ → Bool
@@ -39,11 +39,11 @@ x_image_part t slot = part_answer (image_questions t slot) (row_part t slot)
 unfoldable pub z_image_part : List ℕ → ℕ → List ℕ
 z_image_part t slot = part_answer (image_questions t slot) (row_part t (width_of t + slot))
 
-unfoldable pub set_xrecord : List ℕ → ℕ → List ℕ → List ℕ
-set_xrecord t slot s = tableau_record (with_ximage (tableau_of t) slot (string_of s))
+unfoldable pub set_x_record : List ℕ → ℕ → List ℕ → List ℕ
+set_x_record t slot s = tableau_record (with_x_image (tableau_of t) slot (string_of s))
 
-unfoldable pub set_zrecord : List ℕ → ℕ → List ℕ → List ℕ
-set_zrecord t slot s = tableau_record (with_zimage (tableau_of t) slot (string_of s))
+unfoldable pub set_z_record : List ℕ → ℕ → List ℕ → List ℕ
+set_z_record t slot s = tableau_record (with_z_image (tableau_of t) slot (string_of s))
 
 unfoldable pub pauli_record : List ℕ → List ℕ
 pauli_record s = tableau_record (pauli_tableau (string_of s))

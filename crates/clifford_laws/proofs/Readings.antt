@@ -19,8 +19,8 @@ use Rattle.pauli.specs.Layout.{phase_byte, letter_byte, phase_of, letter_of, enc
 use Rattle.pauli.specs.Rows.{product_phase_byte, product_letter_byte, phase_bytes_product}
 use Rattle.pauli.specs.Strings.{places_taken_of_records, product_record}
 use Rattle.clifford.specs.Layout.{record_length, row_length, encode_row, decode_row, row_offset, row_of, joined, tableau_record, row_part, tableau_of, letter_place, letter_in, letters_of}
-use Rattle.clifford.specs.Images.{with_ximage, with_zimage}
-use Rattle.clifford.specs.Tableaux.{record_valid, identity_record, set_xrecord, set_zrecord, apply_record, compose_record, inverse_record}
+use Rattle.clifford.specs.Images.{with_x_image, with_z_image}
+use Rattle.clifford.specs.Tableaux.{record_valid, identity_record, set_x_record, set_z_record, apply_record, compose_record, inverse_record}
 use Rattle.clifford.specs.GateAnswers.{gate_record, record_name}
 use Rattle.pauli.specs.Answers.{reply_to, refusal_reply}
 use Rattle.pauli.specs.Questions.{ask, ◌and_then◌, byte_question, pair_questions, strings_questions, mul_questions, first_bad, bytes_question, string_questions, room_question}
@@ -50,5 +50,5 @@ holds : (r : Reading) → T (test r) → Holds r
 holds r t = same-is (answered r.asked) r.answer t
 
 pub readings_hold : All Holds readings × All Holds invalid_readings
-unfolding readings invalid_readings mul_questions strings_questions places_taken last_to places_taken_of_records product_record identity_tableau with_ximage with_zimage identity_record set_xrecord set_zrecord images_record answered reply_to refusal_reply ask ◌and_then◌ byte_question pair_questions first_place first_bad bytes_question string_questions room_question width_question length_question tableau_questions apply_questions apply_answer compose_questions compose_answer inverse_answer gate_question compose_gate_questions record_length negate turn ◌·◌ conjugate is_real sign minus_one_to letter_product letter_phase letter_mul anticommute qubits product_to count_to phase_of_letters mul identity_string scale single anticommuting_places commute commutation_sign row_image image_of apply_to apply widen compose all_to valid_qubit valid_pair is_valid has_x has_z transposed inverse_row inverse letter_of_bits string_bytes one_qubit_gates two_qubit_gates image_string gate_on_each on_qubit pair_string pair_row on_qubits one_qubit_gate two_qubit_gate gate_tableau same_bit same_letter has_minus same_phase matches_image matches first_with name_of compose_gate listed phase_byte letter_byte phase_of letter_of encode_string decode_string string_record string_of product_phase_byte product_letter_byte phase_bytes_product row_length encode_row decode_row row_offset row_of joined tableau_record row_part tableau_of record_valid apply_record compose_record inverse_record gate_record record_name letter_place letter_in letters_of row_question rows_question weights_question true_weight first_false weight_to has_letter not_i
+unfolding readings invalid_readings mul_questions strings_questions places_taken last_to places_taken_of_records product_record identity_tableau with_x_image with_z_image identity_record set_x_record set_z_record images_record answered reply_to refusal_reply ask ◌and_then◌ byte_question pair_questions first_place first_bad bytes_question string_questions room_question width_question length_question tableau_questions apply_questions apply_answer compose_questions compose_answer inverse_answer gate_question compose_gate_questions record_length negate turn ◌·◌ conjugate is_real sign minus_one_to letter_product letter_phase letter_mul anticommute qubits product_to count_to phase_of_letters mul identity_string scale single anticommuting_places commute commutation_sign row_image image_of apply_to apply widen compose all_to valid_qubit valid_pair is_valid has_x has_z transposed inverse_row inverse letter_of_bits string_bytes one_qubit_gates two_qubit_gates image_string gate_on_each on_qubit pair_string pair_row on_qubits one_qubit_gate two_qubit_gate gate_tableau same_bit same_letter has_minus same_phase matches_image matches first_with name_of compose_gate listed phase_byte letter_byte phase_of letter_of encode_string decode_string string_record string_of product_phase_byte product_letter_byte phase_bytes_product row_length encode_row decode_row row_offset row_of joined tableau_record row_part tableau_of record_valid apply_record compose_record inverse_record gate_record record_name letter_place letter_in letters_of row_question rows_question weights_question true_weight first_false weight_to has_letter not_i
 readings_hold = (all_of test holds readings tt, all_of test holds invalid_readings tt)

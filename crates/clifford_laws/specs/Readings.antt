@@ -12,7 +12,7 @@ use Rattle.clifford_gates.specs.Gates.{Image, plus, minus, one_qubit}
 use Rattle.clifford_gates.specs.GateTableaux.{on_qubit}
 use Rattle.clifford_gates.specs.GateNumbers.{compose_gate}
 use Rattle.clifford.specs.Layout.{longest_record, tableau_record}
-use Rattle.clifford.specs.Tableaux.{record_valid, identity_record, set_xrecord, set_zrecord, apply_record, compose_record, inverse_record}
+use Rattle.clifford.specs.Tableaux.{record_valid, identity_record, set_x_record, set_z_record, apply_record, compose_record, inverse_record}
 use Rattle.clifford.specs.Questions.{tableau_questions, apply_answer, compose_answer, inverse_answer}
 use Rattle.clifford.specs.GateQuestions.{compose_gate_questions}
 use Rattle.clifford.specs.GateAnswers.{gate_record, record_name}
@@ -102,13 +102,13 @@ x1 = string_bytes 0 (0 ∷ 1 ∷ [])
 -- The identity with one image replaced, so that one part of the rule of validity is broken and all else holds: X0 to +i X0, a phase
 -- that is not real; Z0 to X0, which commutes with the image of X0; X1 to Z0 X1, which does not commute with that of X0.
 abbrev pub phase_broken : List ℕ
-phase_broken = set_xrecord (identity_record 1) 0 (string_bytes 2 (1 ∷ []))
+phase_broken = set_x_record (identity_record 1) 0 (string_bytes 2 (1 ∷ []))
 
 abbrev pub qubit_broken : List ℕ
-qubit_broken = set_zrecord (identity_record 1) 0 x0
+qubit_broken = set_z_record (identity_record 1) 0 x0
 
 abbrev pub pair_broken : List ℕ
-pair_broken = set_xrecord (identity_record 2) 1 (string_bytes 0 (2 ∷ 1 ∷ []))
+pair_broken = set_x_record (identity_record 2) 1 (string_bytes 0 (2 ∷ 1 ∷ []))
 
 unfoldable pub invalid_readings : List Reading
 invalid_readings =
