@@ -1,13 +1,11 @@
 -- The questions put to tableaux: what is let by, and what an answer says of the bytes.
-use Rattle.std.proofs.Common.{◌≡◌, ℕ, zero, suc, ◌+◌, ◌-◌, ◌*◌, ◌<◌, ◌≤◌, min, Bool, true, false, cond, not, ltb, leb, List, [], ◌∷◌, length, get_or, sym, refl, ap, ◌∙◌, ap₂, not-suc-le-zero, add-one, arith, rules, ltb-false, ltb-true, le-ltb, lt-ltb, eq-eqb, ne_eqb, eqb-true, le-leb, leb-true}
+use Rattle.std.proofs.Common.{◌≡◌, ℕ, zero, suc, ◌+◌, ◌-◌, ◌*◌, ◌<◌, ◌≤◌, min, Bool, true, false, cond, not, ltb, leb, List, [], ◌∷◌, length, get_or, sym, refl, ap, ◌∙◌, ap₂, not-suc-le-zero, add-one, arith, rules, ltb-false, ltb-true, le-ltb, lt-ltb, eq-eqb, ne_eqb, eqb-true, le-leb, leb-true, Ok, Err}
 use native.Mathlib.Decide.{ℕ_discrete, dec_lt}
 use borrow.Author.Tests.{lt-leb, not-false}
 use Rattle.pauli_group.specs.PauliString.{qubits, weight_to}
 use Rattle.clifford_group.specs.Tableau.{Tableau, Proper}
 use Rattle.pauli.specs.declared.refusal.Refusal.{Refusal}
 use Rattle.pauli.specs.declared.refusal.Refusal.TheVariants.{Width, Length, BadByte, Slot, FalseWeight}
-use Rattle.pauli.specs.declared.refusal.Outcome.{Outcome}
-use Rattle.pauli.specs.declared.refusal.Outcome.TheVariants.{Done, Refused}
 use Rattle.pauli.specs.Places.{first_place}
 use Rattle.pauli.specs.Questions.{ask, ◌and_then◌, first_bad, bytes_question}
 use Rattle.pauli.proofs.Asking.{asked_yes, asked_no, ask_done, refused, passed, done_first, done_second, questions}
@@ -18,52 +16,53 @@ use Rattle.clifford.specs.declared.layout.RowCheck.{RowCheck}
 use Rattle.clifford.specs.Questions.{width_question, length_question, row_question, rows_question, true_weight, first_false, weights_question, tableau_questions, slot_question}
 use Rattle.clifford.proofs.Rows.{letters-at, letters-long, length_part, row_part_lem}
 use Rattle.clifford.proofs.Records.{record-small, longest-is, record_there, record-formed, proper_of}
+use Rattle.pauli.specs.Answers.{Outcome}
 
 -- ---- width, length, slot
-pub width-wide : {n : ℕ} → 128 < n → Refused Width ≡ width_question n
+pub width-wide : {n : ℕ} → 128 < n → Err Width ≡ width_question n
 unfolding width_question qubits
 width-wide {n} h = asked_no Width (lt-leb n 128 h)
 
-pub width_narrow : {n : ℕ} → n ≤ 128 → Done ≡ width_question n
+pub width_narrow : {n : ℕ} → n ≤ 128 → Ok tt ≡ width_question n
 unfolding width_question qubits
 width_narrow {n} h = asked_yes Width (le-leb n 128 h)
 
-pub width_is : (n : ℕ) → width_question n ≡ Done → n ≤ 128
+pub width_is : (n : ℕ) → width_question n ≡ Ok tt → n ≤ 128
 unfolding width_question qubits
 width_is n e = leb-true n 128 (ask_done _ _ e)
 
-pub width_done : {n : ℕ} {r : Outcome} → r ≡ width_question n → r ≡ Done → n ≤ 128
+pub width_done : {n : ℕ} {r : Outcome} → r ≡ width_question n → r ≡ Ok tt → n ≤ 128
 width_done {n} p h = width_is n (sym p ∙ h)
 
-pub slot_in : {slot w : ℕ} → slot < w → Done ≡ slot_question slot w
+pub slot_in : {slot w : ℕ} → slot < w → Ok tt ≡ slot_question slot w
 unfolding slot_question
 slot_in {slot} {w} h = asked_yes (Slot slot w) (lt-ltb slot w h)
 
-pub slot-out : {slot w : ℕ} → w ≤ slot → Refused (Slot slot w) ≡ slot_question slot w
+pub slot-out : {slot w : ℕ} → w ≤ slot → Err (Slot slot w) ≡ slot_question slot w
 unfolding slot_question
 slot-out {slot} {w} h = asked_no (Slot slot w) (le-ltb slot w h)
 
-pub slot_is : (slot w : ℕ) → slot_question slot w ≡ Done → slot < w
+pub slot_is : (slot w : ℕ) → slot_question slot w ≡ Ok tt → slot < w
 unfolding slot_question
 slot_is slot w e = ltb-true slot w (ask_done _ _ e)
 
 -- ---- one row
 -- of a list of bytes: the first bad one is what the question names
-pub bytes_bad : (base : ℕ) (s : List ℕ) → first_bad s < length s → Refused (BadByte (base + first_bad s)) ≡ bytes_question base s
+pub bytes_bad : (base : ℕ) (s : List ℕ) → first_bad s < length s → Err (BadByte (base + first_bad s)) ≡ bytes_question base s
 unfolding bytes_question
 bytes_bad base s h = asked_no (BadByte (base + first_bad s)) (lt-leb (length s) (first_bad s) h)
 
-pub bytes_good : (base : ℕ) (s : List ℕ) → length s ≤ first_bad s → Done ≡ bytes_question base s
+pub bytes_good : (base : ℕ) (s : List ℕ) → length s ≤ first_bad s → Ok tt ≡ bytes_question base s
 unfolding bytes_question
 bytes_good base s h = asked_yes (BadByte (base + first_bad s)) (le-leb (length s) (first_bad s) h)
 
-bytes_small : (base : ℕ) (s : List ℕ) → bytes_question base s ≡ Done → (k : ℕ) → k < length s → get_or s k 0 ≤ 3
+bytes_small : (base : ℕ) (s : List ℕ) → bytes_question base s ≡ Ok tt → (k : ℕ) → k < length s → get_or s k 0 ≤ 3
 unfolding bytes_question first_bad
 bytes_small base s e k h =
     let all : length s ≤ first_place (length s) (λ j. ltb 3 (get_or s j 0)) = leb-true _ _ (ask_done _ _ e) in
     ltb-false 3 (get_or s k 0) (first-before (length s) (λ j. ltb 3 (get_or s j 0)) k (omega arith))
 
-small_bytes : (base : ℕ) (s : List ℕ) → ((k : ℕ) → k < length s → get_or s k 0 ≤ 3) → bytes_question base s ≡ Done
+small_bytes : (base : ℕ) (s : List ℕ) → ((k : ℕ) → k < length s → get_or s k 0 ≤ 3) → bytes_question base s ≡ Ok tt
 small_bytes base s small = sym (bytes_good base s (omega (arith, all)))
   where
     never : length s < length s → ⊥
@@ -74,7 +73,7 @@ small_bytes base s small = sym (bytes_good base s (omega (arith, all)))
         first-is (length s) (λ j. ltb 3 (get_or s j 0)) (length s) (omega arith) (λ k h. le-ltb 3 (get_or s k 0) (small k h)) (λ h. absurd (never h))
 
 -- what is let by, with a true weight, is a formed row
-row_question-formed : (w start : ℕ) (b : List ℕ) → length b ≡ row_length w → row_question start b ≡ Done → get_or b weight_place 0 ≡ weight_to w (decode_row w b) → FormedRow w b
+row_question-formed : (w start : ℕ) (b : List ℕ) → length b ≡ row_length w → row_question start b ≡ Ok tt → get_or b weight_place 0 ≡ weight_to w (decode_row w b) → FormedRow w b
 unfolding row_question
 row_question-formed w start b long e v = record {
   long = long;
@@ -83,7 +82,7 @@ row_question-formed w start b long e v = record {
   weight = v;
 }
 
-formed-row_question : {w : ℕ} (start : ℕ) {b : List ℕ} → FormedRow w b → row_question start b ≡ Done
+formed-row_question : {w : ℕ} (start : ℕ) {b : List ℕ} → FormedRow w b → row_question start b ≡ Ok tt
 unfolding row_question
 formed-row_question {w} start {b} f = sym (
     passed (asked_yes (BadByte start) (le-leb (get_or b 0 0) 3 f.phase)) refl
@@ -94,19 +93,19 @@ asked-rows : (k : ℕ) (b : List ℕ) → rows_question (suc k) b ≡ rows_quest
 unfolding rows_question
 asked-rows k b = refl
 
-rows_each : (k : ℕ) (b : List ℕ) → rows_question k b ≡ Done → (r : ℕ) → r < k → row_question (row_offset (width_of b) r) (row_part b r) ≡ Done
+rows_each : (k : ℕ) (b : List ℕ) → rows_question k b ≡ Ok tt → (r : ℕ) → r < k → row_question (row_offset (width_of b) r) (row_part b r) ≡ Ok tt
 rows_each zero b e r h = absurd (not-suc-le-zero h)
 rows_each (suc k) b e r h = elim (ℕ_discrete r k) [
   | yes d ↦ ap (λ (j : ℕ). row_question (row_offset (width_of b) j) (row_part b j)) d ∙ done_second (rows_question k b) _ (sym (asked-rows k b) ∙ e)
   | no d ↦ rows_each k b (done_first _ _ (sym (asked-rows k b) ∙ e)) r (omega arith)
 ]
 
-each_rows : (k : ℕ) (b : List ℕ) → ((r : ℕ) → r < k → row_question (row_offset (width_of b) r) (row_part b r) ≡ Done) → rows_question k b ≡ Done
+each_rows : (k : ℕ) (b : List ℕ) → ((r : ℕ) → r < k → row_question (row_offset (width_of b) r) (row_part b r) ≡ Ok tt) → rows_question k b ≡ Ok tt
 each_rows zero b h = unfold rows_question in refl
 each_rows (suc k) b h = asked-rows k b ∙ sym (passed (sym (each_rows k b (λ r l. h r (omega arith)))) refl (sym (h k (omega arith))))
 
 -- a refusal stays
-rows_stay : (k m : ℕ) (b : List ℕ) {x : Refusal} → rows_question k b ≡ Refused x → rows_question (k + m) b ≡ Refused x
+rows_stay : (k m : ℕ) (b : List ℕ) {x : Refusal} → rows_question k b ≡ Err x → rows_question (k + m) b ≡ Err x
 rows_stay k zero b e = (let z : k + 0 ≡ k = omega arith in ap (λ (j : ℕ). rows_question j b) z) ∙ e
 rows_stay k (suc m) b {x} e =
     let z : k + suc m ≡ suc (k + m) = omega arith in
@@ -128,7 +127,7 @@ first_kept f {n} {i} {p} {q} m h e = by (f i) refl e
 pub record RowsGood (b : List ℕ) (n p r : ℕ) : Type 0 where
   pub wide : n ≡ 2 * width_of b
   pub within : r ≤ n
-  pub asked : rows_question r b ≡ Done
+  pub asked : rows_question r b ≡ Ok tt
   pub weighed : FirstSeen n (λ k. not (true_weight b k)) r p
 
 pub rows_start : (b : List ℕ) {n : ℕ} → n ≡ width_of b → RowsGood b (2 * n) (2 * n) 0
@@ -136,7 +135,7 @@ unfolding rows_question
 rows_start b {n} e = record { wide = ap (λ (j : ℕ). 2 * j) e; within = omega arith; asked = refl; weighed = first_start (2 * n) _ }
 
 module _ {b : List ℕ} {n p r : ℕ} (m : RowsGood b n p r) where
-  pub rows_done : n ≤ r → Done ≡ rows_question (2 * width_of b) b
+  pub rows_done : n ≤ r → Ok tt ≡ rows_question (2 * width_of b) b
   rows_done h = let e : r ≡ 2 * width_of b = omega (arith, m.within, m.wide) in sym m.asked ∙ ap (λ (j : ℕ). rows_question j b) e
 
   pub rows-weighed : Laid b → n ≤ r → FirstFalse b p
@@ -154,7 +153,7 @@ module _ {b : List ℕ} {n p r : ℕ} (m : RowsGood b n p r) where
       next : c.codes ≡ rows_question (suc r) b
       next = passed (sym m.asked) refl e.codes ∙ sym (asked-rows r b)
 
-      pub rows_more : c.codes ≡ Done → {q : ℕ} → q ≡ kept_first p n r c.weighed → RowsGood b n q (r + 1)
+      pub rows_more : c.codes ≡ Ok tt → {q : ℕ} → q ≡ kept_first p n r c.weighed → RowsGood b n q (r + 1)
       rows_more d {q} k = record {
         wide = m.wide;
         within = omega arith;
@@ -162,7 +161,7 @@ module _ {b : List ℕ} {n p r : ℕ} (m : RowsGood b n p r) where
         weighed = first_kept (true_weight b) m.weighed h (k ∙ ap (kept_first p n r) e.weighed);
       }
 
-      pub rows-refused : {x : Refusal} → c.codes ≡ Refused x → c.codes ≡ rows_question (2 * width_of b) b and_then weights_question b
+      pub rows-refused : {x : Refusal} → c.codes ≡ Err x → c.codes ≡ rows_question (2 * width_of b) b and_then weights_question b
       rows-refused {x} d =
           let z : suc r + (n - suc r) ≡ 2 * width_of b = omega (arith, m.wide) in
           refused _ (d ∙ sym (rows_stay (suc r) (n - suc r) b (sym next ∙ d)) ∙ ap (λ (j : ℕ). rows_question j b) z) d
@@ -186,18 +185,18 @@ laid-narrow l e = omega (arith, l.narrow)
 
 -- ---- weights
 module _ (b : List ℕ) where
-  pub weights_all : first_false b ≡ 2 * width_of b → Done ≡ weights_question b
+  pub weights_all : first_false b ≡ 2 * width_of b → Ok tt ≡ weights_question b
   unfolding weights_question
   weights_all h = asked_yes (FalseWeight _) (le-leb (2 * width_of b) (first_false b) (omega arith))
 
-  pub weights_each : weights_question b ≡ Done → (r : ℕ) → r < 2 * width_of b → get_or (row_part b r) weight_place 0 ≡ weight_to (width_of b) (decode_row (width_of b) (row_part b r))
+  pub weights_each : weights_question b ≡ Ok tt → (r : ℕ) → r < 2 * width_of b → get_or (row_part b r) weight_place 0 ≡ weight_to (width_of b) (decode_row (width_of b) (row_part b r))
   unfolding weights_question first_false true_weight
   weights_each e r h =
       let all : 2 * width_of b ≤ first_false b = leb-true _ _ (ask_done _ _ e) in
       eqb-true _ _ (not-false _ (first-before (2 * width_of b) (λ r. not (true_weight b r)) r (omega arith)))
       ∙ ap (weight_to (width_of b)) (row_part_lem b r h)
 
-  formed_weights : FormedTableau b → weights_question b ≡ Done
+  formed_weights : FormedTableau b → weights_question b ≡ Ok tt
   unfolding first_false true_weight
   formed_weights f = sym (weights_all (sym (first-is (2 * width_of b) (λ r. not (true_weight b r)) (2 * width_of b) (omega arith)
       (λ r h. ap not (eq-eqb _ _ ((f.rows r h).weight ∙ ap (weight_to (width_of b)) (sym (row_part_lem b r h))))) (λ h. absurd (never h)))))
@@ -213,20 +212,20 @@ module _ {b : List ℕ} {p : ℕ} (o : FirstFalse b p) {n : ℕ} (e : n ≡ widt
   pub false_index : p < 2 * n → RowIndex n p
   false_index h = record { narrow = false-narrow; own = h }
 
-  pub false-row : {at : ℕ} → p < 2 * n → Sized (row_offset n p) at → Refused (FalseWeight (at + 1)) ≡ weights_question b
+  pub false-row : {at : ℕ} → p < 2 * n → Sized (row_offset n p) at → Err (FalseWeight (at + 1)) ≡ weights_question b
   unfolding weights_question
   false-row h s =
-      ap (λ (k : ℕ). Refused (FalseWeight (k + weight_place))) (s.is ∙ ap₂ row_offset e o.is)
+      ap (λ (k : ℕ). Err (FalseWeight (k + weight_place))) (s.is ∙ ap₂ row_offset e o.is)
       ∙ asked_no (FalseWeight _) (lt-leb (2 * width_of b) (first_false b) (omega (arith, o.is)))
 
-  pub false-none : 2 * n ≤ p → Done ≡ weights_question b
+  pub false-none : 2 * n ≤ p → Ok tt ≡ weights_question b
   unfolding weights_question
   false-none h = asked_yes (FalseWeight _) (le-leb (2 * width_of b) (first_false b) (omega (arith, o.is)))
 
 pub ruleset false-rows = (false-narrow, false_index, false-row, false-none, rules)
 
 -- ---- all of them
-pub tableau-none : (b : List ℕ) → length b ≡ 0 → Refused Length ≡ tableau_questions b
+pub tableau-none : (b : List ℕ) → length b ≡ 0 → Err Length ≡ tableau_questions b
 unfolding tableau_questions
 tableau-none b e = refused _ (asked_no Length (le-ltb 0 (length b) (omega arith))) refl
 
@@ -235,26 +234,26 @@ width-none [] e = refl
 width-none (x ∷ b) e = absurd (omega arith)
 
 module _ (b : List ℕ) (some : length b ≡ 0 → ⊥) where
-  first_done : Done ≡ ask (ltb 0 (length b)) Length
+  first_done : Ok tt ≡ ask (ltb 0 (length b)) Length
   first_done = asked_yes Length (lt-ltb 0 (length b) (omega arith))
 
-  pub tableau-wide : {r : Outcome} {n : ℕ} {x : Refusal} → n ≡ width_of b → r ≡ width_question n → r ≡ Refused x → r ≡ tableau_questions b
+  pub tableau-wide : {r : Outcome} {n : ℕ} {x : Refusal} → n ≡ width_of b → r ≡ width_question n → r ≡ Err x → r ≡ tableau_questions b
   unfolding tableau_questions
   tableau-wide w e h = passed first_done refl (refused _ (e ∙ ap width_question w) h)
 
-  pub tableau-short : {r : Outcome} {m n : ℕ} → m ≡ width_of b → r ≡ width_question m → r ≡ Done → Sized (record_length m) n → (length b ≡ n → ⊥)
-      → Refused Length ≡ tableau_questions b
+  pub tableau-short : {r : Outcome} {m n : ℕ} → m ≡ width_of b → r ≡ width_question m → r ≡ Ok tt → Sized (record_length m) n → (length b ≡ n → ⊥)
+      → Err Length ≡ tableau_questions b
   unfolding tableau_questions length_question
   tableau-short {r} {m} {n} w e h s k =
       passed first_done refl (passed (e ∙ ap width_question w) h (refused _ (asked_no Length (ne_eqb _ _ (λ z. k (z ∙ sym (s.is ∙ ap record_length w))))) refl))
 
-  pub tableau-rows : {r q : Outcome} {m n : ℕ} → m ≡ width_of b → r ≡ width_question m → r ≡ Done → Sized (record_length m) n → length b ≡ n
+  pub tableau-rows : {r q : Outcome} {m n : ℕ} → m ≡ width_of b → r ≡ width_question m → r ≡ Ok tt → Sized (record_length m) n → length b ≡ n
       → q ≡ rows_question (2 * width_of b) b and_then weights_question b → q ≡ tableau_questions b
   unfolding tableau_questions length_question
   tableau-rows {r} {q} {m} {n} w e h s k z =
       passed first_done refl (passed (e ∙ ap width_question w) h (passed (asked_yes Length (eq-eqb _ _ (k ∙ s.is ∙ ap record_length w))) refl z))
 
-pub tableau-laid : (b : List ℕ) {r : Outcome} {m n : ℕ} → m ≡ width_of b → r ≡ width_question m → r ≡ Done → Sized (record_length m) n → length b ≡ n → Laid b
+pub tableau-laid : (b : List ℕ) {r : Outcome} {m n : ℕ} → m ≡ width_of b → r ≡ width_question m → r ≡ Ok tt → Sized (record_length m) n → length b ≡ n → Laid b
 tableau-laid b {m = m} w e h s k = record { narrow = omega (arith, width_done e h); long = k ∙ s.is ∙ ap record_length w }
 
 pub ruleset tableau-questions = (
@@ -275,18 +274,18 @@ pub ruleset tableau-questions = (
 pub ruleset rows-questions = (rows_start, rows_inside, rows_more, rows-refused, rows-weighed, rows-asked, laid-narrow, rules)
 
 -- ---- what is admitted: a tableau's questions let by exactly the records of tableaux of width at most 128
-module _ (b : List ℕ) (e : tableau_questions b ≡ Done) where
-  asked : ask (ltb 0 (length b)) Length and_then width_question (width_of b) and_then length_question b and_then rows_question (2 * width_of b) b and_then weights_question b ≡ Done
+module _ (b : List ℕ) (e : tableau_questions b ≡ Ok tt) where
+  asked : ask (ltb 0 (length b)) Length and_then width_question (width_of b) and_then length_question b and_then rows_question (2 * width_of b) b and_then weights_question b ≡ Ok tt
   unfolding tableau_questions
   asked = e
 
-  after_first : width_question (width_of b) and_then length_question b and_then rows_question (2 * width_of b) b and_then weights_question b ≡ Done
+  after_first : width_question (width_of b) and_then length_question b and_then rows_question (2 * width_of b) b and_then weights_question b ≡ Ok tt
   after_first = done_second (ask (ltb 0 (length b)) Length) _ asked
 
-  after-width : length_question b and_then rows_question (2 * width_of b) b and_then weights_question b ≡ Done
+  after-width : length_question b and_then rows_question (2 * width_of b) b and_then weights_question b ≡ Ok tt
   after-width = done_second (width_question (width_of b)) _ after_first
 
-  after-length : rows_question (2 * width_of b) b and_then weights_question b ≡ Done
+  after-length : rows_question (2 * width_of b) b and_then weights_question b ≡ Ok tt
   after-length = done_second (length_question b) _ after-width
 
   long : length b ≡ record_length (width_of b)
@@ -304,10 +303,10 @@ module _ (b : List ℕ) (e : tableau_questions b ≡ Done) where
   }
 
 -- from a check's answer
-pub checked : {b : List ℕ} {r : Outcome} → r ≡ tableau_questions b → r ≡ Done → FormedTableau b
+pub checked : {b : List ℕ} {r : Outcome} → r ≡ tableau_questions b → r ≡ Ok tt → FormedTableau b
 checked {b} p h = tableau-formed b (sym p ∙ h)
 
-pub formed-good : (b : List ℕ) → FormedTableau b → tableau_questions b ≡ Done
+pub formed-good : (b : List ℕ) → FormedTableau b → tableau_questions b ≡ Ok tt
 formed-good b f = sym (
     tableau-rows b (λ z. absurd (no z f.some)) refl (width_narrow f.narrow) refl (record { is = refl; small = record-small (width_of b) f.narrow }) f.long
     (passed (sym (each_rows (2 * width_of b) b (λ r h. formed-row_question _ (f.rows r h)))) refl (sym (formed_weights b f))))
@@ -315,13 +314,13 @@ formed-good b f = sym (
     no : length b ≡ 0 → 0 < length b → ⊥
     no z p = omega arith
 
-pub tableaux_admitted : (t : Tableau) → Proper t → tableau_questions (tableau_record t) ≡ Done
+pub tableaux_admitted : (t : Tableau) → Proper t → tableau_questions (tableau_record t) ≡ Ok tt
 tableaux_admitted t p = formed-good (tableau_record t) (record-formed t p.narrow)
 
-pub admitted_tableaux : (b : List ℕ) → tableau_questions b ≡ Done → b ≡ tableau_record (tableau_of b)
+pub admitted_tableaux : (b : List ℕ) → tableau_questions b ≡ Ok tt → b ≡ tableau_record (tableau_of b)
 admitted_tableaux b e = sym (record_there (tableau-formed b e))
 
-pub admitted_proper : (b : List ℕ) → tableau_questions b ≡ Done → Proper (tableau_of b)
+pub admitted_proper : (b : List ℕ) → tableau_questions b ≡ Ok tt → Proper (tableau_of b)
 admitted_proper b e = proper_of (tableau-formed b e)
 
 -- ---- the size of a record

@@ -1,5 +1,5 @@
 -- The display text: its parts written one after another, its lines in their order, and the whole.
-use Rattle.std.proofs.Common.{◌≡◌, ℕ, zero, suc, ◌+◌, ◌-◌, ◌*◌, ◌/◌, ◌%◌, ◌<◌, ◌≤◌, min, true, false, cond, ◌&&◌, eqb, List, [], ◌∷◌, ◌++◌, length, get_or, drop, sym, refl, ap, ◌∙◌, ap₂, append_assoc, add-one, arith, length-append, drop_of_length-le, drop-cons, w64, Fits, rules, le-ltb, lt-ltb, eq-eqb, ne_eqb}
+use Rattle.std.proofs.Common.{◌≡◌, ℕ, zero, suc, ◌+◌, ◌-◌, ◌*◌, ◌/◌, ◌%◌, ◌<◌, ◌≤◌, min, true, false, cond, ◌&&◌, eqb, List, [], ◌∷◌, ◌++◌, length, get_or, drop, sym, refl, ap, ◌∙◌, ap₂, append_assoc, add-one, arith, length-append, drop_of_length-le, drop-cons, w64, Fits, rules, le-ltb, lt-ltb, eq-eqb, ne_eqb, Ok, Err}
 use native.Mathlib.Decide.{ℕ_discrete}
 use Rattle.pauli_group.specs.Phase.{◌·◌, negate, turn}
 use Rattle.pauli_group.specs.Letter.{Letter, X, Z, letter_phase, letter_mul, letter_product}
@@ -11,10 +11,7 @@ use Rattle.clifford_gates.specs.GateNumbers.{one_qubit_gate, two_qubit_gate, gat
 use Rattle.pauli.specs.QuotedText.{bytes_of}
 use Rattle.pauli.specs.Places.{listed}
 use Rattle.pauli.specs.declared.refusal.Refusal.{Refusal}
-use Rattle.pauli.specs.declared.refusal.Outcome.{Outcome}
-use Rattle.pauli.specs.declared.refusal.Outcome.TheVariants.{Done, Refused}
-use Rattle.pauli.specs.declared.refusal.CountAnswer.TheVariants.{Count}
-use Rattle.pauli.specs.Answers.{written, CountWritten}
+use Rattle.pauli.specs.Answers.{written, CountWritten, Outcome}
 use Rattle.pauli.specs.Layout.{phase_byte, phase_of, letter_byte, letter_of}
 use Rattle.pauli.specs.Questions.{room_question}
 use Rattle.pauli.specs.Rows.{letter_at}
@@ -256,16 +253,16 @@ module _ {t d e f g : List ℕ} {n h a i k : ℕ} (x : Stored 0 (header_text n) 
 pub ruleset line_loops = (lines_none, lines_fits, lines_next, lines_index, lines_own, lines_more, lines_same, lines_all, stored_same, rules)
 
 -- ---- the questions, and what is written
-pub display_refused : (t : List ℕ) {r : Outcome} {x : Refusal} (room : ℕ) → r ≡ tableau_questions t → r ≡ Refused x → r ≡ display_answer t room
+pub display_refused : (t : List ℕ) {r : Outcome} {x : Refusal} (room : ℕ) → r ≡ tableau_questions t → r ≡ Err x → r ≡ display_answer t room
 unfolding display_answer
 display_refused t room p h = refused _ p h
 
-pub display_asked : (t : List ℕ) {r q : Outcome} {n : ℕ} (room : ℕ) → r ≡ tableau_questions t → r ≡ Done → n ≡ length (text_of_tableau t) → q ≡ room_question n room
+pub display_asked : (t : List ℕ) {r q : Outcome} {n : ℕ} (room : ℕ) → r ≡ tableau_questions t → r ≡ Ok tt → n ≡ length (text_of_tableau t) → q ≡ room_question n room
     → q ≡ display_answer t room
 unfolding display_answer
 display_asked t room p h c q = passed p h (q ∙ ap (λ (k : ℕ). room_question k room) c)
 
-module _ (t d : List ℕ) {r : Outcome} (p : r ≡ display_answer t (length d)) (h : r ≡ Done) where
+module _ (t d : List ℕ) {r : Outcome} (p : r ≡ display_answer t (length d)) (h : r ≡ Ok tt) where
   pub display_formed : FormedTableau t
   unfolding display_answer
   display_formed = tableau-formed t (done_first _ _ (sym p ∙ h))
@@ -274,7 +271,7 @@ module _ (t d : List ℕ) {r : Outcome} (p : r ≡ display_answer t (length d)) 
   unfolding display_answer
   room = room-is _ (length d) (done_second (tableau_questions t) _ (sym p ∙ h))
 
-  pub display_done : {e : List ℕ} {n : ℕ} → TextWritten (text_of_tableau t) d e n → CountWritten (display_answer t (length d)) (text_of_tableau t) d e (Count n)
+  pub display_done : {e : List ℕ} {n : ℕ} → TextWritten (text_of_tableau t) d e n → CountWritten (display_answer t (length d)) (text_of_tableau t) d e (Ok n)
   display_done a = count-done p h a.count (a.bytes ∙ copied-whole (text_of_tableau t) d room)
 
 pub ruleset displays = (checked, display_refused, display_asked, display_formed, display_done, text_same, answers, rules)
@@ -328,7 +325,7 @@ pub display_named : (t : Tableau) → starts_with name_text (display_text t) ≡
 display_named t = ap (starts_with name_text) (named t) ∙ starts_append name_text _
 
 -- and so does a destination to which one was written
-pub written_named : (t d : List ℕ) → starts_with name_text (written Done (text_of_tableau t) d) ≡ true
+pub written_named : (t d : List ℕ) → starts_with name_text (written (Ok tt) (text_of_tableau t) d) ≡ true
 unfolding written text_of_tableau
 written_named t d =
     let rest = (decimal (tableau_of t).width ++ qubits_text) ++ (10 ∷ lines_text (tableau_of t) (2 * (tableau_of t).width)) in

@@ -1,5 +1,5 @@
 -- The answers of the functions on gates.
-use Rattle.std.proofs.Common.{◌≡◌, ℕ, suc, ◌+◌, ◌<◌, ◌≤◌, Bool, true, false, cond, ltb, List, length, get_or, sym, refl, ap, ◌∙◌, subst, ap₂, arith, w64, Fits, rules, le-ltb, lt-ltb}
+use Rattle.std.proofs.Common.{◌≡◌, ℕ, suc, ◌+◌, ◌<◌, ◌≤◌, Bool, true, false, cond, ltb, List, length, get_or, sym, refl, ap, ◌∙◌, subst, ap₂, arith, w64, Fits, rules, le-ltb, lt-ltb, Ok, Err, Some, None, Option}
 use Rattle.pauli_group.specs.PauliString.{qubits}
 use Rattle.clifford_gates.specs.GateTableaux.{on_qubit}
 use Rattle.clifford_gates.specs.GateNumbers.{one_qubit_gate, gate_tableau, single_qubit_clifford, inverse_gate, inverse_numbers, product_gates}
@@ -7,13 +7,9 @@ use Rattle.clifford_gates.proofs.GateNames.{gate-one}
 use Rattle.clifford_gates.proofs.GateInverses.{inverse_numbers_lem}
 use Rattle.clifford_gates.proofs.Products24.{products, product_small}
 use Rattle.pauli.specs.declared.refusal.Refusal.{Refusal}
-use Rattle.pauli.specs.declared.refusal.Outcome.{Outcome}
-use Rattle.pauli.specs.declared.refusal.Outcome.TheVariants.{Done, Refused}
-use Rattle.pauli.specs.Answers.{reply_to, Written}
+use Rattle.pauli.specs.Answers.{reply_to, Written, Outcome, Answer}
 use Rattle.pauli.specs.Questions.{◌and_then◌, qubit_question, room_question}
 use Rattle.pauli.proofs.Asking.{done_first, done_second, qubit-below}
-use Rattle.clifford.specs.declared.clifford.GateAnswer.{GateAnswer}
-use Rattle.clifford.specs.declared.clifford.GateAnswer.TheVariants.{Named, Unnamed, GateRefused}
 use Rattle.clifford.specs.Layout.{record_length, tableau_record}
 use Rattle.clifford_group.specs.Tableau.{Same, widen}
 use Rattle.clifford_group.proofs.Same.{same_sym, same_trans}
@@ -28,7 +24,7 @@ use Rattle.clifford.proofs.GateWriting.{gate-width, width_one, widened_own}
 use Rattle.clifford.proofs.Answers.{made-answer, refused-answer}
 
 -- ---- a one-qubit gate on its qubit, or a product of this index
-module _ (g q : ℕ) {u v x : Outcome} (eu : u ≡ gate_question 24 g) (ev : v ≡ qubit_question q) (ex : x ≡ (u and_then v)) (h : x ≡ Done) where
+module _ (g q : ℕ) {u v x : Outcome} (eu : u ≡ gate_question 24 g) (ev : v ≡ qubit_question q) (ex : x ≡ (u and_then v)) (h : x ≡ Ok tt) where
   p : x ≡ on_qubit_questions g q
   unfolding on_qubit_questions
   p = ex ∙ ap₂ ◌and_then◌ eu ev
@@ -85,7 +81,7 @@ module _ (g q : ℕ) {u v x : Outcome} (eu : u ≡ gate_question 24 g) (ev : v �
       (same_trans _ _ _ (copy n (omega (arith, en, product_small g one-small)))
       (subst (λ (j : ℕ). Same (on_qubit (one_qubit_gate j) q) (single_qubit_clifford g q)) (sym en) (same_sym _ _ (products g q one-small one_below)))) o
 
-module _ (g q : ℕ) {u v x : Outcome} {y : Refusal} (d : List ℕ) (eu : u ≡ gate_question 24 g) (ev : v ≡ qubit_question q) (ex : x ≡ (u and_then v)) (h : x ≡ Refused y) where
+module _ (g q : ℕ) {u v x : Outcome} {y : Refusal} (d : List ℕ) (eu : u ≡ gate_question 24 g) (ev : v ≡ qubit_question q) (ex : x ≡ (u and_then v)) (h : x ≡ Err y) where
   not : (out : List ℕ) → Written (on_qubit_answer g q (length d)) out d d x
   unfolding on_qubit_answer on_qubit_questions
   not out = refused-answer _ out d (ex ∙ ap₂ ◌and_then◌ eu ev) h
@@ -101,28 +97,28 @@ pub ruleset one_qubit_answers = (one-small, one-fits, one-makes, product-makes, 
 -- ---- names
 name_told : (q : Outcome) (n : ℕ) → gate_reply (name_answer q n) ≡ reply_to q (cond (ltb n 24) n 255)
 unfolding gate_reply name_answer reply_to
-name_told Done n = by (ltb n 24)
+name_told (Ok tt) n = by (ltb n 24)
   where
-    by : (b : Bool) → gate_reply (cond b (Named n) Unnamed) ≡ reply_to Done (cond b n 255)
+    by : (b : Bool) → gate_reply (cond b (Ok (Some n)) (Ok None)) ≡ reply_to (Ok tt) (cond b n 255)
     by true = refl
     by false = refl
-name_told (Refused r) n = refl
+name_told (Err r) n = refl
 
-name_answered : {q : Outcome} {n : ℕ} {r : GateAnswer} → r ≡ name_answer q n → NameAnswered q n r
+name_answered : {q : Outcome} {n : ℕ} {r : Answer (Option ℕ)} → r ≡ name_answer q n → NameAnswered q n r
 name_answered {q} {n} e = record { answer = e; told = ap gate_reply e ∙ name_told q n }
 
-module _ {q a : Outcome} {n m : ℕ} (e : a ≡ q) (f : a ≡ Done) (h : NameIs n m) where
-  name_is : (b : Bool) → ltb m 24 ≡ b → NameAnswered q n (cond b (Named m) Unnamed)
+module _ {q a : Outcome} {n m : ℕ} (e : a ≡ q) (f : a ≡ Ok tt) (h : NameIs n m) where
+  name_is : (b : Bool) → ltb m 24 ≡ b → NameAnswered q n (cond b (Ok (Some m)) (Ok None))
   unfolding name_answer
-  name_is b l = name_answered (ap (λ c. cond c (Named m) Unnamed) (sym l) ∙ ap₂ name_answer (sym f ∙ e) h.is)
+  name_is b l = name_answered (ap (λ c. cond c (Ok (Some m)) (Ok None)) (sym l) ∙ ap₂ name_answer (sym f ∙ e) h.is)
 
-  pub name_some : m < 24 → NameAnswered q n (Named m)
+  pub name_some : m < 24 → NameAnswered q n (Ok (Some m))
   name_some l = name_is true (lt-ltb m 24 l)
 
-  pub name_none : 24 ≤ m → NameAnswered q n Unnamed
+  pub name_none : 24 ≤ m → NameAnswered q n (Ok None)
   name_none l = name_is false (le-ltb m 24 l)
 
-pub name_refused : {q a : Outcome} {x : Refusal} (n : ℕ) → a ≡ q → a ≡ Refused x → NameAnswered q n (GateRefused x)
+pub name_refused : {q a : Outcome} {x : Refusal} (n : ℕ) → a ≡ q → a ≡ Err x → NameAnswered q n (Err x)
 unfolding name_answer
 name_refused n e f = name_answered (ap (λ y. name_answer y n) (sym f ∙ e))
 
@@ -131,17 +127,17 @@ pub ruleset name_answers = (checked, name_some, name_none, name_refused, rules)
 -- ---- gates by number
 gate-told : (q : Outcome) (g : ℕ) → gate_reply (gate_answer q g) ≡ reply_to q g
 unfolding gate_reply gate_answer reply_to
-gate-told Done g = refl
-gate-told (Refused r) g = refl
+gate-told (Ok tt) g = refl
+gate-told (Err r) g = refl
 
-gate-answered : {q : Outcome} {g : ℕ} {r : GateAnswer} → r ≡ gate_answer q g → GateAnswered q g r
+gate-answered : {q : Outcome} {g : ℕ} {r : Answer (Option ℕ)} → r ≡ gate_answer q g → GateAnswered q g r
 gate-answered {q} {g} e = record { answer = e; told = ap gate_reply e ∙ gate-told q g }
 
-pub gate_done : {q a : Outcome} {g n : ℕ} → a ≡ q → a ≡ Done → n ≡ g → GateAnswered q g (Named n)
+pub gate_done : {q a : Outcome} {g n : ℕ} → a ≡ q → a ≡ Ok tt → n ≡ g → GateAnswered q g (Ok (Some n))
 unfolding gate_answer
-gate_done {q} {a} {g} e f h = gate-answered (ap Named h ∙ ap (λ y. gate_answer y g) (sym f ∙ e))
+gate_done {q} {a} {g} e f h = gate-answered (ap Ok (Some h) ∙ ap (λ y. gate_answer y g) (sym f ∙ e))
 
-pub gate-not : {q a : Outcome} {x : Refusal} (g : ℕ) → a ≡ q → a ≡ Refused x → GateAnswered q g (GateRefused x)
+pub gate-not : {q a : Outcome} {x : Refusal} (g : ℕ) → a ≡ q → a ≡ Err x → GateAnswered q g (Err x)
 unfolding gate_answer
 gate-not g e f = gate-answered (ap (λ y. gate_answer y g) (sym f ∙ e))
 
@@ -149,13 +145,13 @@ pub gates_asked : (g h : ℕ) {a b x : Outcome} → x ≡ (a and_then b) → a �
 unfolding compose_gate_questions
 gates_asked g h ex ea eb = ex ∙ ap₂ ◌and_then◌ ea eb
 
-pub gates_small : (g h : ℕ) {x : Outcome} (a b : Outcome) → x ≡ (a and_then b) → x ≡ Done → a ≡ gate_question 24 g → b ≡ gate_question 24 h → BothSmall g h
+pub gates_small : (g h : ℕ) {x : Outcome} (a b : Outcome) → x ≡ (a and_then b) → x ≡ Ok tt → a ≡ gate_question 24 g → b ≡ gate_question 24 h → BothSmall g h
 gates_small g h a b ex f ea eb = record { first = gate-below 24 g (sym ea ∙ done_first a b (sym ex ∙ f)); second = gate-below 24 h (sym eb ∙ done_second a b (sym ex ∙ f)) }
 
-pub gate-number : (g : ℕ) {a : Outcome} → a ≡ gate_question 38 g → a ≡ Done → g < 38
+pub gate-number : (g : ℕ) {a : Outcome} → a ≡ gate_question 38 g → a ≡ Ok tt → g < 38
 gate-number g e f = gate-below 38 g (sym e ∙ f)
 
-pub inverse-is : (g : ℕ) {a : Outcome} {n : ℕ} → a ≡ gate_question 38 g → a ≡ Done → n ≡ get_or inverse_numbers g 0 → n ≡ inverse_gate g
+pub inverse-is : (g : ℕ) {a : Outcome} {n : ℕ} → a ≡ gate_question 38 g → a ≡ Ok tt → n ≡ get_or inverse_numbers g 0 → n ≡ inverse_gate g
 inverse-is g e f h = h ∙ sym (inverse_numbers_lem g (gate-below 38 g (sym e ∙ f)))
 
 pub name_of-gate : {n r : ℕ} → NameIs n r → r ≡ n

@@ -1,14 +1,11 @@
 -- Images handed out: the row's own part of the record, and no bytes exactly where the questions refuse.
-use Rattle.std.proofs.Common.{◌≡◌, ℕ, ◌+◌, ◌*◌, ◌<◌, List, [], length, sym, refl, ap, ◌∙◌, ap₂, arith, w64, Fits, rules}
+use Rattle.std.proofs.Common.{◌≡◌, ℕ, ◌+◌, ◌*◌, ◌<◌, List, [], length, sym, refl, ap, ◌∙◌, ap₂, arith, w64, Fits, rules, Ok, Err}
 use Rattle.pauli.specs.declared.refusal.Refusal.{Refusal}
-use Rattle.pauli.specs.declared.refusal.Outcome.{Outcome}
-use Rattle.pauli.specs.declared.refusal.Outcome.TheVariants.{Done, Refused}
 use Rattle.pauli.specs.Questions.{◌and_then◌}
 use Rattle.pauli.proofs.Asking.{done_first, done_second}
 use Rattle.clifford.specs.Answers.{part_answer}
 use Rattle.clifford.specs.Layout.{row_offset, encode_row, row_of, width_of, row_part, tableau_of}
-use Rattle.pauli.specs.declared.refusal.CountAnswer.TheVariants.{Count}
-use Rattle.pauli.specs.Answers.{CountAnswered}
+use Rattle.pauli.specs.Answers.{CountAnswered, Outcome}
 use Rattle.pauli.proofs.Answers.{counted-done, counted-not}
 use Rattle.clifford.specs.Questions.{tableau_questions, slot_question, image_questions}
 use Rattle.clifford.specs.Inside.Rows.{OwnRow, RowIndex, Sized}
@@ -22,8 +19,8 @@ pub image_asked : (t : List ℕ) (slot : ℕ) {w : ℕ} {a b r : Outcome} → a 
 unfolding image_questions
 image_asked t slot ea ew eb er = er ∙ ap₂ ◌and_then◌ ea (eb ∙ ap (slot_question slot) ew)
 
-module _ (t : List ℕ) (slot : ℕ) {r : Outcome} (p : r ≡ image_questions t slot) (h : r ≡ Done) where
-  both : tableau_questions t and_then slot_question slot (width_of t) ≡ Done
+module _ (t : List ℕ) (slot : ℕ) {r : Outcome} (p : r ≡ image_questions t slot) (h : r ≡ Ok tt) where
+  both : tableau_questions t and_then slot_question slot (width_of t) ≡ Ok tt
   unfolding image_questions
   both = sym p ∙ h
 
@@ -63,7 +60,7 @@ module _ (t : List ℕ) (slot : ℕ) {r : Outcome} (p : r ≡ image_questions t 
       sym (z_handed refl refl) ∙ sym (row_there (own_x.tableau.rows (width_of t + slot) own))
       ∙ ap (encode_row (width_of t)) (sym (row_part_lem t (width_of t + slot) own) ∙ ap (λ (j : ℕ). row_of (tableau_of t) (j + slot)) (sym (width_of_lem t)) ∙ row-z (tableau_of t) slot)
 
-module _ (t : List ℕ) (slot : ℕ) {r : Outcome} {x : Refusal} (p : r ≡ image_questions t slot) (h : r ≡ Refused x) where
+module _ (t : List ℕ) (slot : ℕ) {r : Outcome} {x : Refusal} (p : r ≡ image_questions t slot) (h : r ≡ Err x) where
   empty : (l : List ℕ) → [] ≡ part_answer (image_questions t slot) l
   unfolding part_answer
   empty l = ap (λ q. part_answer q l) (sym h ∙ p)
@@ -82,26 +79,26 @@ part_some o e = omega (arith, ap length e, own-some o refl)
 
 -- ---- where it starts
 module _ (t : List ℕ) (slot : ℕ) {r : Outcome} (p : r ≡ image_questions t slot) where
-  pub x_index : {n : ℕ} → r ≡ Done → n ≡ width_of t → RowIndex n slot
+  pub x_index : {n : ℕ} → r ≡ Ok tt → n ≡ width_of t → RowIndex n slot
   x_index h e = record { narrow = omega (arith, e, (own_x t slot p h).tableau.narrow); own = omega (arith, e, (own_x t slot p h).own) }
 
-  pub z_index : {n : ℕ} → r ≡ Done → n ≡ width_of t → RowIndex n (n + slot)
+  pub z_index : {n : ℕ} → r ≡ Ok tt → n ≡ width_of t → RowIndex n (n + slot)
   z_index {n} h e = record { narrow = omega (arith, e, (own-z t slot p h e).tableau.narrow); own = omega (arith, e, (own-z t slot p h e).own) }
 
-  pub x-offset : {n at : ℕ} → r ≡ Done → n ≡ width_of t → Sized (row_offset n slot) at
-      → CountAnswered (image_questions t slot) (row_offset (width_of t) slot) (Count at)
+  pub x-offset : {n at : ℕ} → r ≡ Ok tt → n ≡ width_of t → Sized (row_offset n slot) at
+      → CountAnswered (image_questions t slot) (row_offset (width_of t) slot) (Ok at)
   x-offset h e s = counted-done p h (s.is ∙ ap (λ (j : ℕ). row_offset j slot) e)
 
-  pub z-offset : {n at : ℕ} → r ≡ Done → n ≡ width_of t → Sized (row_offset n (n + slot)) at
-      → CountAnswered (image_questions t slot) (row_offset (width_of t) (width_of t + slot)) (Count at)
+  pub z-offset : {n at : ℕ} → r ≡ Ok tt → n ≡ width_of t → Sized (row_offset n (n + slot)) at
+      → CountAnswered (image_questions t slot) (row_offset (width_of t) (width_of t + slot)) (Ok at)
   z-offset h e s = counted-done p h (s.is ∙ ap (λ (j : ℕ). row_offset j (j + slot)) e)
 
 pub ruleset image_offsets = (x_index, z_index, image_fits, x-offset, z-offset, counted-not, rules)
 
-pub x_empty : (t : List ℕ) (slot : ℕ) → x_image_part t slot ≡ [] → image_questions t slot ≡ Done → ⊥
+pub x_empty : (t : List ℕ) (slot : ℕ) → x_image_part t slot ≡ [] → image_questions t slot ≡ Ok tt → ⊥
 x_empty t slot e h = part_some (own_x t slot refl h) (x_handed t slot refl h refl ∙ e)
 
-pub z_empty : (t : List ℕ) (slot : ℕ) → z_image_part t slot ≡ [] → image_questions t slot ≡ Done → ⊥
+pub z_empty : (t : List ℕ) (slot : ℕ) → z_image_part t slot ≡ [] → image_questions t slot ≡ Ok tt → ⊥
 z_empty t slot e h = part_some (own-z t slot refl h refl) (z_handed t slot refl h refl refl ∙ e)
 
 pub ruleset images = (image_asked, own_x, own-z, own-inside, image_fits, x_handed, z_handed, x-none, z-none, rules)

@@ -1,11 +1,10 @@
 -- Validity, read off the rows of a record.
-use Rattle.std.proofs.Common.{◌≡◌, ℕ, zero, suc, ◌+◌, ◌%◌, ◌<◌, ◌≤◌, Bool, true, false, not, ◌&&◌, eqb, ltb, List, length, sym, refl, ap, ◌∙◌, ap₂, not-suc-le-zero, add-one, arith, rules, le-ltb, lt-ltb}
+use Rattle.std.proofs.Common.{◌≡◌, ℕ, zero, suc, ◌+◌, ◌%◌, ◌<◌, ◌≤◌, Bool, true, false, not, ◌&&◌, eqb, ltb, List, length, sym, refl, ap, ◌∙◌, ap₂, not-suc-le-zero, add-one, arith, rules, le-ltb, lt-ltb, Ok}
 use mathlib.Core.Bool.{and-false}
 use native.Mathlib.Decide.{ℕ_discrete}
 use Rattle.pauli_group.specs.Phase.{is_real}
 use Rattle.pauli_group.specs.PauliString.{PauliString, qubits, anticommuting_places, commute}
 use Rattle.clifford_group.specs.Tableau.{Tableau, all_to, valid_qubit, valid_pair, is_valid}
-use Rattle.pauli.specs.declared.refusal.Flag.TheVariants.{Yes, No}
 use Rattle.pauli.specs.Answers.{yes_or_no}
 use Rattle.pauli.specs.Layout.{phase_byte, phase_of}
 use Rattle.pauli.specs.Rows.{letter_at, places_of, shorter}
@@ -227,11 +226,11 @@ unfolding is_valid valid_row
 rows-valid t e m h = all_done m h ∙ ap (λ (j : ℕ). all_to j (valid_row (tableau_of t))) (e ∙ sym (width_of_lem t))
 
 -- ---- the answer
-pub valid_yes : (t : List ℕ) {b : Bool} → b ≡ is_valid (tableau_of t) → b ≡ true → Yes ≡ yes_or_no (record_valid t)
+pub valid_yes : (t : List ℕ) {b : Bool} → b ≡ is_valid (tableau_of t) → b ≡ true → (Ok true) ≡ yes_or_no (record_valid t)
 unfolding record_valid
 valid_yes t e h = sym (ap yes_or_no (sym e ∙ h))
 
-pub valid_no : (t : List ℕ) {b : Bool} → b ≡ is_valid (tableau_of t) → b ≡ false → No ≡ yes_or_no (record_valid t)
+pub valid_no : (t : List ℕ) {b : Bool} → b ≡ is_valid (tableau_of t) → b ≡ false → (Ok false) ≡ yes_or_no (record_valid t)
 unfolding record_valid
 valid_no t e h = sym (ap yes_or_no (sym e ∙ h))
 

@@ -1,5 +1,5 @@
 -- Tableaux made row by row: their widths, each row as a work row, and all of them written.
-use Rattle.std.proofs.Common.{◌≡◌, ℕ, suc, ◌*◌, ◌<◌, ◌≤◌, max, List, length, set, sym, refl, ap, ◌∙◌, subst, ap₂, arith, rules}
+use Rattle.std.proofs.Common.{◌≡◌, ℕ, suc, ◌*◌, ◌<◌, ◌≤◌, max, List, length, set, sym, refl, ap, ◌∙◌, subst, ap₂, arith, rules, Ok}
 use Rattle.pauli_group.specs.PauliString.{PauliString, qubits, single, Within}
 use Rattle.clifford_group.specs.Tableau.{Tableau, image_of, apply, widen, compose, inverse, Proper}
 use Rattle.clifford_group.specs.Conjugation.{of_x, of_z}
@@ -7,9 +7,7 @@ use Rattle.clifford_group.proofs.Images.{within_image, proper-widen}
 use Rattle.clifford_group.proofs.Compose.{row-compose, width-compose, proper-compose}
 use Rattle.clifford_group.proofs.Inverse.{width-inverse, proper-inverse}
 use Rattle.clifford_gates.specs.GateNumbers.{gate_tableau}
-use Rattle.pauli.specs.declared.refusal.Outcome.{Outcome}
-use Rattle.pauli.specs.declared.refusal.Outcome.TheVariants.{Done}
-use Rattle.pauli.specs.Answers.{written}
+use Rattle.pauli.specs.Answers.{written, Outcome}
 use Rattle.pauli.specs.Layout.{letter_byte, letter_of, encode_string, string_of}
 use Rattle.pauli.specs.Questions.{room_question}
 use Rattle.pauli.proofs.Answers.{answers}
@@ -259,7 +257,7 @@ module _ {m : Made} {a b : List ℕ} {w : ℕ} {d : List ℕ} (o : MakesAll m a 
   all_here {e = e} {at = at} rows h z = record { makes = o.makes; own = h; room = rows-room e at rows h z }
 
   pub all_written : {r : ℕ} {e : List ℕ} → RowsTo w (row_of (made_tableau m a b w)) (set d 0 w) r e → 2 * w ≤ r
-      → e ≡ written Done (tableau_record (made_tableau m a b w)) d
+      → e ≡ written (Ok tt) (tableau_record (made_tableau m a b w)) d
   all_written rows h = rows_all (made_tableau m a b w) d (made_width m a b w o.makes) rows h
 
 pub ruleset all_rows = (all_narrow, all_first, all_none, all_here, all_written, rows_start, rows_index, rows_more, rows-length, rules)
@@ -269,7 +267,7 @@ pub made_asked : (w : ℕ) {r : Outcome} {n : ℕ} (room : ℕ) → Sized (recor
 made_asked w room s e = e ∙ ap (λ (j : ℕ). room_question j room) s.is
 
 pub made_let : {m : Made} {a b : List ℕ} {w : ℕ} (d : List ℕ) {r : Outcome} {n : ℕ} → Makes m a b w → Sized (record_length w) n
-    → r ≡ room_question n (length d) → r ≡ Done → MakesAll m a b w d
+    → r ≡ room_question n (length d) → r ≡ Ok tt → MakesAll m a b w d
 made_let {w = w} d o s e h = record { makes = o; room = room-is (record_length w) (length d) (sym (made_asked w (length d) s e) ∙ h) }
 
 pub ruleset made_answers = (makes-narrow, made_asked, made_let, answers, rules)

@@ -1,5 +1,5 @@
 -- Laws of tableaux carried to their records: composition, identity and inverse, byte for byte, and strings sent through them.
-use Rattle.std.proofs.Common.{◌≡◌, ℕ, ◌≤◌, max, List, length, sym, refl, ap, ◌∙◌, ap₂, arith}
+use Rattle.std.proofs.Common.{◌≡◌, ℕ, ◌≤◌, max, List, length, sym, refl, ap, ◌∙◌, ap₂, arith, Ok}
 use Rattle.pauli_group.specs.PauliString.{qubits}
 use Rattle.clifford_group.specs.Tableau.{Tableau, identity_tableau, apply, compose, inverse, Clifford, Same}
 use Rattle.clifford_group.proofs.Apply.{apply-within}
@@ -7,7 +7,6 @@ use Rattle.clifford_group.proofs.Compose.{width-compose, apply-compose, compose_
 use Rattle.clifford_group.proofs.Identity.{width-identity, apply-identity_tableau, proper-identity, clifford_identity}
 use Rattle.clifford_group.proofs.Inverse.{width-inverse, proper-inverse, compose-inverse, clifford_inverse, inverse-compose}
 use Rattle.clifford_group.proofs.Same.{same_refl, apply-same, is_valid-same, compose-same}
-use Rattle.pauli.specs.declared.refusal.Outcome.TheVariants.{Done}
 use Rattle.pauli.specs.Layout.{string_of, string_record}
 use Rattle.pauli.specs.Questions.{string_questions}
 use Rattle.pauli.proofs.Asking.{admitted_strings}
@@ -135,7 +134,7 @@ send_compose {a} {b} ga fb s =
     ap string_record (apply-same (tableau_of (compose_record a b)) (compose A B) (composed ga.formed fb) S ∙ apply-compose A B (clifford_of ga) S
     ∙ ap (apply A) (sym (string-back (apply B S) (apply-within B (proper_of fb) S))))
 
-pub send_identity : (n : ℕ) → n ≤ qubits → (s : List ℕ) → string_questions s ≡ Done → apply_record (identity_record n) s ≡ s
+pub send_identity : (n : ℕ) → n ≤ qubits → (s : List ℕ) → string_questions s ≡ Ok tt → apply_record (identity_record n) s ≡ s
 unfolding apply_record
 send_identity n h s e =
     ap string_record (apply-same (tableau_of (identity_record n)) (identity_tableau n) (identity_of n h) (string_of s) ∙ apply-identity_tableau n (string_of s) (string-within s))

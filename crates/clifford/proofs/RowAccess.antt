@@ -1,6 +1,6 @@
 -- The functions of `layout.rt` by their code: the places where it reads and writes are those of the layout. No other file of laws
 -- knows these places.
-use Rattle.std.proofs.Common.{◌≡◌, ℕ, suc, ◌+◌, ◌-◌, ◌*◌, ◌%◌, ◌<◌, ◌≤◌, min, cond, eqb, leb, List, [], ◌∷◌, ◌++◌, length, get_or, take, drop, set, sym, refl, ap, ◌∙◌, subst, ap₂, append-nil, not-suc-le-zero, arith, length-append, length-drop, length-set, drop_of_length-le, length-take, take_all, w64, Fits, rules, le-ltb, lt-ltb, le-leb}
+use Rattle.std.proofs.Common.{◌≡◌, ℕ, suc, ◌+◌, ◌-◌, ◌*◌, ◌%◌, ◌<◌, ◌≤◌, min, cond, eqb, leb, List, [], ◌∷◌, ◌++◌, length, get_or, take, drop, set, sym, refl, ap, ◌∙◌, subst, ap₂, append-nil, not-suc-le-zero, arith, length-append, length-drop, length-set, drop_of_length-le, length-take, take_all, w64, Fits, rules, le-ltb, lt-ltb, le-leb, Ok, Err, true}
 use lib.ListN.{get_or-eq_default}
 use borrow.Rule.Slice.PartMut.{put_mid}
 use borrow.Author.Tests.{lt-leb}
@@ -14,8 +14,6 @@ use Rattle.clifford.specs.Layout.{letter_place, row_length, letters_of, decode_r
 use Rattle.clifford.specs.Inside.Rows.{Sized, RowIndex, RowInside, RowAt, RowChecked, OwnRow, OnRow, PairOnRow, LetterIndex, PairIndex, WorkOnRow, Finished, row_times, row_written, letters_in, string_in, row_letters, OwnLetter}
 use Rattle.clifford.proofs.Records.{record-small}
 use Rattle.pauli.specs.declared.refusal.Refusal.TheVariants.{BadByte}
-use Rattle.pauli.specs.declared.refusal.Outcome.TheVariants.{Done, Refused}
-use Rattle.pauli.specs.declared.refusal.Outcome.{Outcome}
 use Rattle.pauli.specs.declared.rows.LetterScan.{LetterScan}
 use Rattle.pauli.specs.Questions.{ask, first_bad}
 use Rattle.pauli.proofs.Asking.{asked_yes, asked_no, refused, passed}
@@ -24,6 +22,7 @@ use lib.Bits.{bit_xor}
 use Rattle.clifford.specs.Playing.{table_entry, letter_table_on_row, pair_table_on_row}
 use Rattle.clifford.proofs.Rows.{place_is, row-some, letter_in-row, letters-from, row-letter, row-phase, row_inside, row_part_lem, row_room, row-string, row_as_string_lem, row_of-work, get_d_part, capped_letter, capped_phase, read_own, read_wide, read_over, length_part, own_row, own-some, own-more, own-letter, weight_counted}
 use Rattle.clifford.proofs.Asking.{bytes_bad, bytes_good}
+use Rattle.pauli.specs.Answers.{Outcome}
 
 -- ---- the length of a record
 pub record_sized : (w : ℕ) → w ≤ 128 → Sized (record_length w) (1 + 2 * w * (w + 2))
@@ -105,32 +104,32 @@ pub ruleset letter-reads = (letter-row, letter-inside, letter_read, own-inside, 
 
 -- ---- question 3, put to a row
 module _ (p : List ℕ) (at : ℕ) where
-  pub codes_bad_phase : 3 < get_or p 0 0 → Refused (BadByte at) ≡ row_question at p
+  pub codes_bad_phase : 3 < get_or p 0 0 → Err (BadByte at) ≡ row_question at p
   unfolding row_question
   codes_bad_phase h = refused _ (asked_no (BadByte at) (lt-leb (get_or p 0 0) 3 h)) refl
 
   module _ (h : get_or p 0 0 ≤ 3) where
-    phase-good : Done ≡ ask (leb (get_or p 0 0) 3) (BadByte at)
+    phase-good : Ok tt ≡ ask (leb (get_or p 0 0) 3) (BadByte at)
     phase-good = asked_yes (BadByte at) (le-leb (get_or p 0 0) 3 h)
 
-    all_good : length (letters_of p) ≤ first_bad (letters_of p) → Done ≡ row_question at p
+    all_good : length (letters_of p) ≤ first_bad (letters_of p) → Ok tt ≡ row_question at p
     unfolding row_question
     all_good l = passed phase-good refl (bytes_good (at + letter_place 0) (letters_of p) l)
 
-    pub codes-clean : {m : ℕ} → RowAt at p m → m < 4 → Done ≡ row_question at p
+    pub codes-clean : {m : ℕ} → RowAt at p m → m < 4 → Ok tt ≡ row_question at p
     codes-clean o l = all_good (omega (arith, none_bad (letters_of p) o.largest l))
 
     module _ {k : ℕ} (ek : k ≡ first_bad (from 2 p)) where
       place : k ≡ first_bad (letters_of p)
       place = ek ∙ ap first_bad (letters-from p)
 
-      pub codes_bad_letter : k < length (from 2 p) → Refused (BadByte (at + 2 + k)) ≡ row_question at p
+      pub codes_bad_letter : k < length (from 2 p) → Err (BadByte (at + 2 + k)) ≡ row_question at p
       unfolding row_question letter_place
       codes_bad_letter l =
-          ap (λ (j : ℕ). Refused (BadByte (at + 2 + j))) place
+          ap (λ (j : ℕ). Err (BadByte (at + 2 + j))) place
           ∙ passed phase-good refl (bytes_bad (at + 2) (letters_of p) (omega (arith, place, ap length (letters-from p))))
 
-      pub codes-good : length (from 2 p) ≤ k → Done ≡ row_question at p
+      pub codes-good : length (from 2 p) ≤ k → Ok tt ≡ row_question at p
       codes-good l = all_good (omega (arith, place, ap length (letters-from p)))
 
 module _ {at : ℕ} {p : List ℕ} {m : ℕ} (o : RowAt at p m) where

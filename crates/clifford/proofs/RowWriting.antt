@@ -1,12 +1,11 @@
 -- Records written row by row: what a loop over the rows has written before row r, and a row written from a work row.
-use Rattle.std.proofs.Common.{◌≡◌, ℕ, zero, suc, ◌+◌, ◌-◌, ◌*◌, ◌<◌, ◌≤◌, cond, ltb, List, ◌∷◌, ◌++◌, length, take, drop, set, sym, refl, ap, ◌∙◌, subst, ap₂, le_refl, arith, length-set, get_or-set_same, drop-set-lt, rules, le-ltb, lt-ltb}
+use Rattle.std.proofs.Common.{◌≡◌, ℕ, zero, suc, ◌+◌, ◌-◌, ◌*◌, ◌<◌, ◌≤◌, cond, ltb, List, ◌∷◌, ◌++◌, length, take, drop, set, sym, refl, ap, ◌∙◌, subst, ap₂, le_refl, arith, length-set, get_or-set_same, drop-set-lt, rules, le-ltb, lt-ltb, Ok}
 use native.Mathlib.Decide.{dec_lt}
 use borrow.Rule.Slice.PartMut.{put_mid}
 use Rattle.pauli_group.specs.Letter.{Letter, X, Z}
 use Rattle.pauli_group.specs.PauliString.{PauliString, Within, qubits}
 use Rattle.clifford_group.specs.Tableau.{Tableau, apply}
 use Rattle.clifford_group.proofs.Apply.{within-apply}
-use Rattle.pauli.specs.declared.refusal.Outcome.TheVariants.{Done}
 use Rattle.pauli.specs.Answers.{written}
 use Rattle.pauli.specs.Layout.{letter_byte, letter_of, encode_string, decode_string, WellFormed}
 use Rattle.pauli.proofs.Places.{from}
@@ -48,7 +47,7 @@ unfolding row_written
 rows_more m h s k = record { rows = bytes-more m.rows h s k }
 
 pub rows_all : (t : Tableau) {w : ℕ} (d : List ℕ) {r : ℕ} {e : List ℕ} → t.width ≡ w → RowsTo w (row_of t) (set d 0 w) r e → 2 * w ≤ r
-    → e ≡ written Done (tableau_record t) d
+    → e ≡ written (Ok tt) (tableau_record t) d
 unfolding written tableau_record
 rows_all t {w} d {r} {e} et m h =
     let rows : ℕ → ℕ → List ℕ = λ v i. encode_row v (row_of t i) in

@@ -1,5 +1,5 @@
 -- Images set: the questions, and the record with one row replaced.
-use Rattle.std.proofs.Common.{◌≡◌, ℕ, suc, ◌+◌, ◌-◌, ◌*◌, ◌<◌, ◌≤◌, Bool, true, false, cond, ◌&&◌, eqb, leb, List, ◌++◌, length, get_or, take, drop, sym, refl, ap, ◌∙◌, subst, ap₂, append-nil, arith, drop_of_length-le, length-take, get_or-take, w64, Fits, rules, eq-eqb, ne_eqb, le-leb, leb-true}
+use Rattle.std.proofs.Common.{◌≡◌, ℕ, suc, ◌+◌, ◌-◌, ◌*◌, ◌<◌, ◌≤◌, Bool, true, false, cond, ◌&&◌, eqb, leb, List, ◌++◌, length, get_or, take, drop, sym, refl, ap, ◌∙◌, subst, ap₂, append-nil, arith, drop_of_length-le, length-take, get_or-take, w64, Fits, rules, eq-eqb, ne_eqb, le-leb, leb-true, Ok, Err}
 use native.Mathlib.Decide.{dec_lt, ℕ_discrete}
 use borrow.Author.Tests.{lt-leb}
 use borrow.Rule.Slice.PartMut.{put_mid}
@@ -10,9 +10,7 @@ use Rattle.pauli_group.proofs.PlacesTaken.{is-I}
 use Rattle.clifford_group.specs.Tableau.{Tableau, Same}
 use Rattle.pauli.specs.declared.refusal.Refusal.{Refusal}
 use Rattle.pauli.specs.declared.refusal.Refusal.TheVariants.{ImageWidth}
-use Rattle.pauli.specs.declared.refusal.Outcome.{Outcome}
-use Rattle.pauli.specs.declared.refusal.Outcome.TheVariants.{Done, Refused}
-use Rattle.pauli.specs.Answers.{written}
+use Rattle.pauli.specs.Answers.{written, Outcome}
 use Rattle.pauli.specs.Layout.{phase_of, letter_of, string_of}
 use Rattle.pauli.specs.Questions.{◌and_then◌, string_questions}
 use Rattle.pauli.proofs.Answers.{answers}
@@ -67,19 +65,19 @@ beside_place q o h = omega (arith, o.string.long)
 
 pub ruleset outsides = (outside_start, outside-more, outside_found, outside-left, beside_place, rules)
 
-pub inside_no : (w : ℕ) (s : PauliString) {q : ℕ} → q ≡ lowest_outside w s → q < 128 → Refused (ImageWidth q w) ≡ inside_question w s
+pub inside_no : (w : ℕ) (s : PauliString) {q : ℕ} → q ≡ lowest_outside w s → q < 128 → Err (ImageWidth q w) ≡ inside_question w s
 unfolding inside_question qubits
-inside_no w s e h = ap (λ (k : ℕ). Refused (ImageWidth k w)) e ∙ asked_no (ImageWidth (lowest_outside w s) w) (lt-leb 128 (lowest_outside w s) (omega arith))
+inside_no w s e h = ap (λ (k : ℕ). Err (ImageWidth k w)) e ∙ asked_no (ImageWidth (lowest_outside w s) w) (lt-leb 128 (lowest_outside w s) (omega arith))
 
-pub inside_yes : (w : ℕ) (s : PauliString) {q : ℕ} → q ≡ lowest_outside w s → 128 ≤ q → Done ≡ inside_question w s
+pub inside_yes : (w : ℕ) (s : PauliString) {q : ℕ} → q ≡ lowest_outside w s → 128 ≤ q → Ok tt ≡ inside_question w s
 unfolding inside_question qubits
 inside_yes w s e h = asked_yes (ImageWidth (lowest_outside w s) w) (le-leb 128 (lowest_outside w s) (omega arith))
 
-none-outside : (w : ℕ) (s : PauliString) → inside_question w s ≡ Done → 128 ≤ lowest_outside w s
+none-outside : (w : ℕ) (s : PauliString) → inside_question w s ≡ Ok tt → 128 ≤ lowest_outside w s
 unfolding inside_question qubits
 none-outside w s e = leb-true 128 (lowest_outside w s) (ask_done (leb 128 (lowest_outside w s)) (ImageWidth (lowest_outside w s) w) e)
 
-inside-within : (w : ℕ) (s : List ℕ) → inside_question w (string_of s) ≡ Done → Within w (string_of s)
+inside-within : (w : ℕ) (s : List ℕ) → inside_question w (string_of s) ≡ Ok tt → Within w (string_of s)
 unfolding lowest_outside has_letter qubits
 inside-within w s e q h = elim (dec_lt q 128) [
   | yes l ↦ is-I _ (sym (ap (λ b. b && not_i ((string_of s).letters q)) (le-leb w q h))
@@ -96,15 +94,15 @@ unfolding apply_questions
 set_asked t s ea eb er = er ∙ ap₂ ◌and_then◌ ea eb
 
 module _ (t : List ℕ) (slot : ℕ) (s : List ℕ) {r : Outcome} (p : r ≡ apply_questions t s) where
-  pub set_first : {x : Refusal} → r ≡ Refused x → r ≡ set_questions t slot s
+  pub set_first : {x : Refusal} → r ≡ Err x → r ≡ set_questions t slot s
   unfolding set_questions
   set_first h = refused _ p h
 
-  module _ (h : r ≡ Done) {n : ℕ} (en : n ≡ width_of t) where
+  module _ (h : r ≡ Ok tt) {n : ℕ} (en : n ≡ width_of t) where
     pub set_beside : Beside s n
     unfolding apply_questions
     set_beside =
-        let both : tableau_questions t and_then string_questions s ≡ Done = sym p ∙ h in
+        let both : tableau_questions t and_then string_questions s ≡ Ok tt = sym p ∙ h in
         record { string = string-formed s (done_second (tableau_questions t) _ both); narrow = omega (arith, (tableau-formed t (done_first _ _ both)).narrow) }
 
     pub set_then : {q z a : Outcome} → q ≡ inside_question n (string_of s) → z ≡ slot_question slot n → a ≡ (q and_then z) → a ≡ set_questions t slot s
@@ -112,12 +110,12 @@ module _ (t : List ℕ) (slot : ℕ) (s : List ℕ) {r : Outcome} (p : r ≡ app
     set_then pq pz e =
         passed p h (e ∙ ap₂ ◌and_then◌ (pq ∙ ap (λ (j : ℕ). inside_question j (string_of s)) en) (pz ∙ ap (slot_question slot) en))
 
-pub sets : {t : List ℕ} {slot : ℕ} {s : List ℕ} {r : Outcome} → r ≡ set_questions t slot s → r ≡ Done → Sets t slot s
+pub sets : {t : List ℕ} {slot : ℕ} {s : List ℕ} {r : Outcome} → r ≡ set_questions t slot s → r ≡ Ok tt → Sets t slot s
 unfolding set_questions apply_questions
 sets {t} {slot} {s} p h =
-    let all : (tableau_questions t and_then string_questions s) and_then inside_question (width_of t) (string_of s) and_then slot_question slot (width_of t) ≡ Done = sym p ∙ h in
-    let both : tableau_questions t and_then string_questions s ≡ Done = done_first _ _ all in
-    let rest : inside_question (width_of t) (string_of s) and_then slot_question slot (width_of t) ≡ Done = done_second (tableau_questions t and_then string_questions s) _ all in
+    let all : (tableau_questions t and_then string_questions s) and_then inside_question (width_of t) (string_of s) and_then slot_question slot (width_of t) ≡ Ok tt = sym p ∙ h in
+    let both : tableau_questions t and_then string_questions s ≡ Ok tt = done_first _ _ all in
+    let rest : inside_question (width_of t) (string_of s) and_then slot_question slot (width_of t) ≡ Ok tt = done_second (tableau_questions t and_then string_questions s) _ all in
     record {
       sets = record {
         tableau = tableau-formed t (done_first _ _ both);
@@ -242,7 +240,7 @@ module _ {t : List ℕ} {slot : ℕ} {s : List ℕ} (o : Sets t slot s) where
   set_z_row e = record { sets = o.sets; own = omega (arith, o.slot) }
 
   -- bytes that are a record of t's length are all that is written
-  whole : {out : List ℕ} → length out ≡ length t → out ≡ written Done out t
+  whole : {out : List ℕ} → length out ≡ length t → out ≡ written (Ok tt) out t
   unfolding written
   whole {out} h = sym (ap (λ (l : List ℕ). out ++ l) (drop_of_length-le t {i = length out} (omega arith)) ∙ append-nil out)
 
@@ -274,21 +272,21 @@ module _ {t : List ℕ} {slot : ℕ} {s : List ℕ} (o : Sets t slot s) where
         | no n ↦ ne_eqb ((tableau_of t).width + q) (width_of t + slot) (λ e. n (omega (arith, width_of_lem t))) ∙ sym (ne_eqb q slot n)
       ]
 
-  pub x_written : {e : List ℕ} → e ≡ tableau_record (with_row (tableau_of t) slot (string_of s)) → e ≡ written Done (set_x_record t slot s) t
+  pub x_written : {e : List ℕ} → e ≡ tableau_record (with_row (tableau_of t) slot (string_of s)) → e ≡ written (Ok tt) (set_x_record t slot s) t
   unfolding set_x_record
   x_written h =
       h ∙ whole (set_length set_x_row)
-      ∙ ap (λ (l : List ℕ). written Done l t) (same-record (with_row (tableau_of t) slot (string_of s)) (with_x_image (tableau_of t) slot (string_of s)) x-same)
+      ∙ ap (λ (l : List ℕ). written (Ok tt) l t) (same-record (with_row (tableau_of t) slot (string_of s)) (with_x_image (tableau_of t) slot (string_of s)) x-same)
 
   pub z_written : {e : List ℕ} {n : ℕ} → n ≡ width_of t → e ≡ tableau_record (with_row (tableau_of t) (n + slot) (string_of s))
-      → e ≡ written Done (set_z_record t slot s) t
+      → e ≡ written (Ok tt) (set_z_record t slot s) t
   unfolding set_z_record
   z_written en h =
       h ∙ ap (λ (j : ℕ). tableau_record (with_row (tableau_of t) (j + slot) (string_of s))) en ∙ whole (set_length (set_z_row refl))
-      ∙ ap (λ (l : List ℕ). written Done l t)
+      ∙ ap (λ (l : List ℕ). written (Ok tt) l t)
       (same-record (with_row (tableau_of t) (width_of t + slot) (string_of s)) (with_z_image (tableau_of t) slot (string_of s)) z-same)
 
-pub set_fits : (t : List ℕ) (slot : ℕ) (s : List ℕ) {r : Outcome} {n : ℕ} → r ≡ set_questions t slot s → r ≡ Done → n ≡ width_of t → Fits w64 (n + slot)
+pub set_fits : (t : List ℕ) (slot : ℕ) (s : List ℕ) {r : Outcome} {n : ℕ} → r ≡ set_questions t slot s → r ≡ Ok tt → n ≡ width_of t → Fits w64 (n + slot)
 set_fits t slot s p h e = let o : Sets t slot s = sets p h in record { fits = omega (arith, o.slot, o.sets.tableau.narrow) }
 
 pub ruleset insides = (inside_no, inside_yes, rules)

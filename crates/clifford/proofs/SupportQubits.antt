@@ -1,17 +1,14 @@
 -- The support of a tableau, read off the rows of its record.
-use Rattle.std.proofs.Common.{◌≡◌, ℕ, zero, suc, ◌+◌, ◌-◌, ◌<◌, ◌≤◌, Bool, true, false, cond, not, ◌&&◌, ◌||◌, eqb, List, [], ◌∷◌, ◌++◌, length, get_or, drop, set, sym, refl, ap, ◌∙◌, subst, ap₂, append-nil, not-suc-le-zero, add-one, arith, length-append, length-drop, length-set, drop-drop, rules, eq-eqb, ne_eqb}
+use Rattle.std.proofs.Common.{◌≡◌, ℕ, zero, suc, ◌+◌, ◌-◌, ◌<◌, ◌≤◌, Bool, true, false, cond, not, ◌&&◌, ◌||◌, eqb, List, [], ◌∷◌, ◌++◌, length, get_or, drop, set, sym, refl, ap, ◌∙◌, subst, ap₂, append-nil, not-suc-le-zero, add-one, arith, length-append, length-drop, length-set, drop-drop, rules, eq-eqb, ne_eqb, Ok, Err}
 use mathlib.Core.Bool.{and-false}
 use native.Mathlib.Decide.{ℕ_discrete}
 use Rattle.pauli_group.specs.Letter.{Letter, I, X, Z, Y, not_i}
 use Rattle.pauli_group.specs.PauliString.{PauliString, has_letter, single}
 use Rattle.clifford_group.specs.Tableau.{Tableau, all_to}
 use Rattle.pauli.specs.declared.refusal.Refusal.{Refusal}
-use Rattle.pauli.specs.declared.refusal.Outcome.{Outcome}
-use Rattle.pauli.specs.declared.refusal.Outcome.TheVariants.{Done, Refused}
-use Rattle.pauli.specs.Answers.{written, CountWritten}
+use Rattle.pauli.specs.Answers.{written, CountWritten, Outcome}
 use Rattle.pauli.specs.Questions.{room_question}
 use Rattle.pauli.proofs.Asking.{refused, passed, done_first, done_second, room-is}
-use Rattle.pauli.specs.declared.refusal.CountAnswer.TheVariants.{Count}
 use Rattle.pauli.proofs.Answers.{count-done, count-not}
 use Rattle.clifford.specs.Questions.{tableau_questions, support_answer}
 use Rattle.clifford.specs.Tableaux.{support_bytes}
@@ -408,7 +405,7 @@ qubit-own o = o.own
 
 pub ruleset qubit_writing = (qubit_yes, qubit_no, qubit-place, qubit-small, qubit-own, rules)
 
-pub wrote_all : {t d : List ℕ} {n k c : ℕ} {e : List ℕ} → WroteTo t d n k c e → n ≤ k → e ≡ written Done (support_qubits (tableau_of t)) d
+pub wrote_all : {t d : List ℕ} {n k c : ℕ} {e : List ℕ} → WroteTo t d n k c e → n ≤ k → e ≡ written (Ok tt) (support_qubits (tableau_of t)) d
 unfolding written
 wrote_all {t} {d} m h =
     let all = support_is t m.count.wide m.count.within h in
@@ -424,28 +421,28 @@ wrote_small m = omega (arith, m.count.wide, m.fits.tableau.narrow)
 pub ruleset support_writing = (wrote_start, wrote_more, wrote_here, wrote_all, wrote_same, wrote_small, rules)
 
 -- ---- the answer
-pub support_room : (t : List ℕ) (room : ℕ) {r q : Outcome} {c : ℕ} → r ≡ tableau_questions t → r ≡ Done → SupportCount t c
+pub support_room : (t : List ℕ) (room : ℕ) {r q : Outcome} {c : ℕ} → r ≡ tableau_questions t → r ≡ Ok tt → SupportCount t c
     → q ≡ room_question c room → q ≡ support_answer t room
 unfolding support_answer
 support_room t room p h c e = passed p h (e ∙ ap (λ (j : ℕ). room_question j room) c.is)
 
-pub support_refused : (t : List ℕ) (room : ℕ) {r : Outcome} {x : Refusal} → r ≡ tableau_questions t → r ≡ Refused x → r ≡ support_answer t room
+pub support_refused : (t : List ℕ) (room : ℕ) {r : Outcome} {x : Refusal} → r ≡ tableau_questions t → r ≡ Err x → r ≡ support_answer t room
 unfolding support_answer
 support_refused t room p h = refused _ p h
 
-pub support_fits : {t d : List ℕ} {r : Outcome} → r ≡ support_answer t (length d) → r ≡ Done → SupportFits t d
+pub support_fits : {t d : List ℕ} {r : Outcome} → r ≡ support_answer t (length d) → r ≡ Ok tt → SupportFits t d
 unfolding support_answer
 support_fits {t} {d} p h = record {
   tableau = tableau-formed t (done_first _ _ (sym p ∙ h));
   room = room-is (length (support_qubits (tableau_of t))) (length d) (done_second (tableau_questions t) _ (sym p ∙ h));
 }
 
-pub support_formed : {t : List ℕ} (room : ℕ) {r : Outcome} → r ≡ support_answer t room → r ≡ Done → FormedTableau t
+pub support_formed : {t : List ℕ} (room : ℕ) {r : Outcome} → r ≡ support_answer t room → r ≡ Ok tt → FormedTableau t
 unfolding support_answer
 support_formed {t} room p h = tableau-formed t (done_first _ _ (sym p ∙ h))
 
-pub support_done : (t d : List ℕ) {e : List ℕ} {q r : Outcome} {c : ℕ} → r ≡ q → r ≡ Done → e ≡ written Done (support_qubits (tableau_of t)) d → SupportCount t c
-    → CountWritten q (support_bytes t) d e (Count c)
+pub support_done : (t d : List ℕ) {e : List ℕ} {q r : Outcome} {c : ℕ} → r ≡ q → r ≡ Ok tt → e ≡ written (Ok tt) (support_qubits (tableau_of t)) d → SupportCount t c
+    → CountWritten q (support_bytes t) d e (Ok c)
 unfolding support_bytes
 support_done t d p h w k = count-done p h k.is w
 

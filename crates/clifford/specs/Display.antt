@@ -2,12 +2,12 @@
 use Rattle.std.specs.Prelude.{ℕ, ◌+◌, ◌*◌, ◌/◌, ◌%◌, Bool, true, false, cond, ◌&&◌, List, [], ◌∷◌, ◌++◌, length, ◌==◌}
 use Rattle.pauli_group.specs.Letter.{Letter}
 use Rattle.clifford_group.specs.Tableau.{Tableau}
-use Rattle.pauli.specs.declared.refusal.Outcome.{Outcome}
 use Rattle.pauli.specs.QuotedText.{bytes_of}
 use Rattle.pauli.specs.Questions.{◌and_then◌, room_question}
 use Rattle.pauli.specs.SparseText.{decimal, letter_text, sparse_text}
 use Rattle.clifford.specs.Layout.{row_of, joined, tableau_of, row_qubit, row_letter}
 use Rattle.clifford.specs.Questions.{tableau_questions}
+use Rattle.pauli.specs.Answers.{Outcome}
 
 -- the bytes that it starts with
 abbrev pub name_text : List ℕ

@@ -1,38 +1,20 @@
 -- The answers of the functions on gates: the number and the value of each case, and what is written.
-use Rattle.std.specs.Prelude.{◌≡◌, ℕ, cond, List, nat_lt}
+use Rattle.std.specs.Prelude.{ℕ, cond, List, nat_lt, Some, None, Option}
 use Rattle.clifford_group.specs.Tableau.{widen}
 use Rattle.clifford_gates.specs.GateTableaux.{on_qubit}
 use Rattle.clifford_gates.specs.GateNumbers.{one_qubit_gate, gate_tableau, single_qubit_clifford, name_of}
-use Rattle.pauli.specs.declared.refusal.Outcome.{Outcome}
-use Rattle.pauli.specs.declared.refusal.Outcome.TheVariants.{Done, Refused}
-use Rattle.pauli.specs.declared.refusal.Reply.{Reply}
-use Rattle.pauli.specs.Answers.{reply, refusal_reply, reply_to}
-use Rattle.clifford.specs.declared.clifford.GateAnswer.{GateAnswer}
-use Rattle.clifford.specs.declared.clifford.GateAnswer.TheVariants.{Named, Unnamed, GateRefused}
+use Rattle.pauli.specs.Answers.{Outcome, Answer, gate_value, Answered}
 use Rattle.clifford.specs.Layout.{tableau_of, tableau_record}
 
--- the gate is the value; 255 stands for none
-unfoldable pub gate_reply : GateAnswer → Reply
-gate_reply (Named g) = reply 0 g
-gate_reply Unnamed = reply 0 255
-gate_reply (GateRefused r) = refusal_reply r
+-- the gate of a number below 24; 24 is none
+unfoldable pub named : ℕ → Option ℕ
+named n = cond (nat_lt n 24) (Some n) None
 
--- the answer after the questions: a gate; and the number of a gate or 24, which is none
-unfoldable pub gate_answer : Outcome → ℕ → GateAnswer
-gate_answer Done g = Named g
-gate_answer (Refused r) g = GateRefused r
+abbrev pub GateAnswered : (q : Outcome) (g : ℕ) (r : Answer (Option ℕ)) → Type 0
+GateAnswered q g r = Answered gate_value q (Some g) r
 
-unfoldable pub name_answer : Outcome → ℕ → GateAnswer
-name_answer Done n = cond (nat_lt n 24) (Named n) Unnamed
-name_answer (Refused r) n = GateRefused r
-
-pub record GateAnswered (q : Outcome) (g : ℕ) (r : GateAnswer) : Type 0 where
-  pub answer : r ≡ gate_answer q g
-  pub told : gate_reply r ≡ reply_to q g
-
-pub record NameAnswered (q : Outcome) (n : ℕ) (r : GateAnswer) : Type 0 where
-  pub answer : r ≡ name_answer q n
-  pub told : gate_reply r ≡ reply_to q (cond (nat_lt n 24) n 255)
+abbrev pub NameAnswered : (q : Outcome) (n : ℕ) (r : Answer (Option ℕ)) → Type 0
+NameAnswered q n r = Answered gate_value q (named n) r
 
 -- ---- records
 

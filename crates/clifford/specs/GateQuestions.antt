@@ -1,12 +1,11 @@
 -- The questions put to gates (scope document, "Questions on entry"), and those of each public function on gates in their order.
-use Rattle.std.specs.Prelude.{ℕ, suc, max, cond, not, ◌==◌, nat_lt}
+use Rattle.std.specs.Prelude.{ℕ, suc, max, cond, not, ◌==◌, nat_lt, Ok}
 use Rattle.pauli_group.specs.PauliString.{qubits}
 use Rattle.pauli.specs.declared.refusal.Refusal.TheVariants.{Gate, Qubit, SameQubit}
-use Rattle.pauli.specs.declared.refusal.Outcome.{Outcome}
-use Rattle.pauli.specs.declared.refusal.Outcome.TheVariants.{Done}
 use Rattle.pauli.specs.Questions.{ask, ◌and_then◌, qubit_question, room_question}
 use Rattle.clifford.specs.Layout.{record_length}
 use Rattle.clifford.specs.Questions.{width_question}
+use Rattle.pauli.specs.Answers.{Outcome}
 
 -- "Is the gate at most 37, or 23 where one qubit is meant? 4": below the limit of 38 or of 24. An index of the 24 products too.
 unfoldable pub gate_question : ℕ → ℕ → Outcome
@@ -22,7 +21,7 @@ own_qubit_question w q = ask (nat_lt q w) (Qubit q)
 
 -- "A second qubit given with a gate of 0 to 23 isn't looked at"
 unfoldable pub qubits_questions : ℕ → ℕ → ℕ → ℕ → Outcome
-qubits_questions w g q r = own_qubit_question w q and_then cond (nat_lt g 24) Done (own_qubit_question w r and_then different_question q r)
+qubits_questions w g q r = own_qubit_question w q and_then cond (nat_lt g 24) (Ok tt) (own_qubit_question w r and_then different_question q r)
 
 -- "A one-qubit gate on q has width q+1, a two-qubit gate the larger qubit plus 1"
 unfoldable pub gate_width : ℕ → ℕ → ℕ → ℕ

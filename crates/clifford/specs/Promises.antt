@@ -1,12 +1,8 @@
 -- What each public function on tableaux and on gates promises of its answer r: the questions, the answer, and the destination, which
 -- held d at entry and holds e at exit. a, b and t are tableau records, s is a string record.
-use Rattle.std.specs.Prelude.{ℕ, ◌+◌, List, length}
+use Rattle.std.specs.Prelude.{ℕ, ◌+◌, List, length, Option, Bool}
 use Rattle.clifford_gates.specs.GateNumbers.{compose_gate, inverse_gate}
-use Rattle.pauli.specs.declared.refusal.Outcome.{Outcome}
-use Rattle.pauli.specs.declared.refusal.Flag.{Flag}
-use Rattle.pauli.specs.declared.refusal.CountAnswer.{CountAnswer}
-use Rattle.pauli.specs.Answers.{FlagAnswered, CountAnswered, Written, CountWritten}
-use Rattle.clifford.specs.declared.clifford.GateAnswer.{GateAnswer}
+use Rattle.pauli.specs.Answers.{Outcome, Answer, number_value, one_or_zero, Answered, Written, CountWritten}
 use Rattle.clifford.specs.Layout.{width_of, row_offset}
 use Rattle.clifford.specs.Questions.{tableau_questions, image_questions, set_questions, identity_answer, apply_answer, compose_answer, extend_answer, inverse_answer, pauli_answer, support_answer}
 use Rattle.clifford.specs.Tableaux.{record_valid, set_x_record, set_z_record, identity_record, apply_record, compose_record, extend_record, inverse_record, pauli_record, support_bytes}
@@ -16,11 +12,11 @@ use Rattle.clifford.specs.GateAnswers.{GateAnswered, NameAnswered, gate_record, 
 
 -- ---- images: where they start in the record, and in place set to s
 
-abbrev pub XImageAt : (t : List ℕ) (q : ℕ) (r : CountAnswer) → Type 0
-XImageAt t q r = CountAnswered (image_questions t q) (row_offset (width_of t) q) r
+abbrev pub XImageAt : (t : List ℕ) (q : ℕ) (r : Answer ℕ) → Type 0
+XImageAt t q r = Answered number_value (image_questions t q) (row_offset (width_of t) q) r
 
-abbrev pub ZImageAt : (t : List ℕ) (q : ℕ) (r : CountAnswer) → Type 0
-ZImageAt t q r = CountAnswered (image_questions t q) (row_offset (width_of t) (width_of t + q)) r
+abbrev pub ZImageAt : (t : List ℕ) (q : ℕ) (r : Answer ℕ) → Type 0
+ZImageAt t q r = Answered number_value (image_questions t q) (row_offset (width_of t) (width_of t + q)) r
 
 abbrev pub XImageSet : (q : ℕ) (s t e : List ℕ) (r : Outcome) → Type 0
 XImageSet q s t e r = Written (set_questions t q s) (set_x_record t q s) t e r
@@ -45,16 +41,16 @@ Extended t n d e r = Written (extend_answer t n (length d)) (extend_record t n) 
 abbrev pub Inverted : (t d e : List ℕ) (r : Outcome) → Type 0
 Inverted t d e r = Written (inverse_answer t (length d)) (inverse_record t) d e r
 
-abbrev pub ValidityTold : (t : List ℕ) (r : Flag) → Type 0
-ValidityTold t r = FlagAnswered (tableau_questions t) (record_valid t) r
+abbrev pub ValidityTold : (t : List ℕ) (r : Answer Bool) → Type 0
+ValidityTold t r = Answered one_or_zero (tableau_questions t) (record_valid t) r
 
 abbrev pub FromPauliString : (s d e : List ℕ) (r : Outcome) → Type 0
 FromPauliString s d e r = Written (pauli_answer s (length d)) (pauli_record s) d e r
 
-abbrev pub SupportWritten : (t d e : List ℕ) (r : CountAnswer) → Type 0
+abbrev pub SupportWritten : (t d e : List ℕ) (r : Answer ℕ) → Type 0
 SupportWritten t d e r = CountWritten (support_answer t (length d)) (support_bytes t) d e r
 
-abbrev pub Displayed : (t d e : List ℕ) (r : CountAnswer) → Type 0
+abbrev pub Displayed : (t d e : List ℕ) (r : Answer ℕ) → Type 0
 Displayed t d e r = CountWritten (display_answer t (length d)) (text_of_tableau t) d e r
 
 -- ---- gates g and h, on qubits q and p, at their own width or at the width n; k is an index of the 24 products
@@ -71,11 +67,11 @@ OneQubitGateWritten g q d e r = Written (on_qubit_answer g q (length d)) (one_qu
 abbrev pub SingleQubitCliffordWritten : (k q : ℕ) (d e : List ℕ) (r : Outcome) → Type 0
 SingleQubitCliffordWritten k q d e r = Written (on_qubit_answer k q (length d)) (single_qubit_clifford_record k q) d e r
 
-abbrev pub GatesComposed : (g h : ℕ) (r : GateAnswer) → Type 0
+abbrev pub GatesComposed : (g h : ℕ) (r : Answer (Option ℕ)) → Type 0
 GatesComposed g h r = GateAnswered (compose_gate_questions g h) (compose_gate g h) r
 
-abbrev pub GateInverted : (g : ℕ) (r : GateAnswer) → Type 0
+abbrev pub GateInverted : (g : ℕ) (r : Answer (Option ℕ)) → Type 0
 GateInverted g r = GateAnswered (gate_question 38 g) (inverse_gate g) r
 
-abbrev pub GateNamed : (t : List ℕ) (r : GateAnswer) → Type 0
+abbrev pub GateNamed : (t : List ℕ) (r : Answer (Option ℕ)) → Type 0
 GateNamed t r = NameAnswered (tableau_questions t) (record_name t) r

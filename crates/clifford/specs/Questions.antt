@@ -1,15 +1,14 @@
 -- The questions put to tableaux (scope document, "Questions on entry"), and those of each public function in their order.
-use Rattle.std.specs.Prelude.{ℕ, zero, suc, ◌+◌, ◌*◌, max, Bool, not, ◌&&◌, List, length, ◌==◌, nat_le, nat_lt, slice_index}
+use Rattle.std.specs.Prelude.{ℕ, zero, suc, ◌+◌, ◌*◌, max, Bool, not, ◌&&◌, List, length, ◌==◌, nat_le, nat_lt, slice_index, Ok, false}
 use Rattle.pauli_group.specs.PauliString.{PauliString, qubits, has_letter, weight_to}
 use Rattle.pauli.specs.declared.refusal.Refusal.TheVariants.{Width, Length, BadByte, ImageWidth, Slot, FalseWeight}
-use Rattle.pauli.specs.declared.refusal.Outcome.{Outcome}
-use Rattle.pauli.specs.declared.refusal.Outcome.TheVariants.{Done}
 use Rattle.pauli.specs.Places.{first_place}
 use Rattle.pauli.specs.Layout.{string_length, string_of}
 use Rattle.pauli.specs.Questions.{ask, ◌and_then◌, bytes_question, string_questions, room_question}
 use Rattle.clifford.specs.Layout.{weight_place, letter_place, letters_of, row_offset, row_of, row_part, width_of, tableau_of, record_length}
 use Rattle.clifford.specs.Support.{support_qubits}
 use Rattle.clifford.specs.Images.{pauli_width}
+use Rattle.pauli.specs.Answers.{Outcome}
 
 -- "Is the width at most 128? 1"
 unfoldable pub width_question : ℕ → Outcome
@@ -25,7 +24,7 @@ row_question start b = ask (nat_le (slice_index b 0) 3) (BadByte start) and_then
 
 -- of the first k rows of a record, in their order
 unfoldable pub rows_question : ℕ → List ℕ → Outcome
-rows_question zero b = Done
+rows_question zero b = Ok tt
 rows_question (suc k) b = rows_question k b and_then row_question (row_offset (width_of b) k) (row_part b k)
 
 -- the weight of row r is the number of its letters other than I

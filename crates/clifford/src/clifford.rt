@@ -14,7 +14,7 @@ use crate::questions::{check_different, check_gate, check_tableau, check_width};
 use crate::writing::{Made, write_made};
 use pauli::QUBITS;
 use pauli::questions::{and_then, check_qubit};
-use pauli::refusal::{Outcome, Refusal, Reply, refusal_reply};
+use pauli::refusal::{Refusal, Reply, refusal_reply};
 
 // A gate, no gate, or the refusal.
 #[derive(Clone, Copy)]
@@ -24,36 +24,36 @@ pub enum GateAnswer {
     GateRefused(Refusal),
 }
 
-pub fn gate_reply(r: GateAnswer) -> Reply
+pub fn gate_reply(r: Result<Option<u8>, Refusal>) -> Reply
     ensures { result ≡ gate_reply r }
 {
     match r {
-        GateAnswer::Named(g) => Reply {
+        Ok(Some(g)) => Reply {
             number: 0,
             value: g as u64,
         },
-        GateAnswer::Unnamed => Reply {
+        Ok(None) => Reply {
             number: 0,
             value: 255,
         },
-        GateAnswer::GateRefused(why) => refusal_reply(why),
+        Err(why) => refusal_reply(why),
     }
 }
 
 // ---- questions
 
 // A qubit of a gate on a tableau of this width.
-fn check_own_qubit(width: usize, qubit: usize) -> Outcome
+fn check_own_qubit(width: usize, qubit: usize) -> Result<(), Refusal>
     ensures { result ≡ own_qubit_question width qubit }
 {
     if qubit < width {
-        return Outcome::Done;
+        return Ok(());
     }
-    Outcome::Refused(Refusal::Qubit { qubit })
+    Err(Refusal::Qubit { qubit })
 }
 
 // The qubits of a gate; the second is not looked at for a one-qubit gate.
-pub fn check_qubits(width: usize, gate: usize, q: usize, r: usize) -> Outcome
+pub fn check_qubits(width: usize, gate: usize, q: usize, r: usize) -> Result<(), Refusal>
     ensures { result ≡ qubits_questions width gate q r }
 {
     let first = check_own_qubit(width, q);
@@ -78,13 +78,13 @@ fn gate_width(gate: usize, q: usize, r: usize) -> usize
 }
 
 // A gate on its qubits; the second is not looked at for gates 0 to 23.
-pub fn on_qubits(gate: u8, q0: usize, q1: usize, dst: &mut [u8]) -> Outcome
+pub fn on_qubits(gate: u8, q0: usize, q1: usize, dst: &mut [u8]) -> Result<(), Refusal>
     ensures { GateWritten gate q0 q1 dst.old dst.new result }
 {
     let g = gate as usize;
     let known = check_gate(38, g);
     let answer = and_then(known, check_qubits(QUBITS, g, q0, q1));
-    if let Outcome::Done = answer {
+    if let Ok(()) = answer {
         let made = Made::OfGate {
             gate: g,
             first: q0,
@@ -96,7 +96,7 @@ pub fn on_qubits(gate: u8, q0: usize, q1: usize, dst: &mut [u8]) -> Outcome
 }
 
 // A gate on its qubits, at the width n; the second is not looked at for gates 0 to 23.
-pub fn on_width(n: usize, gate: u8, q0: usize, q1: usize, dst: &mut [u8]) -> Outcome
+pub fn on_width(n: usize, gate: u8, q0: usize, q1: usize, dst: &mut [u8]) -> Result<(), Refusal>
     ensures { WidthGateWritten n gate q0 q1 dst.old dst.new result }
 {
     let g = gate as usize;
@@ -104,7 +104,7 @@ pub fn on_width(n: usize, gate: u8, q0: usize, q1: usize, dst: &mut [u8]) -> Out
     let placed = and_then(known, check_qubits(n, g, q0, q1));
     let narrow = check_width(n);
     let answer = and_then(narrow, placed);
-    if let Outcome::Done = answer {
+    if let Ok(()) = answer {
         let made = Made::OfGate {
             gate: g,
             first: q0,
@@ -116,13 +116,13 @@ pub fn on_width(n: usize, gate: u8, q0: usize, q1: usize, dst: &mut [u8]) -> Out
 }
 
 // A one-qubit gate on its qubit.
-pub fn on_qubit(gate: u8, q: usize, dst: &mut [u8]) -> Outcome
+pub fn on_qubit(gate: u8, q: usize, dst: &mut [u8]) -> Result<(), Refusal>
     ensures { OneQubitGateWritten gate q dst.old dst.new result }
 {
     let g = gate as usize;
     let known = check_gate(24, g);
     let answer = and_then(known, check_qubit(q));
-    if let Outcome::Done = answer {
+    if let Ok(()) = answer {
         let made = Made::OfGate {
             gate: g,
             first: q,
@@ -134,12 +134,12 @@ pub fn on_qubit(gate: u8, q: usize, dst: &mut [u8]) -> Outcome
 }
 
 // One of the 24 products of H and SZ, by its index.
-pub fn single_qubit_clifford(index: usize, qubit: usize, dst: &mut [u8]) -> Outcome
+pub fn single_qubit_clifford(index: usize, qubit: usize, dst: &mut [u8]) -> Result<(), Refusal>
     ensures { SingleQubitCliffordWritten index qubit dst.old dst.new result }
 {
     let known = check_gate(24, index);
     let answer = and_then(known, check_qubit(qubit));
-    if let Outcome::Done = answer {
+    if let Ok(()) = answer {
         let made = Made::OfGate {
             gate: product_number(index),
             first: qubit,
@@ -169,20 +169,20 @@ fn name_of(t: &[u8]) -> usize
 }
 
 // The first of the 24 gates, by number, whose tableau on qubit 0 this is. None, unless it has width 1 and is valid.
-pub fn from_clifford_rep(t: &[u8]) -> GateAnswer
+pub fn from_clifford_rep(t: &[u8]) -> Result<Option<u8>, Refusal>
     ensures { GateNamed t.now result }
 {
     let answer = check_tableau(t);
     match answer {
-        Outcome::Done => {
+        Ok(()) => {
             let n = name_of(t);
             if n < 24 {
-                GateAnswer::Named(n as u8)
+                Ok(Some(n as u8))
             } else {
-                GateAnswer::Unnamed
+                Ok(None)
             }
         }
-        Outcome::Refused(why) => GateAnswer::GateRefused(why),
+        Err(why) => Err(why),
     }
 }
 
@@ -199,24 +199,24 @@ fn composed(g: usize, h: usize) -> usize
 }
 
 // g composed with h: h acts first.
-pub fn compose(g: u8, h: u8) -> GateAnswer
+pub fn compose(g: u8, h: u8) -> Result<Option<u8>, Refusal>
     ensures { GatesComposed g h result }
 {
     let first = check_gate(24, g as usize);
     let answer = and_then(first, check_gate(24, h as usize));
     match answer {
-        Outcome::Done => GateAnswer::Named(composed(g as usize, h as usize) as u8),
-        Outcome::Refused(why) => GateAnswer::GateRefused(why),
+        Ok(()) => Ok(Some(composed(g as usize, h as usize) as u8)),
+        Err(why) => Err(why),
     }
 }
 
 // The inverse of a gate.
-pub fn inverse(g: u8) -> GateAnswer
+pub fn inverse(g: u8) -> Result<Option<u8>, Refusal>
     ensures { GateInverted g result }
 {
     let answer = check_gate(38, g as usize);
     match answer {
-        Outcome::Done => GateAnswer::Named(inverse_number(g as usize)),
-        Outcome::Refused(why) => GateAnswer::GateRefused(why),
+        Ok(()) => Ok(Some(inverse_number(g as usize))),
+        Err(why) => Err(why),
     }
 }

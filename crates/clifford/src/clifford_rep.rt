@@ -17,7 +17,7 @@ use crate::validity::valid_rows;
 use crate::writing::{Made, write_made};
 use pauli::STRING_LENGTH;
 use pauli::questions::{and_then, check_room, check_string};
-use pauli::refusal::{CountAnswer, Flag, Outcome};
+use pauli::refusal::Refusal;
 
 fn larger(a: usize, b: usize) -> usize
     ensures { result ≡ max a b }
@@ -28,7 +28,7 @@ fn larger(a: usize, b: usize) -> usize
 // ---- images
 
 // Whether X of this qubit has an image to hand out: Done, or the refusal.
-pub fn x_image_answer(t: &[u8], slot: usize) -> Outcome
+pub fn x_image_answer(t: &[u8], slot: usize) -> Result<(), Refusal>
     ensures { result ≡ image_questions t.now slot }
 {
     let whole = check_tableau(t);
@@ -40,14 +40,14 @@ pub fn x_image(t: &[u8], slot: usize) -> &[u8]
     ensures { result.now ≡ x_image_part t.now slot }
 {
     let answer = x_image_answer(t, slot);
-    if let Outcome::Done = answer {
+    if let Ok(()) = answer {
         return row(t, slot);
     }
     &t[0..0]
 }
 
 // Whether Z of this qubit has an image to hand out: Done, or the refusal.
-pub fn z_image_answer(t: &[u8], slot: usize) -> Outcome
+pub fn z_image_answer(t: &[u8], slot: usize) -> Result<(), Refusal>
     ensures { result ≡ image_questions t.now slot }
 {
     let whole = check_tableau(t);
@@ -59,43 +59,43 @@ pub fn z_image(t: &[u8], slot: usize) -> &[u8]
     ensures { result.now ≡ z_image_part t.now slot }
 {
     let answer = z_image_answer(t, slot);
-    if let Outcome::Done = answer {
+    if let Ok(()) = answer {
         return row(t, width(t) + slot);
     }
     &t[0..0]
 }
 
 // Where in the record the image of X on this qubit starts.
-pub fn x_image_offset(t: &[u8], slot: usize) -> CountAnswer
+pub fn x_image_offset(t: &[u8], slot: usize) -> Result<usize, Refusal>
     ensures { XImageAt t.now slot result }
 {
     let answer = x_image_answer(t, slot);
     match answer {
-        Outcome::Done => CountAnswer::Count(row_offset(width(t), slot)),
-        Outcome::Refused(why) => CountAnswer::NoCount(why),
+        Ok(()) => Ok(row_offset(width(t), slot)),
+        Err(why) => Err(why),
     }
 }
 
 // Where in the record the image of Z on this qubit starts.
-pub fn z_image_offset(t: &[u8], slot: usize) -> CountAnswer
+pub fn z_image_offset(t: &[u8], slot: usize) -> Result<usize, Refusal>
     ensures { ZImageAt t.now slot result }
 {
     let answer = z_image_answer(t, slot);
     match answer {
-        Outcome::Done => {
+        Ok(()) => {
             let n = width(t);
-            CountAnswer::Count(row_offset(n, n + slot))
+            Ok(row_offset(n, n + slot))
         }
-        Outcome::Refused(why) => CountAnswer::NoCount(why),
+        Err(why) => Err(why),
     }
 }
 
-fn set_answer(t: &[u8], slot: usize, s: &[u8]) -> Outcome
+fn set_answer(t: &[u8], slot: usize, s: &[u8]) -> Result<(), Refusal>
     ensures { result ≡ set_questions t.now slot s.now }
 {
     let whole = check_tableau(t);
     let first = and_then(whole, check_string(s));
-    let Outcome::Done = first else {
+    let Ok(()) = first else {
         return first;
     };
     let n = width(t);
@@ -105,22 +105,22 @@ fn set_answer(t: &[u8], slot: usize, s: &[u8]) -> Outcome
 }
 
 // The image of X on this qubit, replaced by the string s.
-pub fn set_x_image(t: &mut [u8], slot: usize, s: &[u8]) -> Outcome
+pub fn set_x_image(t: &mut [u8], slot: usize, s: &[u8]) -> Result<(), Refusal>
     ensures { XImageSet slot s.now t.old t.new result }
 {
     let answer = set_answer(t, slot, s);
-    if let Outcome::Done = answer {
+    if let Ok(()) = answer {
         set_row(t, slot, s);
     }
     answer
 }
 
 // The image of Z on this qubit, replaced by the string s.
-pub fn set_z_image(t: &mut [u8], slot: usize, s: &[u8]) -> Outcome
+pub fn set_z_image(t: &mut [u8], slot: usize, s: &[u8]) -> Result<(), Refusal>
     ensures { ZImageSet slot s.now t.old t.new result }
 {
     let answer = set_answer(t, slot, s);
-    if let Outcome::Done = answer {
+    if let Ok(()) = answer {
         set_row(t, width(t) + slot, s);
     }
     answer
@@ -129,11 +129,11 @@ pub fn set_z_image(t: &mut [u8], slot: usize, s: &[u8]) -> Outcome
 // ---- identity
 
 // The identity of width n: the tableau of width 0 widened.
-pub fn identity(n: usize, dst: &mut [u8]) -> Outcome
+pub fn identity(n: usize, dst: &mut [u8]) -> Result<(), Refusal>
     ensures { IdentityWritten n dst.old dst.new result }
 {
     let answer = check_width(n);
-    if let Outcome::Done = answer {
+    if let Ok(()) = answer {
         let none = [0u8; 1];
         return write_made(Made::Widened, &none, &none, n, dst);
     }
@@ -143,13 +143,13 @@ pub fn identity(n: usize, dst: &mut [u8]) -> Outcome
 // ---- apply
 
 // The image of the string s.
-pub fn apply(t: &[u8], s: &[u8], dst: &mut [u8]) -> Outcome
+pub fn apply(t: &[u8], s: &[u8], dst: &mut [u8]) -> Result<(), Refusal>
     ensures { Applied t.now s.now dst.old dst.new result }
 {
     let whole = check_tableau(t);
     let both = and_then(whole, check_string(s));
     let answer = and_then(both, check_room(STRING_LENGTH, dst.len()));
-    if let Outcome::Done = answer {
+    if let Ok(()) = answer {
         apply_string(t, s, &mut dst[0..STRING_LENGTH]);
     }
     answer
@@ -158,11 +158,11 @@ pub fn apply(t: &[u8], s: &[u8], dst: &mut [u8]) -> Outcome
 // ---- compose
 
 // a composed with b: b acts first.
-pub fn compose(a: &[u8], b: &[u8], dst: &mut [u8]) -> Outcome
+pub fn compose(a: &[u8], b: &[u8], dst: &mut [u8]) -> Result<(), Refusal>
     ensures { Composed a.now b.now dst.old dst.new result }
 {
     let answer = check_tableaux(a, b);
-    if let Outcome::Done = answer {
+    if let Ok(()) = answer {
         return write_made(Made::Composite, a, b, larger(width(a), width(b)), dst);
     }
     answer
@@ -171,12 +171,12 @@ pub fn compose(a: &[u8], b: &[u8], dst: &mut [u8]) -> Outcome
 // ---- extended_to
 
 // The tableau widened to n; a smaller n gives a copy.
-pub fn extended_to(t: &[u8], n: usize, dst: &mut [u8]) -> Outcome
+pub fn extended_to(t: &[u8], n: usize, dst: &mut [u8]) -> Result<(), Refusal>
     ensures { Extended t.now n dst.old dst.new result }
 {
     let whole = check_tableau(t);
     let answer = and_then(whole, check_width(n));
-    if let Outcome::Done = answer {
+    if let Ok(()) = answer {
         return write_made(Made::Widened, t, t, larger(width(t), n), dst);
     }
     answer
@@ -185,11 +185,11 @@ pub fn extended_to(t: &[u8], n: usize, dst: &mut [u8]) -> Outcome
 // ---- inverse
 
 // The inverse. Of an invalid tableau, what the same rule gives.
-pub fn inverse(t: &[u8], dst: &mut [u8]) -> Outcome
+pub fn inverse(t: &[u8], dst: &mut [u8]) -> Result<(), Refusal>
     ensures { Inverted t.now dst.old dst.new result }
 {
     let answer = check_tableau(t);
-    if let Outcome::Done = answer {
+    if let Ok(()) = answer {
         return write_made(Made::Inverse, t, t, width(t), dst);
     }
     answer
@@ -198,24 +198,24 @@ pub fn inverse(t: &[u8], dst: &mut [u8]) -> Outcome
 // ---- is_valid
 
 // Whether the tableau is valid.
-pub fn is_valid(t: &[u8]) -> Flag
+pub fn is_valid(t: &[u8]) -> Result<bool, Refusal>
     ensures { ValidityTold t.now result }
 {
     let answer = check_tableau(t);
     match answer {
-        Outcome::Done => if valid_rows(t) { Flag::Yes } else { Flag::No },
-        Outcome::Refused(why) => Flag::NoFlag(why),
+        Ok(()) => if valid_rows(t) { Ok(true) } else { Ok(false) },
+        Err(why) => Err(why),
     }
 }
 
 // ---- the tableau of a Pauli string
 
 // The string as a tableau, of width 1 where it has no letters.
-pub fn from_pauli_string(s: &[u8], dst: &mut [u8]) -> Outcome
+pub fn from_pauli_string(s: &[u8], dst: &mut [u8]) -> Result<(), Refusal>
     ensures { FromPauliString s.now dst.old dst.new result }
 {
     let answer = check_string(s);
-    if let Outcome::Done = answer {
+    if let Ok(()) = answer {
         return write_made(Made::OfPauli, s, s, span(s), dst);
     }
     answer
@@ -223,50 +223,50 @@ pub fn from_pauli_string(s: &[u8], dst: &mut [u8]) -> Outcome
 
 // ---- support_qubits
 
-fn support_answer(t: &[u8], room: usize) -> Outcome
+fn support_answer(t: &[u8], room: usize) -> Result<(), Refusal>
     ensures { result ≡ support_answer t.now room }
 {
     let first = check_tableau(t);
-    if let Outcome::Done = first {
+    if let Ok(()) = first {
         return check_room(support_count(t), room);
     }
     first
 }
 
 // The qubits of the support, rising, and their number.
-pub fn support_qubits(t: &[u8], dst: &mut [u8]) -> CountAnswer
+pub fn support_qubits(t: &[u8], dst: &mut [u8]) -> Result<usize, Refusal>
     ensures { SupportWritten t.now dst.old dst.new result }
 {
     let answer = support_answer(t, dst.len());
     match answer {
-        Outcome::Done => {
+        Ok(()) => {
             write_support(t, dst);
-            CountAnswer::Count(support_count(t))
+            Ok(support_count(t))
         }
-        Outcome::Refused(why) => CountAnswer::NoCount(why),
+        Err(why) => Err(why),
     }
 }
 
 // ---- display
 
-fn display_answer(t: &[u8], room: usize) -> Outcome
+fn display_answer(t: &[u8], room: usize) -> Result<(), Refusal>
     ensures { result ≡ display_answer t.now room }
 {
     let first = check_tableau(t);
-    if let Outcome::Done = first {
+    if let Ok(()) = first {
         return check_room(display_length(t), room);
     }
     first
 }
 
 // The text that shows a tableau; the answer is its length.
-pub fn display(t: &[u8], dst: &mut [u8]) -> CountAnswer
+pub fn display(t: &[u8], dst: &mut [u8]) -> Result<usize, Refusal>
     ensures { Displayed t.now dst.old dst.new result }
 {
     let answer = display_answer(t, dst.len());
     match answer {
-        Outcome::Done => CountAnswer::Count(write_display(t, dst)),
-        Outcome::Refused(why) => CountAnswer::NoCount(why),
+        Ok(()) => Ok(write_display(t, dst)),
+        Err(why) => Err(why),
     }
 }
 

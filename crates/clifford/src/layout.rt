@@ -7,7 +7,7 @@ ghost use Rattle.clifford.specs.Questions.{row_question, weights_question};
 ghost use Rattle.clifford.specs.Inside.Rows.{Sized, RowIndex, RowInside, RowAt, RowChecked, FirstFalse, OwnRow, OwnLetter, WorkOnRow, Finished, row_times, row_written, row_letters, letters_in, string_in, OnRow, LetterIndex, PairOnRow, PairIndex};
 
 use pauli::QUBITS;
-use pauli::refusal::{Outcome, Refusal};
+use pauli::refusal::Refusal;
 use pauli::rows::{copy, count_letters, first_bad, multiply_letters, phase_times, scan_letters};
 
 pub(crate) fn wide(x: u8) -> usize
@@ -56,28 +56,28 @@ pub(crate) fn row(t: &[u8], r: usize) -> &[u8]
 }
 
 // Question 3, put to a row that starts at this offset, the largest of its letters being known.
-fn check_codes(row: &[u8], at: usize, largest: u8) -> Outcome
+fn check_codes(row: &[u8], at: usize, largest: u8) -> Result<(), Refusal>
     requires { RowAt at row.now largest }
     ensures { result ≡ row_question at row.now }
 {
     if 3 < row[0] {
-        return Outcome::Refused(Refusal::BadByte { offset: at });
+        return Err(Refusal::BadByte { offset: at });
     }
     if largest < 4 {
-        return Outcome::Done;
+        return Ok(());
     }
     let letters = &row[2..];
     let k = first_bad(letters);
     if k < letters.len() {
-        return Outcome::Refused(Refusal::BadByte { offset: at + 2 + k });
+        return Err(Refusal::BadByte { offset: at + 2 + k });
     }
-    Outcome::Done
+    Ok(())
 }
 
 // What question 3 comes to in a row, and whether its weight is true.
 #[derive(Clone, Copy)]
 pub(crate) struct RowCheck {
-    pub(crate) codes: Outcome,
+    pub(crate) codes: Result<(), Refusal>,
     pub(crate) weighed: bool,
 }
 
@@ -96,17 +96,17 @@ pub(crate) fn check_row(t: &[u8], r: usize) -> RowCheck
 }
 
 // Question 24, where the first row with a false weight is known; there is none where it is not a row.
-pub(crate) fn check_weights(t: &[u8], first: usize) -> Outcome
+pub(crate) fn check_weights(t: &[u8], first: usize) -> Result<(), Refusal>
     requires { FirstFalse t.now first }
     ensures { result ≡ weights_question t.now }
 {
     let n = width(t);
     if first < 2 * n {
-        return Outcome::Refused(Refusal::FalseWeight {
+        return Err(Refusal::FalseWeight {
             offset: row_offset(n, first) + 1,
         });
     }
-    Outcome::Done
+    Ok(())
 }
 
 // The letters of row r.

@@ -8,15 +8,15 @@ ghost use Rattle.clifford.specs.GateQuestions.{gate_question, different_question
 
 use crate::layout::{LONGEST_RECORD, check_row, check_weights, record_length, width};
 use pauli::QUBITS;
-use pauli::refusal::{Outcome, Refusal};
+use pauli::refusal::Refusal;
 
-pub fn check_width(width: usize) -> Outcome
+pub fn check_width(width: usize) -> Result<(), Refusal>
     ensures { result ≡ width_question width }
 {
     if QUBITS < width {
-        return Outcome::Refused(Refusal::Width);
+        return Err(Refusal::Width);
     }
-    Outcome::Done
+    Ok(())
 }
 
 // The bytes of a tableau record of this width; a width above 128 has no record and is taken as 128.
@@ -30,13 +30,13 @@ pub fn record_size(width: usize) -> usize
 }
 
 // A qubit of a tableau whose image is meant.
-pub fn check_slot(slot: usize, width: usize) -> Outcome
+pub fn check_slot(slot: usize, width: usize) -> Result<(), Refusal>
     ensures { result ≡ slot_question slot width }
 {
     if slot < width {
-        return Outcome::Done;
+        return Ok(());
     }
-    Outcome::Refused(Refusal::Slot { slot, width })
+    Err(Refusal::Slot { slot, width })
 }
 
 // The first of n rows that has a false weight, kept: so far there is first, which is n where there is none.
@@ -53,7 +53,7 @@ fn keep_first(first: usize, n: usize, r: usize, weighed: bool) -> usize
 }
 
 // Questions 3 and 24, in one pass over the rows: every 3 comes before a 24.
-fn check_rows(t: &[u8]) -> Outcome
+fn check_rows(t: &[u8]) -> Result<(), Refusal>
     requires { Laid t.now }
     ensures { result ≡ rows_question (2 * width_of t.now) t.now and_then weights_question t.now }
 {
@@ -63,7 +63,7 @@ fn check_rows(t: &[u8]) -> Outcome
     while r < rows {
         let row = check_row(t, r);
         let codes = row.codes;
-        let Outcome::Done = codes else {
+        let Ok(()) = codes else {
             return codes;
         };
         first = keep_first(first, rows, r, row.weighed);
@@ -73,50 +73,50 @@ fn check_rows(t: &[u8]) -> Outcome
 }
 
 // A tableau record.
-pub fn check_tableau(t: &[u8]) -> Outcome
+pub fn check_tableau(t: &[u8]) -> Result<(), Refusal>
     ensures { result ≡ tableau_questions t.now }
 {
     if t.len() == 0 {
-        return Outcome::Refused(Refusal::Length);
+        return Err(Refusal::Length);
     }
     let n = width(t);
     let first = check_width(n);
-    let Outcome::Done = first else {
+    let Ok(()) = first else {
         return first;
     };
     if t.len() != record_length(n) {
-        return Outcome::Refused(Refusal::Length);
+        return Err(Refusal::Length);
     }
     check_rows(t)
 }
 
 // Two tableau records, the first one first.
-pub fn check_tableaux(a: &[u8], b: &[u8]) -> Outcome
+pub fn check_tableaux(a: &[u8], b: &[u8]) -> Result<(), Refusal>
     ensures { result ≡ compose_questions a.now b.now }
 {
     let first = check_tableau(a);
-    if let Outcome::Done = first {
+    if let Ok(()) = first {
         return check_tableau(b);
     }
     first
 }
 
 // A gate, or an index of the 24 products, below the limit.
-pub fn check_gate(limit: usize, gate: usize) -> Outcome
+pub fn check_gate(limit: usize, gate: usize) -> Result<(), Refusal>
     ensures { result ≡ gate_question limit gate }
 {
     if gate < limit {
-        return Outcome::Done;
+        return Ok(());
     }
-    Outcome::Refused(Refusal::Gate)
+    Err(Refusal::Gate)
 }
 
 // Two qubits of a gate.
-pub fn check_different(q: usize, r: usize) -> Outcome
+pub fn check_different(q: usize, r: usize) -> Result<(), Refusal>
     ensures { result ≡ different_question q r }
 {
     if q == r {
-        return Outcome::Refused(Refusal::SameQubit { qubit: q });
+        return Err(Refusal::SameQubit { qubit: q });
     }
-    Outcome::Done
+    Ok(())
 }

@@ -9,7 +9,7 @@ ghost use Rattle.clifford.specs.Inside.Writing.{SetsRow};
 
 use crate::layout::{row_offset, width, write_row};
 use pauli::QUBITS;
-use pauli::refusal::{Outcome, Refusal};
+use pauli::refusal::Refusal;
 
 // The lowest qubit at the width or above that has a letter, or 128.
 fn lowest_outside(s: &[u8], width: usize) -> usize
@@ -27,15 +27,15 @@ fn lowest_outside(s: &[u8], width: usize) -> usize
 }
 
 // Question 14.
-pub(crate) fn check_inside(s: &[u8], width: usize) -> Outcome
+pub(crate) fn check_inside(s: &[u8], width: usize) -> Result<(), Refusal>
     requires { Beside s.now width }
     ensures { result ≡ inside_question width (string_of s.now) }
 {
     let qubit = lowest_outside(s, width);
     if qubit < QUBITS {
-        return Outcome::Refused(Refusal::ImageWidth { qubit, width });
+        return Err(Refusal::ImageWidth { qubit, width });
     }
-    Outcome::Done
+    Ok(())
 }
 
 // Row r replaced by the string s.

@@ -2,7 +2,6 @@
 // Copyright 2024 The PECOS Developers, Apache License, Version 2.0.
 ghost use Rattle.std.specs.Prelude.{◌≡◌};
 ghost use Rattle.pauli_group.specs.PauliString.{single};
-ghost use Rattle.pauli.specs.declared.refusal.Outcome.TheVariants.{Done};
 ghost use Rattle.pauli.specs.Answers.{written};
 ghost use Rattle.pauli.specs.Layout.{letter_byte, letter_of};
 ghost use Rattle.clifford.specs.Layout.{FormedTableau, row_of, tableau_of, width_of};

@@ -1,6 +1,5 @@
 // Tableaux written row by row: each row is made in the part of the destination that starts at its offset.
 ghost use Rattle.std.specs.Prelude.{◌≡◌};
-ghost use Rattle.pauli.specs.declared.refusal.Outcome.TheVariants.{Done};
 ghost use Rattle.pauli.specs.Answers.{written};
 ghost use Rattle.clifford.specs.Layout.{row_of, tableau_record};
 ghost use Rattle.clifford.specs.Inside.Rows.{AppliesRow, image_written, row_written};
@@ -13,7 +12,7 @@ use crate::layout::{record_length, row_letter, row_offset, row_qubit, write_row}
 use crate::pauli_tableau::pauli_row;
 use pauli::STRING_LENGTH;
 use pauli::questions::check_room;
-use pauli::refusal::Outcome;
+use pauli::refusal::Refusal;
 
 // Which tableau is made from the bytes a and b: the tableau a widened, a composed with b, the inverse of a, the tableau of the
 // string a, or that of a gate, widened, which needs no bytes.
@@ -117,12 +116,12 @@ fn write_rows(made: Made, a: &[u8], b: &[u8], width: usize, dst: &mut [u8])
 }
 
 // The record of the tableau, where there is room for it.
-pub(crate) fn write_made(made: Made, a: &[u8], b: &[u8], width: usize, dst: &mut [u8]) -> Outcome
+pub(crate) fn write_made(made: Made, a: &[u8], b: &[u8], width: usize, dst: &mut [u8]) -> Result<(), Refusal>
     requires { Makes made a.now b.now width }
     ensures { MadeWritten made a.now b.now width dst.old dst.new result }
 {
     let answer = check_room(record_length(width), dst.len());
-    if let Outcome::Done = answer {
+    if let Ok(()) = answer {
         write_rows(made, a, b, width, dst);
     }
     answer

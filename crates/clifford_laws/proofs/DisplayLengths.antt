@@ -14,7 +14,6 @@ use Rattle.pauli_group.specs.PauliString.{PauliString, qubits, Within}
 use Rattle.clifford_group.specs.Tableau.{Tableau, is_valid, Proper}
 use Rattle.clifford_group.specs.Conjugation.{of_x, of_z}
 use Rattle.clifford_group.proofs.Valid.{test_valid}
-use Rattle.pauli.specs.declared.refusal.Outcome.TheVariants.{Done}
 use Rattle.pauli.specs.SparseText.{decimal, digits_to, prefix_text, entry_word, words_at, entry_words, spaced, body_text, sparse_text_to, sparse_text}
 use Rattle.pauli.proofs.SparseTexts.{text-length}
 use Rattle.clifford.specs.Display.{name_text, qubits_text, arrow_text, newline, header_text, generator_text, label_text, line_text, display_row, lines_text, display_text, text_of_tableau}
@@ -26,6 +25,7 @@ use Rattle.clifford.proofs.Display.{decimal-short, order_even, order_odd, order_
 use Rattle.clifford.proofs.Asking.{tableau-formed, tableaux_admitted}
 use Rattle.clifford.proofs.Rows.{row-x, row-z, rows_same, width_of_lem}
 use Rattle.clifford.proofs.Records.{record-back}
+use Rattle.std.specs.Prelude.{Ok, true, false, Bool, ℕ}
 
 -- ---- a line: nine bytes, the digits of its qubit, and the image
 qubit_of : (w i : ℕ) → i < 2 * w → row_qubit w (display_row w i) ≡ i / 2
@@ -139,10 +139,10 @@ text-real s e =
     )
 
 -- ---- the most that a display text can be
-narrow_of : (t : List ℕ) → tableau_questions t ≡ Done → (tableau_of t).width ≤ 128
+narrow_of : (t : List ℕ) → tableau_questions t ≡ Ok tt → (tableau_of t).width ≤ 128
 narrow_of t e = omega (arith, width_of_lem t, (tableau-formed t e).narrow)
 
-pub display_most : (t : List ℕ) → tableau_questions t ≡ Done → length (text_of_tableau t) ≤ 138813
+pub display_most : (t : List ℕ) → tableau_questions t ≡ Ok tt → length (text_of_tableau t) ≤ 138813
 unfolding text_of_tableau
 display_most t e = omega (arith, lines_any, display_within (tableau_of t) 531 (narrow_of t e) (λ r h. text-length (row_of (tableau_of t) r)))
 
@@ -156,7 +156,7 @@ rows-real t v r h = elim (dec_lt r t.width) [
       ap (λ (k : ℕ). is_real (row_of t k).phase) e ∙ ap (λ s. is_real s.phase) (row-z t q) ∙ (test_valid t v).real of_z q (omega arith)
 ]
 
-pub valid_display_most : (t : List ℕ) → tableau_questions t ≡ Done → record_valid t ≡ true → length (text_of_tableau t) ≤ 138557
+pub valid_display_most : (t : List ℕ) → tableau_questions t ≡ Ok tt → record_valid t ≡ true → length (text_of_tableau t) ≤ 138557
 unfolding text_of_tableau record_valid
 valid_display_most t e v =
     omega (
@@ -199,7 +199,7 @@ three : length (decimal 128) ≡ 3
 unfolding decimal digits_to
 three = refl
 
-pub display_longest : (tableau_questions (tableau_record longest) ≡ Done) × (length (text_of_tableau (tableau_record longest)) ≡ 138813)
+pub display_longest : (tableau_questions (tableau_record longest) ≡ Ok tt) × (length (text_of_tableau (tableau_record longest)) ≡ 138813)
 unfolding text_of_tableau
 display_longest = (
   tableaux_admitted longest longest-proper,

@@ -10,7 +10,6 @@ use Rattle.clifford_gates.specs.GateTableaux.{on_qubit}
 use Rattle.clifford_gates.specs.GateNumbers.{one_qubit_gate}
 use Rattle.clifford_gates.proofs.OneQubitUpdates.{width-on_qubit}
 use Rattle.clifford_gates.proofs.GateNames.{some-qubit, name_same, on_qubit_names, named-valid, named-same}
-use Rattle.clifford.specs.declared.clifford.GateAnswer.TheVariants.{Named, Unnamed}
 use Rattle.clifford.specs.Layout.{width_of, tableau_of, FormedTableau}
 use Rattle.clifford.specs.Tableaux.{record_valid}
 use Rattle.clifford.specs.GateAnswers.{name_answer, one_qubit_record, record_name}
@@ -19,6 +18,7 @@ use Rattle.clifford.proofs.Asking.{tableau-formed}
 use Rattle.clifford.proofs.Records.{record-back, record_there, proper_of, same-record}
 use Rattle.clifford_laws.specs.NamedGates.{NameTheorem}
 use Rattle.clifford_laws.proofs.GateRecords.{one_clifford}
+use Rattle.std.specs.Prelude.{Ok, Some, None, true, false, Bool, ℕ}
 
 -- ---- the name
 name_valid : {t : List ℕ} → FormedTableau t → ltb (record_name t) 24 ≡ eqb (width_of t) 1 && record_valid t
@@ -36,18 +36,18 @@ name_only g h =
     name_same _ _ back (omega (arith, back.width, width-on_qubit (one_qubit_gate g) 0)) ∙ on_qubit_names g h
 
 -- ---- the answer
-is-named : (b : Bool) {n g : ℕ} → cond b (Named n) Unnamed ≡ Named g → (b ≡ true) × (n ≡ g)
+is-named : (b : Bool) {n g : ℕ} → cond b (Ok (Some n)) (Ok None) ≡ Ok (Some g) → (b ≡ true) × (n ≡ g)
 is-named true e = (refl, cc)
 is-named false e = (cc, cc)
 
 pub names_exactly : NameTheorem
 names_exactly t q r p = record {
-  exactly = answer ∙ ap (λ b. cond b (Named n) Unnamed) (name_valid f);
+  exactly = answer ∙ ap (λ b. cond b (Ok (Some n)) (Ok None)) (name_valid f);
   own = λ g e. let found = is-named (ltb n 24) (sym answer ∙ e) in
       let small : n < 24 = ltb-true n 24 found.0 in
       subst (λ k. (k < 24) × (one_qubit_record k 0 ≡ t)) found.1 (small, name_own f small);
   only = λ g h e. let same : n ≡ g = sym (ap record_name e) ∙ name_only g h in
-      answer ∙ ap (λ b. cond b (Named n) Unnamed) (lt-ltb n 24 (omega arith)) ∙ ap Named same;
+      answer ∙ ap (λ b. cond b (Ok (Some n)) (Ok None)) (lt-ltb n 24 (omega arith)) ∙ ap Ok (Some same);
 }
   where
     n : ℕ
@@ -56,5 +56,5 @@ names_exactly t q r p = record {
     f : FormedTableau t
     f = tableau-formed t q
 
-    answer : r ≡ cond (ltb n 24) (Named n) Unnamed
+    answer : r ≡ cond (ltb n 24) (Ok (Some n)) (Ok None)
     answer = unfold name_answer in p.answer ∙ ap (λ o. name_answer o n) q

@@ -15,10 +15,7 @@ use Rattle.clifford_group.proofs.Images.{alike-widen, same_alike, proper-widen}
 use Rattle.clifford_group.proofs.Apply.{apply-widen, apply-within}
 use Rattle.clifford_group.proofs.Homomorphism.{generators_valid, is_valid_iff_multiplicative, is_valid-widen, alike_iff_same}
 use Rattle.clifford_group.proofs.Same.{apply-same, is_valid-same}
-use Rattle.pauli.specs.declared.refusal.Outcome.{Outcome}
-use Rattle.pauli.specs.declared.refusal.Outcome.TheVariants.{Done, Refused}
-use Rattle.pauli.specs.declared.refusal.Flag.TheVariants.{Yes}
-use Rattle.pauli.specs.Answers.{flag_answer}
+use Rattle.pauli.specs.Answers.{flag_answer, Outcome}
 use Rattle.pauli.specs.Layout.{string_record, string_of}
 use Rattle.pauli.specs.Questions.{strings_questions, mul_questions}
 use Rattle.pauli.specs.Strings.{product_record}
@@ -30,13 +27,14 @@ use Rattle.clifford.specs.Tableaux.{record_valid, apply_record, extend_record}
 use Rattle.clifford.proofs.Asking.{width_narrow, admitted_tableaux, admitted_proper}
 use Rattle.clifford.proofs.Records.{record-back, same-record, record_same}
 use Rattle.clifford_laws.specs.Validity.{ProductSent, RecordMultiplicative, generator_record, GeneratorsSent, RecordsSendAlike, larger_width, SameBytesWidened, ValiditySentence}
+use Rattle.std.specs.Prelude.{Ok, Err, true, false, Bool, ℕ}
 
 -- two strings with one record are the same
 string_equal : (s u : PauliString) → Within qubits s → Within qubits u → string_record s ≡ string_record u → s ≡ u
 string_equal s u hs hu e = sym (string-back s hs) ∙ ap string_of e ∙ string-back u hu
 
 -- ---- products
-module _ (t : List ℕ) (asked : tableau_questions t ≡ Done) where
+module _ (t : List ℕ) (asked : tableau_questions t ≡ Ok tt) where
   abbrev T : Tableau
   T = tableau_of t
 
@@ -91,7 +89,7 @@ module _ (t : List ℕ) (asked : tableau_questions t ≡ Done) where
   valid_iff_generators = ((λ v. multiplicative_sent (valid_multiplicative v)), sent-valid)
 
 -- ---- two records
-module _ (t u : List ℕ) (asked_t : tableau_questions t ≡ Done) (asked_u : tableau_questions u ≡ Done) where
+module _ (t u : List ℕ) (asked_t : tableau_questions t ≡ Ok tt) (asked_u : tableau_questions u ≡ Ok tt) where
   abbrev n : ℕ
   n = larger_width t u
 
@@ -99,7 +97,7 @@ module _ (t u : List ℕ) (asked_t : tableau_questions t ≡ Done) (asked_u : ta
   unfolding tableau_of
   narrow = omega (arith, (admitted_proper t asked_t).narrow, (admitted_proper u asked_u).narrow)
 
-  wide-proper : (b : List ℕ) → tableau_questions b ≡ Done → Proper (widen n (tableau_of b))
+  wide-proper : (b : List ℕ) → tableau_questions b ≡ Ok tt → Proper (widen n (tableau_of b))
   wide-proper b e = proper-widen n narrow (tableau_of b) (admitted_proper b e)
 
   pub alike_iff_same_bytes : RecordsSendAlike t u ↔ SameBytesWidened t u
@@ -126,7 +124,7 @@ module _ (t u : List ℕ) (asked_t : tableau_questions t ≡ Done) (asked_u : ta
           (subst (λ v. string_record (apply T v) ≡ string_record (apply U v)) (string-back s h) (e (string_record s) (strings_admitted s)))
 
 -- ---- a record widened: what it sends and whether it is valid stay
-module _ (t : List ℕ) (asked : tableau_questions t ≡ Done) (n : ℕ) (h : n ≤ qubits) where
+module _ (t : List ℕ) (asked : tableau_questions t ≡ Ok tt) (n : ℕ) (h : n ≤ qubits) where
   widened : Same (tableau_of (extend_record t n)) (widen n (tableau_of t))
   unfolding extend_record
   widened = record-back (widen n (tableau_of t)) (proper-widen n h (tableau_of t) (admitted_proper t asked))
@@ -140,7 +138,7 @@ module _ (t : List ℕ) (asked : tableau_questions t ≡ Done) (n : ℕ) (h : n 
   extend_valid = is_valid-same _ _ widened ∙ is_valid-widen n h (tableau_of t) (admitted_proper t asked)
 
 -- "a smaller width gives a copy"
-pub extend_copy : (t : List ℕ) → tableau_questions t ≡ Done → (n : ℕ) → n ≤ width_of t → extend_record t n ≡ t
+pub extend_copy : (t : List ℕ) → tableau_questions t ≡ Ok tt → (n : ℕ) → n ≤ width_of t → extend_record t n ≡ t
 unfolding extend_record tableau_of
 extend_copy t e n h =
     let T = tableau_of t in
@@ -149,7 +147,7 @@ extend_copy t e n h =
     ∙ sym (admitted_tableaux t e)
 
 -- so records of one width that send every string alike are the same
-pub alike_iff_equal : (t u : List ℕ) → tableau_questions t ≡ Done → tableau_questions u ≡ Done → width_of t ≡ width_of u → RecordsSendAlike t u ↔ (t ≡ u)
+pub alike_iff_equal : (t u : List ℕ) → tableau_questions t ≡ Ok tt → tableau_questions u ≡ Ok tt → width_of t ≡ width_of u → RecordsSendAlike t u ↔ (t ≡ u)
 alike_iff_equal t u et eu w = (
   (λ e. sym copy_t ∙ (alike_iff_same_bytes t u et eu).0 e ∙ copy_u),
   (λ e s h. ap (λ b. apply_record b s) e),
@@ -162,19 +160,19 @@ alike_iff_equal t u et eu w = (
     copy_u = extend_copy u eu (larger_width t u) (omega (arith, w))
 
 -- ---- the request's sentences
-small : (t u : List ℕ) → tableau_questions t ≡ Done → tableau_questions u ≡ Done → larger_width t u ≤ 128
+small : (t u : List ℕ) → tableau_questions t ≡ Ok tt → tableau_questions u ≡ Ok tt → larger_width t u ≤ 128
 unfolding qubits
 small = narrow
 
-widening : (b : List ℕ) (n room : ℕ) → tableau_questions b ≡ Done → n ≤ 128 → n ≡ max (width_of b) n → record_length n ≤ room → extend_answer b n room ≡ Done
+widening : (b : List ℕ) (n room : ℕ) → tableau_questions b ≡ Ok tt → n ≤ 128 → n ≡ max (width_of b) n → record_length n ≤ room → extend_answer b n room ≡ Ok tt
 unfolding extend_answer extend_questions
 widening b n room e h w l = done_room _ _ room (done_both _ _ e (sym (width_narrow h))) (subst (λ (m : ℕ). record_length m ≤ room) w l)
 
-yes_told : (q : Outcome) (b : Bool) → flag_answer q b ≡ Yes → (q ≡ Done) × (b ≡ true)
+yes_told : (q : Outcome) (b : Bool) → flag_answer q b ≡ (Ok true) → (q ≡ Ok tt) × (b ≡ true)
 unfolding flag_answer
-yes_told Done true e = (refl, refl)
-yes_told Done false e = (refl, cc)
-yes_told (Refused x) b e = (cc, cc)
+yes_told (Ok tt) true e = (refl, refl)
+yes_told (Ok tt) false e = (refl, cc)
+yes_told (Err x) b e = (cc, cc)
 
 pub validity_sentence : ValiditySentence
 unfolding flag_answer apply_record product_record apply_answer apply_questions mul_questions strings_questions

@@ -7,9 +7,7 @@ use native.Mathlib.Omega.{arith}
 use lib.ListN.{length, take}
 use lib.Seq.{take_at}
 use Rattle.pauli_group.specs.PauliString.{qubits}
-use Rattle.pauli.specs.declared.refusal.Outcome.{Outcome}
-use Rattle.pauli.specs.declared.refusal.Outcome.TheVariants.{Done, Refused}
-use Rattle.pauli.specs.Answers.{written}
+use Rattle.pauli.specs.Answers.{written, Outcome}
 use Rattle.pauli.specs.Layout.{string_length}
 use Rattle.pauli.specs.Questions.{string_questions}
 use Rattle.pauli.proofs.Asking.{done_both, done_first, done_room, strings_admitted}
@@ -19,22 +17,23 @@ use Rattle.clifford.specs.Tableaux.{Good, identity_record, apply_record, compose
 use Rattle.clifford_laws.specs.WayBack.{Call, is_done, call_answer, accepts, destination_after, next_record, record_after, steps_of, Step, Steps, step, product_from, product_of, sent_by, EachApplied, none_left, applied, WayBack}
 use Rattle.clifford.proofs.RecordLaws.{compose-formed, compose-width, compose-length, compose-good, records_assoc, identity-width, identity-good, identity-left, inverse-width, inverse-good, inverse_left, inverse-right, send_compose, send_identity}
 use Rattle.clifford.proofs.Asking.{tableau-formed, formed-good}
+use Rattle.std.specs.Prelude.{Ok, Err, true, false, Bool, ℕ}
 
 -- ---- one call
-is_done_lem : (q : Outcome) → is_done q ≡ true → q ≡ Done
+is_done_lem : (q : Outcome) → is_done q ≡ true → q ≡ Ok tt
 unfolding is_done
-is_done_lem Done e = refl
-is_done_lem (Refused x) e = absurd (no e)
+is_done_lem (Ok tt) e = refl
+is_done_lem (Err x) e = absurd (no e)
   where
     no : false ≡ true → ⊥
     no e = let z : ◌≡◌ {A = ℕ} 0 1 = ap (λ b. cond b 1 0) e in omega arith
 
 module _ (r : List ℕ) (c : Call) (h : accepts r c ≡ true) where
-  done : call_answer r c ≡ Done
+  done : call_answer r c ≡ Ok tt
   unfolding accepts
   done = is_done_lem (call_answer r c) h
 
-  asked : compose_questions c.a r ≡ Done
+  asked : compose_questions c.a r ≡ Ok tt
   unfolding call_answer compose_answer
   asked = done_first _ _ done
 
@@ -180,7 +179,7 @@ product-sends n p (a ∷ rest) fp (more g w gs) s =
 
 -- ---- the way back
 -- each string on the way is a record, so the next `apply` is accepted
-each_applied : (n : ℕ) (steps : List (List ℕ)) → GoodSteps n steps → (s : List ℕ) → string_questions s ≡ Done → (room : ℕ)
+each_applied : (n : ℕ) (steps : List (List ℕ)) → GoodSteps n steps → (s : List ℕ) → string_questions s ≡ Ok tt → (room : ℕ)
     → string_length ≤ room → EachApplied room steps s
 unfolding apply_answer apply_questions apply_record
 each_applied n [] gs s e room l = none_left
@@ -254,7 +253,7 @@ module _ (n : ℕ) (n≤ : n ≤ 128) (first rest : List Call) (premise : Steps 
       ∙ ap (λ (x : List ℕ). compose_record x then) (inverse_left product_is_good)
       ∙ identity-left (width_of made) then_good.formed (omega (arith, product-width, then_width))
 
-  strings-back : (s : List ℕ) → string_questions s ≡ Done → apply_record (compose_record (inverse_record made) now) s ≡ sent_by (steps_of start first) s
+  strings-back : (s : List ℕ) → string_questions s ≡ Ok tt → apply_record (compose_record (inverse_record made) now) s ≡ sent_by (steps_of start first) s
   strings-back s e =
       ap (λ (x : List ℕ). apply_record x s) (bytes_back ∙ then_is) ∙ product-sends n start (steps_of start first) start_good.formed first_good s
       ∙ ap (sent_by (steps_of start first)) (send_identity n (small_width n n≤) s e)
@@ -266,12 +265,12 @@ module _ (n : ℕ) (n≤ : n ≤ 128) (first rest : List Call) (premise : Steps 
   now_width : width_of now ≡ max (width_of made) (width_of then)
   now_width = ap width_of now_is ∙ compose-width made then
 
-  asked-inverse : (room : ℕ) → length made ≤ room → inverse_answer made room ≡ Done
+  asked-inverse : (room : ℕ) → length made ≤ room → inverse_answer made room ≡ Ok tt
   unfolding inverse_answer
   asked-inverse room l =
       done_room _ _ room (formed-good made product_is_good.formed) (omega (arith, product_is_good.formed.long))
 
-  asked-compose : (room : ℕ) → length now ≤ room → compose_answer (inverse_record made) now room ≡ Done
+  asked-compose : (room : ℕ) → length now ≤ room → compose_answer (inverse_record made) now room ≡ Ok tt
   unfolding compose_answer compose_questions
   asked-compose room l =
       let wide : max (width_of (inverse_record made)) (width_of now) ≡ width_of now =
@@ -280,8 +279,8 @@ module _ (n : ℕ) (n≤ : n ≤ 128) (first rest : List Call) (premise : Steps 
       ap record_length wide ∙ sym now_formed.long in
       done_room _ _ room (done_both _ _ (formed-good (inverse_record made) back-good.formed) (formed-good now now_formed)) (omega arith)
 
-  asked-apply : (s : List ℕ) → string_questions s ≡ Done → (room : ℕ) → string_length ≤ room
-      → apply_answer (compose_record (inverse_record made) now) s room ≡ Done
+  asked-apply : (s : List ℕ) → string_questions s ≡ Ok tt → (room : ℕ) → string_length ≤ room
+      → apply_answer (compose_record (inverse_record made) now) s room ≡ Ok tt
   unfolding apply_answer apply_questions
   asked-apply s e room l =
       done_room _ _ room

@@ -8,7 +8,6 @@ use native.Mathlib.Omega.{arith}
 use lib.ListN.{length, get_or, take, drop}
 use Rattle.pauli_group.specs.PauliString.{PauliString, weight_to}
 use Rattle.clifford_group.specs.Tableau.{Tableau, Proper, Same}
-use Rattle.pauli.specs.declared.refusal.Outcome.TheVariants.{Done}
 use Rattle.pauli.specs.Layout.{encode_string, decode_string}
 use Rattle.pauli.proofs.Records.{length_encode, decode_encode}
 use Rattle.clifford.specs.Layout.{weight_place, letter_place, row_length, encode_row, letters_of, row_offset, row_of, joined, width_of, row_part, tableau_of, tableau_record, each_row}
@@ -18,16 +17,17 @@ use Rattle.clifford.proofs.Rows.{row-some, same_rows, rows-within, row_part_lem,
 use Rattle.clifford.proofs.Records.{part_record, width-record, same-record}
 use Rattle.clifford.proofs.Asking.{tableau-formed, tableaux_admitted, admitted_tableaux, admitted_proper}
 use Rattle.clifford_laws.specs.Weights.{Encodes, without_weight, without_weights, plain_record}
+use Rattle.std.specs.Prelude.{Ok, ℕ}
 
 -- ---- what is let by
-pub admitted_exactly : (b : List ℕ) → (tableau_questions b ≡ Done) ↔ Encodes b
+pub admitted_exactly : (b : List ℕ) → (tableau_questions b ≡ Ok tt) ↔ Encodes b
 admitted_exactly b = (
   (λ e. record { tableau = tableau_of b; proper = admitted_proper b e; is = admitted_tableaux b e }),
   (λ e. ap tableau_questions e.is ∙ tableaux_admitted e.tableau e.proper),
 )
 
 -- the byte behind a row's phase is the number of its letters other than I
-pub weights_true : (b : List ℕ) → tableau_questions b ≡ Done → (r : ℕ) → r < 2 * width_of b
+pub weights_true : (b : List ℕ) → tableau_questions b ≡ Ok tt → (r : ℕ) → r < 2 * width_of b
     → get_or b (2 + r * (width_of b + 2)) 0 ≡ weight_to (width_of b) (row_of (tableau_of b) r)
 weights_true b e r h =
     let w : ℕ = width_of b in
@@ -71,9 +71,9 @@ plain_same t u p q e = same_rows t u wide each
         ∙ ap (decode_string u.width) (part u r (omega (arith, wide)))
         ∙ decode_encode u.width (row_of u r) (rows-within u q r (omega (arith, wide)))
 
-pub weights_follow : (a b : List ℕ) → tableau_questions a ≡ Done → tableau_questions b ≡ Done → without_weights a ≡ without_weights b → a ≡ b
+pub weights_follow : (a b : List ℕ) → tableau_questions a ≡ Ok tt → tableau_questions b ≡ Ok tt → without_weights a ≡ without_weights b → a ≡ b
 weights_follow a b ea eb e =
-    let plain : (l : List ℕ) → tableau_questions l ≡ Done → without_weights l ≡ plain_record (tableau_of l) =
+    let plain : (l : List ℕ) → tableau_questions l ≡ Ok tt → without_weights l ≡ plain_record (tableau_of l) =
     λ l h. ap without_weights (admitted_tableaux l h) ∙ weights_dropped (tableau_of l) in
     admitted_tableaux a ea
     ∙ same-record (tableau_of a) (tableau_of b) (plain_same (tableau_of a) (tableau_of b) (admitted_proper a ea) (admitted_proper b eb) (sym (plain a ea) ∙ e ∙ plain b eb))

@@ -8,7 +8,6 @@ use lib.ListN.{length, take, drop, get_or, length-append}
 use lib.Seq.{take_at, drop_at}
 use Rattle.pauli.specs.declared.refusal.Refusal.{Refusal}
 use Rattle.pauli.specs.declared.refusal.Refusal.TheVariants.{BadByte, Room, FalseWeight}
-use Rattle.pauli.specs.declared.refusal.Outcome.TheVariants.{Done, Refused}
 use Rattle.pauli_group.specs.Phase.{◌·◌, negate, turn, is_real}
 use Rattle.pauli_group.specs.Letter.{not_i, letter_product, letter_phase, letter_mul, anticommute}
 use Rattle.pauli_group.specs.PauliString.{qubits, product_to, count_to, has_letter, weight_to, anticommuting_places, commute, phase_of_letters, mul, identity_string, scale, single}
@@ -28,13 +27,14 @@ use Rattle.clifford_laws.specs.Witnesses.{first_letter, first_weight, Witness, h
 use Rattle.clifford_laws.proofs.WayBacks.{after-steps, steps-more, steps_kept, steps_nil, next-is, next_kept}
 use Rattle.clifford_laws.proofs.WayBackSteps.{way_back, record_then_lem}
 use Rattle.clifford_laws.proofs.Readings.{same-is}
+use Rattle.std.specs.Prelude.{Ok, Err, true, false, ℕ}
 
 -- what the calls of a list do to the record r, up to the record now
 data Trace : List ℕ → List Call → List (List ℕ) → List ℕ → Type 0 where
   end : {r : List ℕ} → Trace r [] [] r
-  taken : {r next now : List ℕ} {c : Call} {cs : List Call} {ss : List (List ℕ)} → call_answer r c ≡ Done → compose_record c.a r ≡ next → Trace next cs ss now
+  taken : {r next now : List ℕ} {c : Call} {cs : List Call} {ss : List (List ℕ)} → call_answer r c ≡ Ok tt → compose_record c.a r ≡ next → Trace next cs ss now
       → Trace r (c ∷ cs) (c.a ∷ ss) now
-  kept : {r now : List ℕ} {c : Call} {cs : List Call} {ss : List (List ℕ)} {x : Refusal} → call_answer r c ≡ Refused x
+  kept : {r now : List ℕ} {c : Call} {cs : List Call} {ss : List (List ℕ)} {x : Refusal} → call_answer r c ≡ Err x
       → Trace r cs ss now → Trace r (c ∷ cs) ss now
 
 trace_steps : {r now : List ℕ} {cs : List Call} {ss : List (List ℕ)} → Trace r cs ss now → steps_of r cs ≡ ss
@@ -88,16 +88,16 @@ compositions = record {
 
 -- which calls are accepted, and with what the others are refused
 pub record Replies : Type 0 where
-  pub one : call_answer (identity_record 1) (call h_record (record_length 1 + 1)) ≡ Done
-  pub one_bad : call_answer h_record bad_call ≡ Refused (BadByte (first_letter 1))
-  pub one-false : call_answer h_record false_call ≡ Refused (FalseWeight (first_weight 1))
-  pub one-short : call_answer h_record short_call ≡ Refused Room
-  pub first : call_answer (identity_record 2) (call cx_record (record_length 2)) ≡ Done
-  pub short : call_answer cx_record short_call ≡ Refused Room
-  pub second : call_answer cx_record (call h_record (record_length 2)) ≡ Done
-  pub bad : call_answer after_two bad_call ≡ Refused (BadByte (first_letter 1))
-  pub false-weight : call_answer after_two false_call ≡ Refused (FalseWeight (first_weight 1))
-  pub third : call_answer after_two (call sz_record (record_length 2 + 1)) ≡ Done
+  pub one : call_answer (identity_record 1) (call h_record (record_length 1 + 1)) ≡ Ok tt
+  pub one_bad : call_answer h_record bad_call ≡ Err (BadByte (first_letter 1))
+  pub one-false : call_answer h_record false_call ≡ Err (FalseWeight (first_weight 1))
+  pub one-short : call_answer h_record short_call ≡ Err Room
+  pub first : call_answer (identity_record 2) (call cx_record (record_length 2)) ≡ Ok tt
+  pub short : call_answer cx_record short_call ≡ Err Room
+  pub second : call_answer cx_record (call h_record (record_length 2)) ≡ Ok tt
+  pub bad : call_answer after_two bad_call ≡ Err (BadByte (first_letter 1))
+  pub false-weight : call_answer after_two false_call ≡ Err (FalseWeight (first_weight 1))
+  pub third : call_answer after_two (call sz_record (record_length 2 + 1)) ≡ Ok tt
 
 pub replies : Replies
 unfolding gate_record gate_tableau one_qubit_gate one_qubit_gates two_qubit_gate two_qubit_gates on_qubit on_qubits gate_on_each image_string pair_string pair_row compose_record tableau_of letter_in decode_row compose widen apply apply_to image_of row_image identity_string scale mul phase_of_letters product_to letter_phase letter_mul letter_product ◌·◌ negate turn phase_of letter_of call_answer compose_answer compose_questions tableau_questions width_question length_question rows_question weights_question true_weight first_false row_question row_part row_offset letter_place letters_of bytes_question first_bad ask ◌and_then◌ room_question record_length row_length first_place identity_record tableau_record encode_row row_of joined listed identity_tableau single phase_byte letter_byte qubits weight_to has_letter not_i count_to

@@ -1,8 +1,7 @@
 -- The readings that the scope document marks with a star, and tableaux that are not valid: what is asked, and what is answered: the
 -- number, the value, and the bytes written.
 use Rattle.std.specs.Prelude.{ℕ, ◌+◌, ◌*◌, ◌-◌, cond, ltb, List, [], ◌∷◌, ◌++◌, length, replicate}
-use Rattle.pauli.specs.declared.refusal.Outcome.{Outcome}
-use Rattle.pauli.specs.Answers.{one_or_zero, reply_to}
+use Rattle.pauli.specs.Answers.{one_or_zero, reply_to, Outcome}
 use Rattle.pauli.specs.Questions.{pair_questions, mul_questions}
 use Rattle.pauli.specs.Rows.{phase_bytes_product, product_phase_byte, product_letter_byte}
 use Rattle.pauli.specs.Strings.{places_taken_of_records, product_record}

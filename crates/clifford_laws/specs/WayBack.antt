@@ -1,8 +1,6 @@
 -- Steps and the way back (scope document, section of that name): lists of calls `compose(a, record)`, refused ones included.
-use Rattle.std.specs.Prelude.{ℕ, zero, suc, max, ◌≤◌, ◌≡◌, Bool, true, false, cond, List, [], ◌∷◌, length, take, drop}
-use Rattle.pauli.specs.declared.refusal.Outcome.{Outcome}
-use Rattle.pauli.specs.declared.refusal.Outcome.TheVariants.{Done, Refused}
-use Rattle.pauli.specs.Answers.{written}
+use Rattle.std.specs.Prelude.{ℕ, zero, suc, max, ◌≤◌, ◌≡◌, Bool, true, false, cond, List, [], ◌∷◌, length, take, drop, Ok, Err}
+use Rattle.pauli.specs.Answers.{written, Outcome}
 use Rattle.pauli.specs.Layout.{string_length}
 use Rattle.pauli.specs.Questions.{string_questions}
 use Rattle.clifford.specs.Layout.{record_length, width_of}
@@ -16,8 +14,8 @@ pub record Call : Type 0 where
 
 -- "A call is accepted when its questions on entry all let it by": the answer that `compose` promises, where b is the record r
 unfoldable pub is_done : Outcome → Bool
-is_done Done = true
-is_done (Refused x) = false
+is_done (Ok tt) = true
+is_done (Err x) = false
 
 unfoldable pub call_answer : List ℕ → Call → Outcome
 call_answer r c = compose_answer c.a r (length c.destination)
@@ -69,7 +67,7 @@ sent_by (a ∷ rest) s = sent_by rest (apply_record a s)
 -- each `apply` on that way is accepted
 pub data EachApplied (room : ℕ) : List (List ℕ) → List ℕ → Type 0 where
   none_left : {s : List ℕ} → EachApplied room [] s
-  applied : {a s : List ℕ} {rest : List (List ℕ)} → apply_answer a s room ≡ Done → EachApplied room rest (apply_record a s) → EachApplied room (a ∷ rest) s
+  applied : {a s : List ℕ} {rest : List (List ℕ)} → apply_answer a s room ≡ Ok tt → EachApplied room rest (apply_record a s) → EachApplied room (a ∷ rest) s
 
 -- The way back from the record now to the record then, which the steps earlier made. product is that of the steps since.
 module _ (earlier : List (List ℕ)) (product then now : List ℕ) where
@@ -78,19 +76,19 @@ module _ (earlier : List (List ℕ)) (product then now : List ℕ) where
 
   pub record WayBack : Type 0 where
     -- each call is accepted wherever the room suffices
-    pub inverts : (room : ℕ) → length product ≤ room → inverse_answer product room ≡ Done
-    pub composes : (room : ℕ) → length now ≤ room → compose_answer back now room ≡ Done
-    pub applies : (s : List ℕ) → string_questions s ≡ Done → (room : ℕ) → string_length ≤ room → apply_answer (compose_record back now) s room ≡ Done
+    pub inverts : (room : ℕ) → length product ≤ room → inverse_answer product room ≡ Ok tt
+    pub composes : (room : ℕ) → length now ≤ room → compose_answer back now room ≡ Ok tt
+    pub applies : (s : List ℕ) → string_questions s ≡ Ok tt → (room : ℕ) → string_length ≤ room → apply_answer (compose_record back now) s room ≡ Ok tt
     -- byte for byte, the record then
     pub bytes : compose_record back now ≡ then
     -- as one call more of the list, into any destination that is long enough
     pub accepted : (d : List ℕ) → length now ≤ length d → accepts now (record { a = back; destination = d }) ≡ true
     pub returns : (d : List ℕ) → length now ≤ length d → next_record now (record { a = back; destination = d }) ≡ then
     -- strings of all letters and phases go as by the earlier steps
-    pub sends : (s : List ℕ) → string_questions s ≡ Done → (room : ℕ) → string_length ≤ room → EachApplied room earlier s
-    pub strings : (s : List ℕ) → string_questions s ≡ Done → apply_record (compose_record back now) s ≡ sent_by earlier s
+    pub sends : (s : List ℕ) → string_questions s ≡ Ok tt → (room : ℕ) → string_length ≤ room → EachApplied room earlier s
+    pub strings : (s : List ℕ) → string_questions s ≡ Ok tt → apply_record (compose_record back now) s ≡ sent_by earlier s
     -- the inverse is a record, valid, of the product's width, and two-sided
-    pub formed : tableau_questions back ≡ Done
+    pub formed : tableau_questions back ≡ Ok tt
     pub valid : record_valid back ≡ true
     pub width : width_of back ≡ width_of product
     pub left : compose_record back product ≡ identity_record (width_of product)

@@ -1,7 +1,7 @@
 -- The scope document's example, H on 0 and then CX 0 to 1: what the program writes is computed.
+use Rattle.std.specs.Prelude.{Ok}
 use mathlib.Core.Path.{◌≡◌, refl, ap, ap₂, ◌∙◌}
 use Rattle.pauli_group.specs.PauliString.{qubits}
-use Rattle.pauli.specs.declared.refusal.Outcome.TheVariants.{Done}
 use Rattle.pauli.specs.Questions.{ask, ◌and_then◌}
 use Rattle.clifford.specs.Display.{text_of_tableau}
 use Rattle.clifford.specs.GateAnswers.{gate_record}
@@ -16,7 +16,7 @@ use Rattle.gate_list.specs.Runs.{tableaux_of, run_record}
 use Rattle.gate_list.proofs.ListReadings.{example, example_gates}
 use Rattle.pauli.specs.QuotedText.{bytes_of}
 
-example_runs : list_questions example ≡ Done
+example_runs : list_questions example ≡ Ok tt
 unfolding ask ◌and_then◌ width_question qubits record_count byte_of list_width next_of size_question head_question link_question zeros_question step_gate_question step_qubit_question step_second_questions record_questions is_met chain_questions list_questions
 example_runs = refl
 

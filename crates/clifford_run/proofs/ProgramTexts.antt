@@ -9,10 +9,7 @@ use lib.Seq.{take_all, take_at}
 use borrow.Author.Rules.{rules}
 use Rattle.pauli.specs.declared.refusal.Refusal.{Refusal}
 use Rattle.pauli.specs.declared.refusal.Refusal.TheVariants.{ListLength}
-use Rattle.pauli.specs.declared.refusal.Outcome.TheVariants.{Done, Refused}
-use Rattle.pauli.specs.declared.refusal.CountAnswer.{CountAnswer}
-use Rattle.pauli.specs.declared.refusal.CountAnswer.TheVariants.{Count, NoCount}
-use Rattle.pauli.specs.Answers.{count_answer, written, CountWritten}
+use Rattle.pauli.specs.Answers.{count_answer, written, CountWritten, Answer}
 use Rattle.pauli.proofs.Asking.{refused}
 use Rattle.clifford.specs.Display.{text_of_tableau}
 use Rattle.gate_list.specs.ListQuestions.{size_question, list_questions}
@@ -24,9 +21,10 @@ use Rattle.clifford_run.specs.declared.Input.{Input}
 use Rattle.clifford_run.specs.declared.Input.TheVariants.{Read, Failed}
 use Rattle.clifford_run.specs.Program.{input_most}
 use Rattle.clifford_run.specs.Inside.Program.{Owed, ReportRoom, Buffers, InputRead, ReportWritten}
+use Rattle.std.specs.Prelude.{Ok, Err, ℕ}
 
 -- ---- a longer input than the longest list is 16, whatever follows
-size_over : (l : List ℕ) → input_most ≤ length l → Refused ListLength ≡ size_question l
+size_over : (l : List ℕ) → input_most ≤ length l → Err ListLength ≡ size_question l
 size_over l h = elim (ℕ_discrete (length l % 6) 0) [ yes e ↦ size_long l e (omega arith) (omega arith) | no e ↦ size_odd l e ]
 
 text_over : (l : List ℕ) → input_most ≤ length l → report_text l ≡ refusal_text ListLength
@@ -60,18 +58,18 @@ module _ {d e f : List ℕ} {k : ℕ} (m : Reading d e k) (same : length f ≡ l
 pub ruleset inputs = (input_ended, input_failed, rules)
 
 -- ---- the report of a list at the front of a text with room for any
-module _ (l : List ℕ) {d e : List ℕ} {r : CountAnswer} (o : ReportRoom d) (w : CountWritten (report_answer l (length d)) (report_text l) d e r) where
-  done : report_answer l (length d) ≡ Done
+module _ (l : List ℕ) {d e : List ℕ} {r : Answer ℕ} (o : ReportRoom d) (w : CountWritten (report_answer l (length d)) (report_text l) d e r) where
+  done : report_answer l (length d) ≡ Ok tt
   done = report_done l (length d) o.room
 
-  counted : r ≡ Count (length (report_text l))
+  counted : r ≡ Ok (length (report_text l))
   unfolding count_answer
   counted = w.answer ∙ ap (λ q. count_answer q (length (report_text l))) done
 
-  bytes : e ≡ written Done (report_text l) d
+  bytes : e ≡ written (Ok tt) (report_text l) d
   bytes = w.bytes ∙ ap (λ q. written q (report_text l) d) done
 
-  pub text_made : {n : ℕ} → r ≡ Count n → ReportWritten l d e n
+  pub text_made : {n : ℕ} → r ≡ Ok n → ReportWritten l d e n
   unfolding written
   text_made {n} h =
       let count : n ≡ length (report_text l) = cc counted in
@@ -82,7 +80,7 @@ module _ (l : List ℕ) {d e : List ℕ} {r : CountAnswer} (o : ReportRoom d) (w
         text = ap (take n) bytes ∙ take_at (report_text l) (drop (length (report_text l)) d) n (sym count);
       }
 
-  pub text_never : {x : Refusal} → r ≡ NoCount x → ReportWritten l d e 0
+  pub text_never : {x : Refusal} → r ≡ Err x → ReportWritten l d e 0
   text_never h = let z : ◌≡◌ {A = ℕ} 0 1 = cc counted in absurd (omega arith)
 
 pub ruleset program_texts = (text_made, text_never, rules)

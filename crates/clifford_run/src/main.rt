@@ -6,7 +6,7 @@ ghost use Rattle.std.specs.Prelude.{length, take};
 ghost use Rattle.clifford_run.specs.Inside.Program.{Buffers, InputRead, ReportRoom, ReportWritten, Owed};
 
 use gate_list::gate_list::report;
-use pauli::refusal::CountAnswer;
+
 use std::io::{Read, Write};
 
 // How many bytes were read.
@@ -40,8 +40,8 @@ fn make_report(list: &[u8], text: &mut [u8]) -> usize
 {
     let answer = report(list, text);
     match answer {
-        CountAnswer::Count(length) => length,
-        CountAnswer::NoCount(_) => 0,
+        Ok(length) => length,
+        Err(_) => 0,
     }
 }
 

@@ -10,7 +10,6 @@ use lib.ListN.{length}
 use borrow.Author.Tests.{eqb-true, eqb-false, leb-true, ltb-true, lt-leb, le-ltb, eq-eqb, ne_eqb, not-true}
 use Rattle.pauli_group.specs.PauliString.{qubits}
 use Rattle.pauli.specs.declared.refusal.Refusal.TheVariants.{Width, StepGate, StepQubit, StepSameQubit, ListRecord, Loop}
-use Rattle.pauli.specs.declared.refusal.Outcome.TheVariants.{Done}
 use Rattle.pauli.specs.Questions.{ask, ◌and_then◌}
 use Rattle.pauli.proofs.Asking.{ask_done, done_first, done_second, never_done}
 use Rattle.clifford_group.proofs.Valid.{and_both}
@@ -21,31 +20,32 @@ use Rattle.gate_list.specs.OrderedLists.{PlayFits, PlaysFit, none, more, Chain, 
 use Rattle.gate_list.specs.Runs.{step_count}
 use Rattle.gate_list.proofs.Chains.{chain_met, chain_more, link_done, record-link}
 use Rattle.gate_list.proofs.ListAdmitted.{Sized, size_done, sized_few}
+use Rattle.std.specs.Prelude.{Ok, true, false, Bool, ℕ}
 
 -- ---- one record
-module _ (l : List ℕ) (i : ℕ) (e : record_questions l i ≡ Done) where
-  pub zeros_of : zeros_question l i ≡ Done
+module _ (l : List ℕ) (i : ℕ) (e : record_questions l i ≡ Ok tt) where
+  pub zeros_of : zeros_question l i ≡ Ok tt
   unfolding record_questions
   zeros_of = done_first _ _ e
 
-  gate_of : step_gate_question l i ≡ Done
+  gate_of : step_gate_question l i ≡ Ok tt
   unfolding record_questions
   gate_of = done_first _ _ (done_second (zeros_question l i) _ e)
 
-  first_of : step_qubit_question l i (byte_of l i 1) ≡ Done
+  first_of : step_qubit_question l i (byte_of l i 1) ≡ Ok tt
   unfolding record_questions
   first_of = done_first _ _ (done_second (step_gate_question l i) _ (done_second (zeros_question l i) _ e))
 
-  second_of_lem : step_second_questions l i ≡ Done
+  second_of_lem : step_second_questions l i ≡ Ok tt
   unfolding record_questions
   second_of_lem =
       done_first _ _
       (done_second (step_qubit_question l i (byte_of l i 1)) _ (done_second (step_gate_question l i) _ (done_second (zeros_question l i) _ e)))
 
-  two_of : 24 ≤ byte_of l i 0 → step_qubit_question l i (byte_of l i 2) and_then ask (not (eqb (byte_of l i 1) (byte_of l i 2))) (StepSameQubit i) ≡ Done
+  two_of : 24 ≤ byte_of l i 0 → step_qubit_question l i (byte_of l i 2) and_then ask (not (eqb (byte_of l i 1) (byte_of l i 2))) (StepSameQubit i) ≡ Ok tt
   unfolding step_second_questions
   two_of h =
-      sym (ap (λ b. cond b Done (step_qubit_question l i (byte_of l i 2) and_then ask (not (eqb (byte_of l i 1) (byte_of l i 2))) (StepSameQubit i))) (le-ltb (byte_of l i 0) 24 h)) ∙ second_of_lem
+      sym (ap (λ b. cond b (Ok tt) (step_qubit_question l i (byte_of l i 2) and_then ask (not (eqb (byte_of l i 1) (byte_of l i 2))) (StepSameQubit i))) (le-ltb (byte_of l i 0) 24 h)) ∙ second_of_lem
 
   or_second : {a b : Bool} → (a || b) ≡ true → a ≡ false → b ≡ true
   or_second {a} {b} h k = sym (ap (λ x. x || b) k) ∙ h
@@ -79,16 +79,16 @@ played_end : (l : List ℕ) (i : ℕ) → i ≡ 0 → Played l i []
 unfolding plays_of
 played_end l i h = record { chain = subst (λ (j : ℕ). Chain l j []) (sym h) ends; plays = none }
 
-played-more : {l : List ℕ} {i : ℕ} {rest : List ℕ} → (i ≡ 0 → ⊥) → i < record_count l → record_questions l i ≡ Done
+played-more : {l : List ℕ} {i : ℕ} {rest : List ℕ} → (i ≡ 0 → ⊥) → i < record_count l → record_questions l i ≡ Ok tt
     → Played l (next_of l i) rest → Played l i (i ∷ rest)
 unfolding plays_of
 played-more {l} {i} h o e p = record { chain = links h o p.chain; plays = more (record-play l i e) p.plays }
 
-chain_zero : (l met : List ℕ) (i : ℕ) → chain_questions l met zero i ≡ Done → i ≡ 0
+chain_zero : (l met : List ℕ) (i : ℕ) → chain_questions l met zero i ≡ Ok tt → i ≡ 0
 unfolding chain_questions
 chain_zero l met i e = eqb-true i 0 (ask_done _ (Loop i) e)
 
-chain_done : (l met : List ℕ) (n i : ℕ) → i < record_count l → chain_questions l met n i ≡ Done → Played l i (chain_from l n i)
+chain_done : (l met : List ℕ) (n i : ℕ) → i < record_count l → chain_questions l met n i ≡ Ok tt → Played l i (chain_from l n i)
 chain_done l met zero i o e =
     let z = chain_zero l met i e in
     subst (Played l i) (sym (chain_none l zero i z)) (played_end l i z)
@@ -97,7 +97,7 @@ chain_done l met (suc n) i o e = elim (ℕ_discrete i 0) [
   | no z ↦ step (λ o e. chain_done l (i ∷ met) n (next_of l i) o e) z (is_met met i) refl
 ]
   where
-    step : (next_of l i < record_count l → chain_questions l (i ∷ met) n (next_of l i) ≡ Done → Played l (next_of l i) (chain_from l n (next_of l i)))
+    step : (next_of l i < record_count l → chain_questions l (i ∷ met) n (next_of l i) ≡ Ok tt → Played l (next_of l i) (chain_from l n (next_of l i)))
         → (i ≡ 0 → ⊥) → (b : Bool) → is_met met i ≡ b → Played l i (chain_from l (suc n) i)
     step then z true m = absurd (never_done (sym (chain_met l met (suc n) i z m) ∙ e))
     step then z false m =
@@ -107,16 +107,16 @@ chain_done l met (suc n) i o e = elim (ℕ_discrete i 0) [
         subst (Played l i) (sym (chain_one l n i z)) (played-more z o own (then (record-link l i own) rest))
 
 -- ---- a whole list
-module _ (l : List ℕ) (e : list_questions l ≡ Done) where
-  size_of : size_question l ≡ Done
+module _ (l : List ℕ) (e : list_questions l ≡ Ok tt) where
+  size_of : size_question l ≡ Ok tt
   unfolding list_questions
   size_of = done_first _ _ e
 
-  width_of_lem : width_question (list_width l) ≡ Done
+  width_of_lem : width_question (list_width l) ≡ Ok tt
   unfolding list_questions
   width_of_lem = done_first _ _ (done_second (size_question l) _ e)
 
-  links_of : link_question l 0 and_then chain_questions l [] (record_count l - 1) (next_of l 0) ≡ Done
+  links_of : link_question l 0 and_then chain_questions l [] (record_count l - 1) (next_of l 0) ≡ Ok tt
   unfolding list_questions
   links_of = done_second (head_question l) _ (done_second (width_question (list_width l)) _ (done_second (size_question l) _ e))
 
@@ -158,6 +158,6 @@ chain_few l (suc n) i = step (chain_few l n (next_of l i)) (eqb i 0)
     step h true = omega arith
     step h false = omega arith
 
-pub steps-few : (l : List ℕ) → list_questions l ≡ Done → step_count l ≤ 4095
+pub steps-few : (l : List ℕ) → list_questions l ≡ Ok tt → step_count l ≤ 4095
 unfolding chain_of
 steps-few l e = omega (arith, step_count_lem l, chain_few l (record_count l - 1) (next_of l 0), sized_few (admitted_sized l e))

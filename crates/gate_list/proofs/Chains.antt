@@ -14,13 +14,13 @@ use Rattle.pauli_group.specs.PauliString.{count_to}
 use Rattle.pauli_group.proofs.Products.{count_changed}
 use Rattle.pauli.specs.declared.refusal.Refusal.{Refusal}
 use Rattle.pauli.specs.declared.refusal.Refusal.TheVariants.{Link, Loop}
-use Rattle.pauli.specs.declared.refusal.Outcome.{Outcome}
-use Rattle.pauli.specs.declared.refusal.Outcome.TheVariants.{Done, Refused}
 use Rattle.pauli.specs.Questions.{◌and_then◌}
 use Rattle.pauli.proofs.Asking.{asked_yes, asked_no, ask_done, refused, passed, done_second}
 use Rattle.gate_list.specs.Lists.{record_count, byte_of, next_of}
 use Rattle.gate_list.specs.ListQuestions.{link_question, zeros_question, step_gate_question, step_qubit_question, step_second_questions, record_questions, is_met, chain_questions}
 use Rattle.gate_list.specs.Inside.Reading.{OwnRecord, BeforeChain, links_question}
+use Rattle.pauli.specs.Answers.{Outcome}
+use Rattle.std.specs.Prelude.{Ok, Err, true, false, Bool, ℕ}
 
 -- ---- one place fewer
 pub count_fewer : (n : ℕ) (f g : ℕ → Bool) (p : ℕ) → p < n → f p ≡ true → g p ≡ false → ((q : ℕ) → (q ≡ p → ⊥) → f q ≡ g q) → count_to n f ≡ suc (count_to n g)
@@ -50,30 +50,30 @@ unmet_mark c m i h l e =
     other q d z = d (omega arith)
 
 -- ---- the questions along the chain, one record at a time
-pub chain_end : (l met : List ℕ) (n i : ℕ) → i ≡ 0 → chain_questions l met n i ≡ Done
+pub chain_end : (l met : List ℕ) (n i : ℕ) → i ≡ 0 → chain_questions l met n i ≡ Ok tt
 unfolding chain_questions
 chain_end l met zero i h = sym (asked_yes (Loop i) (eq-eqb i 0 h))
 chain_end l met (suc n) i h =
-    ap (λ b. cond b Done (cond (is_met met i) (Refused (Loop i)) (record_questions l i and_then chain_questions l (i ∷ met) n (next_of l i)))) (eq-eqb i 0 h)
+    ap (λ b. cond b (Ok tt) (cond (is_met met i) (Err (Loop i)) (record_questions l i and_then chain_questions l (i ∷ met) n (next_of l i)))) (eq-eqb i 0 h)
 
-pub chain_met : (l met : List ℕ) (n i : ℕ) → (i ≡ 0 → ⊥) → is_met met i ≡ true → chain_questions l met n i ≡ Refused (Loop i)
+pub chain_met : (l met : List ℕ) (n i : ℕ) → (i ≡ 0 → ⊥) → is_met met i ≡ true → chain_questions l met n i ≡ Err (Loop i)
 unfolding chain_questions
 chain_met l met zero i h e = sym (asked_no (Loop i) (ne_eqb i 0 h))
 chain_met l met (suc n) i h e =
-    ap₂ (λ a b. cond a Done (cond b (Refused (Loop i)) (record_questions l i and_then chain_questions l (i ∷ met) n (next_of l i)))) (ne_eqb i 0 h) e
+    ap₂ (λ a b. cond a (Ok tt) (cond b (Err (Loop i)) (record_questions l i and_then chain_questions l (i ∷ met) n (next_of l i)))) (ne_eqb i 0 h) e
 
 pub chain_more : (l met : List ℕ) (n i : ℕ) → (i ≡ 0 → ⊥) → is_met met i ≡ false
     → chain_questions l met (suc n) i ≡ record_questions l i and_then chain_questions l (i ∷ met) n (next_of l i)
 unfolding chain_questions
 chain_more l met n i h e =
-    ap₂ (λ a b. cond a Done (cond b (Refused (Loop i)) (record_questions l i and_then chain_questions l (i ∷ met) n (next_of l i)))) (ne_eqb i 0 h) e
+    ap₂ (λ a b. cond a (Ok tt) (cond b (Err (Loop i)) (record_questions l i and_then chain_questions l (i ∷ met) n (next_of l i)))) (ne_eqb i 0 h) e
 
 -- a record that passes links to a record
-pub link_done : (l : List ℕ) (i : ℕ) → link_question l i ≡ Done → next_of l i < record_count l
+pub link_done : (l : List ℕ) (i : ℕ) → link_question l i ≡ Ok tt → next_of l i < record_count l
 unfolding link_question
 link_done l i e = ltb-true _ _ (ask_done _ (Link i) e)
 
-pub record-link : (l : List ℕ) (i : ℕ) → record_questions l i ≡ Done → next_of l i < record_count l
+pub record-link : (l : List ℕ) (i : ℕ) → record_questions l i ≡ Ok tt → next_of l i < record_count l
 unfolding record_questions
 record-link l i e =
     link_done l i
@@ -94,11 +94,11 @@ pub walking_head : {l m : List ℕ} → BeforeChain l m → OwnRecord l 0
 walking_head u = record { own = u.some }
 
 module _ (l : List ℕ) {r : Outcome} (e : r ≡ link_question l 0) where
-  pub walking_not : {x : Refusal} → r ≡ Refused x → r ≡ links_question l
+  pub walking_not : {x : Refusal} → r ≡ Err x → r ≡ links_question l
   unfolding links_question
   walking_not h = refused _ e h
 
-  pub walking_start : {m : List ℕ} → r ≡ Done → BeforeChain l m → Walking l (links_question l) m 0
+  pub walking_start : {m : List ℕ} → r ≡ Ok tt → BeforeChain l m → Walking l (links_question l) m 0
   unfolding links_question is_met
   walking_start {m} h u = record {
     long = u.blank.long;
@@ -130,10 +130,10 @@ module _ {l m : List ℕ} {q : Outcome} {k i : ℕ} (w : Walking l q m k) (ei : 
   pub walking_room : i < length m
   walking_room = omega (arith, w.long, w.few, w.link)
 
-  pub walking_end : i ≡ 0 → Done ≡ q
+  pub walking_end : i ≡ 0 → Ok tt ≡ q
   walking_end h = sym (at-link ∙ chain_end l w.met left i h)
 
-  pub walking_met : (i ≡ 0 → ⊥) → (get_or m i 0 ≡ 0 → ⊥) → Refused (Loop i) ≡ q
+  pub walking_met : (i ≡ 0 → ⊥) → (get_or m i 0 ≡ 0 → ⊥) → Err (Loop i) ≡ q
   walking_met h e = sym (at-link ∙ chain_met l w.met left i h (w.marks i ∙ ap not (ne_eqb (get_or m i 0) 0 e)))
 
   module _ (h : i ≡ 0 → ⊥) (e : get_or m i 0 ≡ 0) where
@@ -154,10 +154,10 @@ module _ {l m : List ℕ} {q : Outcome} {k i : ℕ} (w : Walking l q m k) (ei : 
         at-link ∙ ap (λ (n : ℕ). chain_questions l w.met n i) fewer
         ∙ chain_more l w.met then_left i h (w.marks i ∙ ap not (eq-eqb (get_or m i 0) 0 e))
 
-    pub walking_refused : {r : Outcome} {x : Refusal} → r ≡ record_questions l i → r ≡ Refused x → r ≡ q
+    pub walking_refused : {r : Outcome} {x : Refusal} → r ≡ record_questions l i → r ≡ Err x → r ≡ q
     walking_refused er ex = refused (chain_questions l (i ∷ w.met) then_left (next_of l i)) er ex ∙ sym asked-next
 
-    pub walking_step : {r : Outcome} → r ≡ record_questions l i → r ≡ Done → Walking l q (set m i 1) i
+    pub walking_step : {r : Outcome} → r ≡ record_questions l i → r ≡ Ok tt → Walking l q (set m i 1) i
     unfolding is_met
     walking_step {r} er ed = record {
       long = length-set m i 1 ∙ w.long;

@@ -10,8 +10,6 @@ use borrow.Author.Rules.{rules}
 use borrow.Author.Tests.{eqb-true, leb-true}
 use Rattle.pauli.specs.declared.refusal.Refusal.{Refusal}
 use Rattle.pauli.specs.declared.refusal.Refusal.TheVariants.{ListLength}
-use Rattle.pauli.specs.declared.refusal.Outcome.{Outcome}
-use Rattle.pauli.specs.declared.refusal.Outcome.TheVariants.{Done, Refused}
 use Rattle.pauli.specs.Questions.{◌and_then◌}
 use Rattle.pauli.proofs.Asking.{ask_done, refused, passed}
 use Rattle.clifford_group.proofs.Valid.{and_both}
@@ -19,6 +17,8 @@ use Rattle.clifford.specs.Questions.{width_question}
 use Rattle.gate_list.specs.Lists.{record_count, list_width}
 use Rattle.gate_list.specs.ListQuestions.{size_question, head_question, list_questions}
 use Rattle.gate_list.specs.Inside.Reading.{OwnRecord, ByteSized, NoneMet, BeforeChain, links_question}
+use Rattle.pauli.specs.Answers.{Outcome}
+use Rattle.std.specs.Prelude.{Ok, Err, true, ℕ}
 
 -- ---- a list of records: at least the head, and at most 4,096
 pub record Sized (l : List ℕ) : Type 0 where
@@ -26,7 +26,7 @@ pub record Sized (l : List ℕ) : Type 0 where
   pub some : 6 ≤ length l
   pub few : length l ≤ 24576
 
-pub size_done : (l : List ℕ) → size_question l ≡ Done → Sized l
+pub size_done : (l : List ℕ) → size_question l ≡ Ok tt → Sized l
 unfolding size_question
 size_done l e =
     let all = ask_done _ ListLength e in
@@ -53,19 +53,19 @@ blank_zeros = record { long = length-replicate {A = ℕ} 4096 0; clear = clear }
     ]
 
 -- ---- the questions of a whole list in their order
-pub head-own : {l : List ℕ} {q : Outcome} → q ≡ size_question l → q ≡ Done → OwnRecord l 0
+pub head-own : {l : List ℕ} {q : Outcome} → q ≡ size_question l → q ≡ Ok tt → OwnRecord l 0
 head-own {l} e h = record { own = sized_some (size_done l (sym e ∙ h)) }
 
-pub list_unmarked : {l m : List ℕ} {q : Outcome} → NoneMet m → q ≡ size_question l → q ≡ Done → BeforeChain l m
+pub list_unmarked : {l m : List ℕ} {q : Outcome} → NoneMet m → q ≡ size_question l → q ≡ Ok tt → BeforeChain l m
 list_unmarked {l} b e h =
     let s = size_done l (sym e ∙ h) in
     record { blank = b; some = sized_some s; few = sized_few s }
 
-pub list_short : (l : List ℕ) {q : Outcome} {x : Refusal} → q ≡ size_question l → q ≡ Refused x → q ≡ list_questions l
+pub list_short : (l : List ℕ) {q : Outcome} {x : Refusal} → q ≡ size_question l → q ≡ Err x → q ≡ list_questions l
 unfolding list_questions
 list_short l e h = refused _ e h
 
-pub list_asked : (l : List ℕ) {n : ℕ} {q a b c x y : Outcome} → q ≡ size_question l → q ≡ Done → ByteSized (list_width l) n → a ≡ width_question n
+pub list_asked : (l : List ℕ) {n : ℕ} {q a b c x y : Outcome} → q ≡ size_question l → q ≡ Ok tt → ByteSized (list_width l) n → a ≡ width_question n
     → b ≡ head_question l → c ≡ links_question l → x ≡ b and_then c → y ≡ a and_then x → y ≡ list_questions l
 unfolding list_questions links_question
 list_asked l e h o ea eb ec ex ey = passed e h (ey ∙ ap₂ ◌and_then◌ (ea ∙ ap width_question o.is) (ex ∙ ap₂ ◌and_then◌ eb ec))

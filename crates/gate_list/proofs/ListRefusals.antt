@@ -7,20 +7,19 @@ use native.Mathlib.Omega.{arith}
 use lib.Dec.{eqb, ltb}
 use Rattle.pauli.specs.declared.refusal.Refusal.{Refusal}
 use Rattle.pauli.specs.declared.refusal.Refusal.TheVariants.{Width, StepGate, StepQubit, StepSameQubit, ListLength, ListRecord, Link, Loop}
-use Rattle.pauli.specs.declared.refusal.Outcome.{Outcome}
-use Rattle.pauli.specs.declared.refusal.Outcome.TheVariants.{Done, Refused}
-use Rattle.pauli.specs.Answers.{refusal_detail}
+use Rattle.pauli.specs.Answers.{refusal_detail, Outcome}
 use Rattle.pauli.specs.Questions.{ask, ◌and_then◌}
 use Rattle.clifford.specs.Questions.{width_question}
 use Rattle.gate_list.specs.Lists.{record_count, byte_of, list_width, next_of}
 use Rattle.gate_list.specs.ListQuestions.{size_question, head_question, link_question, zeros_question, step_gate_question, step_qubit_question, step_second_questions, record_questions, is_met, chain_questions, list_questions}
 use Rattle.gate_list.proofs.Chains.{link_done, record-link}
 use Rattle.gate_list.proofs.ListAdmitted.{size_done, sized_few}
+use Rattle.std.specs.Prelude.{Ok, Err, true, false, Bool, ℕ}
 
 -- ---- outcomes whose refusal, if there is one, is of a kind P
 pub data Refusing (P : Refusal → Type 0) : Outcome → Type 0 where
-  none : Refusing P Done
-  one : {r : Refusal} → P r → Refusing P (Refused r)
+  none : Refusing P (Ok tt)
+  one : {r : Refusal} → P r → Refusing P (Err r)
 
 pub refusing_ask : {P : Refusal → Type 0} (b : Bool) (r : Refusal) → P r → Refusing P (ask b r)
 unfolding ask
@@ -31,12 +30,12 @@ refusing_cond : {P : Refusal → Type 0} (b : Bool) {x y : Outcome} → Refusing
 refusing_cond true a b = a
 refusing_cond false a b = b
 
-refusing_then : {P : Refusal → Type 0} (a b : Outcome) → Refusing P a → (a ≡ Done → Refusing P b) → Refusing P (a and_then b)
+refusing_then : {P : Refusal → Type 0} (a b : Outcome) → Refusing P a → (a ≡ Ok tt → Refusing P b) → Refusing P (a and_then b)
 unfolding ◌and_then◌
-refusing_then Done b h k = k refl
-refusing_then (Refused r) b h k = h
+refusing_then (Ok tt) b h k = k refl
+refusing_then (Err r) b h k = h
 
-refusing_one : {P : Refusal → Type 0} {r : Refusal} → Refusing P (Refused r) → P r
+refusing_one : {P : Refusal → Type 0} {r : Refusal} → Refusing P (Err r) → P r
 refusing_one (one h) = h
 
 -- ---- one record
@@ -98,13 +97,13 @@ module _ (P : Refusal → Type 0) (l : List ℕ) (size : P ListLength) (width : 
       (λ z. refusing_then (link_question l 0) _ (link_refusing l 0 (own 0 (omega arith)))
       (λ k. chain_refusing [] (record_count l - 1) (next_of l 0) (sized_few (size_done l s)) (link_done l 0 k)))))
 
-  pub refusal_of : {r : Refusal} → list_questions l ≡ Refused r → P r
+  pub refusal_of : {r : Refusal} → list_questions l ≡ Err r → P r
   refusal_of e = refusing_one (subst (Refusing P) e list_refusing)
 
 pub record Listed (r : Refusal) : Type 0 where
   pub detail : refusal_detail r ≤ 4095
 
-pub refusal-listed : (l : List ℕ) {r : Refusal} → list_questions l ≡ Refused r → Listed r
+pub refusal-listed : (l : List ℕ) {r : Refusal} → list_questions l ≡ Err r → Listed r
 unfolding refusal_detail
 refusal-listed l =
     refusal_of Listed l (record { detail = omega arith }) (record { detail = omega arith })

@@ -9,7 +9,6 @@ use lib.ListN.{length, get_or, length-append}
 use lib.Seq.{get_or-append-add}
 use borrow.Author.Tests.{lt-ltb, eq-eqb, ne_eqb}
 use Rattle.pauli.specs.declared.refusal.Refusal.TheVariants.{StepGate, StepQubit}
-use Rattle.pauli.specs.declared.refusal.Outcome.TheVariants.{Done}
 use Rattle.pauli.proofs.Asking.{asked_yes, passed}
 use Rattle.clifford_laws.specs.WayBack.{product_of}
 use Rattle.clifford.proofs.Asking.{width_narrow}
@@ -21,6 +20,7 @@ use Rattle.gate_list.specs.Runs.{tableaux_of, run_record}
 use Rattle.gate_list.proofs.AdmittedChains.{chain_none, chain_one}
 use Rattle.gate_list.proofs.Chains.{chain_end, chain_more}
 use Rattle.gate_list.proofs.ListAsking.{size_good, head-good, link-good, zeros_good, right-two, right-one, two_in, different-good, second_none, second-two}
+use Rattle.std.specs.Prelude.{Ok, false, ℕ}
 
 -- ---- the bytes of record i
 pub record RecordIs (l : List ℕ) (i : ℕ) (p : Play) (next : ℕ) : Type 0 where
@@ -78,32 +78,32 @@ records_length i (p ∷ rest) = omega (arith, records_length (suc i) rest)
 
 -- ---- the questions of a record
 module _ {l : List ℕ} {i : ℕ} {p : Play} {next : ℕ} (r : RecordIs l i p next) (f : PlayFits (list_width l) p) (o : next < record_count l) where
-  zeros_done : Done ≡ zeros_question l i
+  zeros_done : Ok tt ≡ zeros_question l i
   zeros_done = elim (dec_lt (byte_of l i 0) 24) [
     | yes h ↦ zeros_good l i refl refl refl (right-one _ _ _ r.fixed h) (eq-eqb _ 0 (r.second ∙ f.unused (omega (arith, r.gate))))
     | no h ↦ zeros_good l i refl refl refl (right-two _ _ _ r.fixed (omega arith)) refl
   ]
 
-  gate_done : Done ≡ step_gate_question l i
+  gate_done : Ok tt ≡ step_gate_question l i
   unfolding step_gate_question
   gate_done = asked_yes (StepGate i) (lt-ltb (byte_of l i 0) 38 (omega (arith, r.gate, f.gate)))
 
-  qubit_done : (q : ℕ) → q < list_width l → Done ≡ step_qubit_question l i q
+  qubit_done : (q : ℕ) → q < list_width l → Ok tt ≡ step_qubit_question l i q
   unfolding step_qubit_question
   qubit_done q h = asked_yes (StepQubit i) (lt-ltb q (list_width l) h)
 
-  two_done : 24 ≤ p.gate → Done ≡ two_questions l i
+  two_done : 24 ≤ p.gate → Ok tt ≡ two_questions l i
   two_done h =
       two_in l i refl (qubit_done (byte_of l i 2) (omega (arith, r.second, f.second h))) refl refl
       (different-good i (byte_of l i 1) (byte_of l i 2) (λ e. f.different h (sym r.first ∙ e ∙ r.second)))
 
-  second_done : Done ≡ step_second_questions l i
+  second_done : Ok tt ≡ step_second_questions l i
   second_done = elim (dec_lt (byte_of l i 0) 24) [
     | yes h ↦ second_none l i refl h
     | no h ↦ second-two l i refl (omega arith) (two_done (omega (arith, r.gate)))
   ]
 
-  pub record_done : Done ≡ record_questions l i
+  pub record_done : Ok tt ≡ record_questions l i
   unfolding record_questions
   record_done =
       passed zeros_done refl
@@ -124,7 +124,7 @@ met-not i met h k l = ap₂ (λ a b. a || b) (ne_eqb i k (λ z. absurd (never z)
     never z = omega arith
 
 chain_admitted : {l : List ℕ} {i : ℕ} {ps : List Play} (met : List ℕ) → Holds l i ps → PlaysFit (list_width l) ps → 0 < i → record_count l ≡ i + length ps
-    → ((k : ℕ) → i ≤ k → is_met met k ≡ false) → chain_questions l met (length ps) (link_to i ps) ≡ Done
+    → ((k : ℕ) → i ≤ k → is_met met k ≡ false) → chain_questions l met (length ps) (link_to i ps) ≡ Ok tt
 unfolding link_to
 chain_admitted {l} {i} met empty none h c m = chain_end l met 0 0 refl
 chain_admitted {l} {i} met (holds {rest = rest} r s) (more f g) h c m =
@@ -203,7 +203,7 @@ module _ (w : ℕ) (ps : List Play) where
 
   -- it is admitted
   module _ (narrow : w ≤ 128) (few : length ps ≤ 4095) (fit : PlaysFit w ps) where
-    links_done : chain_questions list [] (record_count list - 1) (next_of list 0) ≡ Done
+    links_done : chain_questions list [] (record_count list - 1) (next_of list 0) ≡ Ok tt
     links_done =
         let left : record_count list - 1 ≡ length ps = omega (arith, ordered_count) in
         ap₂ (chain_questions list []) left head-is.link
@@ -212,7 +212,7 @@ module _ (w : ℕ) (ps : List Play) where
         nothing : (k : ℕ) → is_met [] k ≡ false
         nothing k = unfold is_met in refl
 
-    pub ordered_admitted : list_questions list ≡ Done
+    pub ordered_admitted : list_questions list ≡ Ok tt
     unfolding list_questions head_play
     ordered_admitted =
         sym

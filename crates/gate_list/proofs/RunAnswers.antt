@@ -8,11 +8,8 @@ use lib.Seq.{take_at, drop_at}
 use borrow.Author.Rules.{rules}
 use borrow.Rule.Slice.PartMut.{put_mid}
 use Rattle.pauli.specs.declared.refusal.Refusal.{Refusal}
-use Rattle.pauli.specs.declared.refusal.Outcome.{Outcome}
-use Rattle.pauli.specs.declared.refusal.Outcome.TheVariants.{Done, Refused}
-use Rattle.pauli.specs.declared.refusal.CountAnswer.TheVariants.{Count, NoCount}
 use Rattle.pauli_group.specs.PauliString.{qubits}
-use Rattle.pauli.specs.Answers.{written, Written, count_answer, count_reply}
+use Rattle.pauli.specs.Answers.{written, Written, count_answer, count_reply, Outcome}
 use Rattle.pauli.specs.Questions.{◌and_then◌, room_question}
 use Rattle.pauli.proofs.Asking.{refused, passed, has_room, done_first, done_second, room-is}
 use Rattle.pauli.proofs.Answers.{count-told}
@@ -29,10 +26,11 @@ use Rattle.gate_list.specs.Runs.{run_record, step_count, run_answer, RunAnswered
 use Rattle.gate_list.specs.Inside.Runs.{Begins, Ran, RunRoom, RunWritten}
 use Rattle.gate_list.proofs.AdmittedChains.{admitted_narrow}
 use Rattle.gate_list.proofs.RunTableaux.{run_length}
+use Rattle.std.specs.Prelude.{Ok, Err, ℕ}
 
 -- ---- the questions
 -- an admitted list's record has the size that its width has
-pub own_size : (l : List ℕ) {n k : ℕ} → list_questions l ≡ Done → ByteSized (list_width l) n → k ≡ record_length (min n 128) → k ≡ record_length (list_width l)
+pub own_size : (l : List ℕ) {n k : ℕ} → list_questions l ≡ Ok tt → ByteSized (list_width l) n → k ≡ record_length (min n 128) → k ≡ record_length (list_width l)
 own_size l {n} done en ek =
     let same : min n 128 ≡ list_width l = omega (arith, en.is, admitted_narrow l done) in
     ek ∙ ap record_length same
@@ -45,8 +43,8 @@ unfolding run_answer
 run_asked l room {n} {k} {q} {r} eq en ek er ea = ea ∙ ap (λ x. x and_then r) eq ∙ by (list_questions l) refl
   where
     by : (x : Outcome) → list_questions l ≡ x → list_questions l and_then r ≡ list_questions l and_then room_question (record_length (list_width l)) room
-    by Done h = ap (λ y. list_questions l and_then y) (er ∙ ap (λ (j : ℕ). room_question j room) (own_size l h en ek))
-    by (Refused y) h = sym (refused r refl h) ∙ refused _ refl h
+    by (Ok tt) h = ap (λ y. list_questions l and_then y) (er ∙ ap (λ (j : ℕ). room_question j room) (own_size l h en ek))
+    by (Err y) h = sym (refused r refl h) ∙ refused _ refl h
 
 pub ruleset run_asks = (run_asked, rules)
 
@@ -67,7 +65,7 @@ module _ {l d : List ℕ} {n k : ℕ} {e : List ℕ} {r : Outcome}
   unfolding identity_answer written
   begun =
       let narrow : n ≤ 128 = omega (arith, admitted_narrow l o.asked, b.is) in
-      let done : Done ≡ identity_answer n (length d) =
+      let done : Ok tt ≡ identity_answer n (length d) =
       passed (width_narrow narrow) refl (has_room (record_length n) (length d) (omega (arith, ap record_length b.is, o.room))) in
       w.bytes ∙ ap (λ q. written q (identity_record n) d) (sym done) ∙ ap (λ (j : ℕ). identity_record j ++ drop (length (identity_record j)) d) b.is
       ∙ ap (λ (j : ℕ). start ++ drop j d) start_long
@@ -106,19 +104,19 @@ module _ {l d : List ℕ} {n k : ℕ} {e : List ℕ} {r : Outcome}
 pub ruleset run_writes = (run_room, run_part, run_put, run_put_same, run_ran_same, rules)
 
 -- ---- the public answer
-pub run_admits : {l d : List ℕ} {q : Outcome} → q ≡ run_answer l (length d) → q ≡ Done → RunRoom l d
+pub run_admits : {l d : List ℕ} {q : Outcome} → q ≡ run_answer l (length d) → q ≡ Ok tt → RunRoom l d
 unfolding run_answer
 run_admits {l} {d} e h =
     let all = sym e ∙ h in
     record { asked = done_first _ _ all; room = room-is _ (length d) (done_second (list_questions l) _ all) }
 
-pub run_done : {l d e : List ℕ} {q r : Outcome} {n : ℕ} → r ≡ q → r ≡ Done → RunWritten l d e n → RunAnswered q (step_count l) (run_record l) d e (Count n)
+pub run_done : {l d e : List ℕ} {q r : Outcome} {n : ℕ} → r ≡ q → r ≡ Ok tt → RunWritten l d e n → RunAnswered q (step_count l) (run_record l) d e (Ok n)
 unfolding count_answer
 run_done {l} {d} {q = q} p h w =
-    let answer = ap Count w.steps ∙ ap (λ x. count_answer x (step_count l)) (sym h ∙ p) in
+    let answer = ap Ok w.steps ∙ ap (λ x. count_answer x (step_count l)) (sym h ∙ p) in
     record { answer = answer; told = ap count_reply answer ∙ count-told q (step_count l); bytes = w.bytes ∙ ap (λ x. written x (run_record l) d) (sym h ∙ p) }
 
-pub run_not : {q r : Outcome} {x : Refusal} (n : ℕ) (out d : List ℕ) → r ≡ q → r ≡ Refused x → RunAnswered q n out d d (NoCount x)
+pub run_not : {q r : Outcome} {x : Refusal} (n : ℕ) (out d : List ℕ) → r ≡ q → r ≡ Err x → RunAnswered q n out d d (Err x)
 unfolding count_answer written
 run_not {q} n out d p h =
     let answer = ap (λ x. count_answer x n) (sym h ∙ p) in

@@ -7,10 +7,7 @@ use lib.ListN.{length, take, drop}
 use lib.Seq.{take_at}
 use borrow.Author.Rules.{rules}
 use Rattle.pauli.specs.declared.refusal.Refusal.{Refusal}
-use Rattle.pauli.specs.declared.refusal.Outcome.{Outcome}
-use Rattle.pauli.specs.declared.refusal.Outcome.TheVariants.{Done, Refused}
-use Rattle.pauli.specs.declared.refusal.CountAnswer.{CountAnswer}
-use Rattle.pauli.specs.Answers.{refusal_detail, written, CountWritten}
+use Rattle.pauli.specs.Answers.{refusal_detail, written, CountWritten, Outcome, Answer}
 use Rattle.pauli.specs.Questions.{room_question}
 use Rattle.pauli.proofs.Decimals.{decimal-most}
 use Rattle.pauli.proofs.Asking.{passed, has_room}
@@ -31,6 +28,7 @@ use Rattle.gate_list.proofs.ListRefusals.{Listed, refusal-listed}
 use Rattle.gate_list.proofs.RefusalTexts.{number_short, refusal-length}
 use Rattle.gate_list.proofs.RunTableaux.{run_good, run_valid, run_length}
 use Rattle.gate_list.proofs.RunAnswers.{own_size, run_same}
+use Rattle.std.specs.Prelude.{Ok, Err, ℕ}
 
 -- ---- the run shown
 pub show_runs : {l t : List ℕ} → ShowRoom l t → RunRoom l t
@@ -50,7 +48,7 @@ module _ {l t e : List ℕ} {n m k : ℕ} (o : ShowRoom l t) (w : RunWritten l t
   unfolding written
   part_is = ap (take (k - 0)) w.bytes ∙ take_at (run_record l) (drop (length (run_record l)) t) (k - 0) (omega (arith, long))
 
-  pub run_shown : {d f : List ℕ} {r : CountAnswer}
+  pub run_shown : {d f : List ℕ} {r : Answer ℕ}
       → CountWritten (display_answer (take (k - 0) e) (length d)) (text_of_tableau (take (k - 0) e)) d f r → TextReported (text_of_tableau (run_record l)) d f r
   run_shown {d} {f} {r} x = subst (λ q. CountWritten q (text_of_tableau (run_record l)) d f r) (sym room) (subst (λ (y : List ℕ). CountWritten (display_answer y (length d)) (text_of_tableau y) d f r) part_is x)
     where
@@ -61,20 +59,20 @@ pub ruleset shows = (show_runs, show_same, show_part, run_shown, rules)
 
 -- ---- the report
 module _ (l : List ℕ) {q : Outcome} (e : q ≡ list_questions l) where
-  pub report_shows : {t : List ℕ} → q ≡ Done → WorkRoom t → ShowRoom l t
+  pub report_shows : {t : List ℕ} → q ≡ Ok tt → WorkRoom t → ShowRoom l t
   report_shows h o = record { asked = sym e ∙ h; long = o.long }
 
-  reported : {text d f : List ℕ} {r : CountAnswer} → text ≡ report_text l → TextReported text d f r
+  reported : {text d f : List ℕ} {r : Answer ℕ} → text ≡ report_text l → TextReported text d f r
       → CountWritten (report_answer l (length d)) (report_text l) d f r
   unfolding report_answer
   reported {d = d} {f} {r} z x = subst (λ (y : List ℕ). CountWritten (room_question (length y) (length d)) y d f r) z x
 
-  pub report_run : {d f : List ℕ} {r : CountAnswer} → q ≡ Done → TextReported (text_of_tableau (run_record l)) d f r
+  pub report_run : {d f : List ℕ} {r : Answer ℕ} → q ≡ Ok tt → TextReported (text_of_tableau (run_record l)) d f r
       → CountWritten (report_answer l (length d)) (report_text l) d f r
   unfolding report_text text_after
   report_run h x = reported (ap (λ y. text_after y (text_of_tableau (run_record l))) (sym h ∙ e)) x
 
-  pub report-refusal : {x : Refusal} {d f : List ℕ} {r : CountAnswer} → q ≡ Refused x → TextReported (refusal_text x) d f r
+  pub report-refusal : {x : Refusal} {d f : List ℕ} {r : Answer ℕ} → q ≡ Err x → TextReported (refusal_text x) d f r
       → CountWritten (report_answer l (length d)) (report_text l) d f r
   unfolding report_text text_after
   report-refusal h x = reported (ap (λ y. text_after y (text_of_tableau (run_record l))) (sym h ∙ e)) x
@@ -90,9 +88,9 @@ unfolding report_text text_after
 report-most l = by (list_questions l) refl
   where
     by : (q : Outcome) → list_questions l ≡ q → length (text_after q (text_of_tableau (run_record l))) ≤ 138557
-    by Done e = valid_display_most (run_record l) (formed-good (run_record l) (run_good l e).formed) (run_valid l e)
-    by (Refused r) e = refusal-short r (refusal-listed l e)
+    by (Ok tt) e = valid_display_most (run_record l) (formed-good (run_record l) (run_good l e).formed) (run_valid l e)
+    by (Err r) e = refusal-short r (refusal-listed l e)
 
-pub report_done : (l : List ℕ) (room : ℕ) → 138557 ≤ room → report_answer l room ≡ Done
+pub report_done : (l : List ℕ) (room : ℕ) → 138557 ≤ room → report_answer l room ≡ Ok tt
 unfolding report_answer
 report_done l room h = sym (has_room (length (report_text l)) room (omega (arith, report-most l)))

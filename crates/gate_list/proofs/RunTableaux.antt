@@ -7,7 +7,6 @@ use native.Mathlib.Decide.{dec_lt}
 use native.Mathlib.Omega.{arith}
 use lib.ListN.{length}
 use Rattle.pauli_group.specs.PauliString.{qubits}
-use Rattle.pauli.specs.declared.refusal.Outcome.TheVariants.{Done}
 use Rattle.clifford.specs.Layout.{record_length, width_of, longest_record}
 use Rattle.clifford.specs.GateAnswers.{gate_record}
 use Rattle.clifford.specs.Tableaux.{record_valid, Good, identity_record, compose_record}
@@ -23,6 +22,7 @@ use Rattle.gate_list.specs.OrderedLists.{PlayFits, PlaysFit, none, more}
 use Rattle.gate_list.specs.Runs.{tableaux_of, run_record}
 use Rattle.gate_list.proofs.GateOrder.{product-first}
 use Rattle.gate_list.proofs.AdmittedChains.{admitted_plays, admitted_narrow}
+use Rattle.std.specs.Prelude.{Ok, true, ℕ}
 
 -- ---- one gate
 module _ {w : ℕ} {p : Play} (small : w ≤ qubits) (f : PlayFits w p) where
@@ -65,7 +65,7 @@ unfolding tableaux_of
 gates_steps small none = back.none
 gates_steps small (more f g) = back.step (record { valid = (own-good small f).valid; narrow = gate-narrow small f }) (gates_steps small g)
 
-module _ (l : List ℕ) (e : list_questions l ≡ Done) where
+module _ (l : List ℕ) (e : list_questions l ≡ Ok tt) where
   small : list_width l ≤ qubits
   small = unfold qubits in admitted_narrow l e
 

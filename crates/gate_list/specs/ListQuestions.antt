@@ -1,11 +1,10 @@
 -- The questions put to a gate list (scope document, "Questions on entry", the paragraph "List"), in their order.
-use Rattle.std.specs.Prelude.{ℕ, zero, suc, ◌-◌, ◌%◌, Bool, false, cond, not, ◌&&◌, ◌||◌, List, [], ◌∷◌, eqb, ltb, leb, length}
+use Rattle.std.specs.Prelude.{ℕ, zero, suc, ◌-◌, ◌%◌, Bool, false, cond, not, ◌&&◌, ◌||◌, List, [], ◌∷◌, eqb, ltb, leb, length, Ok, Err}
 use Rattle.pauli.specs.declared.refusal.Refusal.TheVariants.{StepGate, StepQubit, StepSameQubit, ListLength, ListRecord, Link, Loop}
-use Rattle.pauli.specs.declared.refusal.Outcome.{Outcome}
-use Rattle.pauli.specs.declared.refusal.Outcome.TheVariants.{Done, Refused}
 use Rattle.pauli.specs.Questions.{ask, ◌and_then◌}
 use Rattle.clifford.specs.Questions.{width_question}
 use Rattle.gate_list.specs.Lists.{record_size, longest_list, record_count, byte_of, list_width, next_of}
+use Rattle.pauli.specs.Answers.{Outcome}
 
 -- "a multiple of 6, from 6 to 24,576 bytes? 16"
 unfoldable pub size_question : List ℕ → Outcome
@@ -33,7 +32,7 @@ step_qubit_question l i q = ask (ltb q (list_width l)) (StepQubit i)
 
 unfoldable pub step_second_questions : List ℕ → ℕ → Outcome
 step_second_questions l i =
-    cond (ltb (byte_of l i 0) 24) Done
+    cond (ltb (byte_of l i 0) 24) (Ok tt)
     (step_qubit_question l i (byte_of l i 2) and_then ask (not (eqb (byte_of l i 1) (byte_of l i 2))) (StepSameQubit i))
 
 -- "For each record 17, 4, 5, 6 [..], then its link"
@@ -51,7 +50,7 @@ is_met (m ∷ rest) i = eqb m i || is_met rest i
 unfoldable pub chain_questions : List ℕ → List ℕ → ℕ → ℕ → Outcome
 chain_questions l met zero i = ask (eqb i 0) (Loop i)
 chain_questions l met (suc n) i =
-    cond (eqb i 0) Done (cond (is_met met i) (Refused (Loop i)) (record_questions l i and_then chain_questions l (i ∷ met) n (next_of l i)))
+    cond (eqb i 0) (Ok tt) (cond (is_met met i) (Err (Loop i)) (record_questions l i and_then chain_questions l (i ∷ met) n (next_of l i)))
 
 -- 16; 1; the head's 17 and its link; then along the chain
 unfoldable pub list_questions : List ℕ → Outcome

@@ -1,10 +1,8 @@
 -- What the program writes (scope document, "Program"): "the `Display` text" of the run; "A refusal writes `refused N at D` and a
 -- newline, number and detail in decimal."
-use Rattle.std.specs.Prelude.{ℕ, List, [], ◌∷◌, ◌++◌, length}
+use Rattle.std.specs.Prelude.{ℕ, List, [], ◌∷◌, ◌++◌, length, Ok, Err}
 use Rattle.pauli.specs.declared.refusal.Refusal.{Refusal}
-use Rattle.pauli.specs.declared.refusal.Outcome.{Outcome}
-use Rattle.pauli.specs.declared.refusal.Outcome.TheVariants.{Done, Refused}
-use Rattle.pauli.specs.Answers.{refusal_number, refusal_detail}
+use Rattle.pauli.specs.Answers.{refusal_number, refusal_detail, Outcome}
 use Rattle.pauli.specs.QuotedText.{bytes_of}
 use Rattle.pauli.specs.Questions.{room_question}
 use Rattle.pauli.specs.SparseText.{decimal}
@@ -22,8 +20,8 @@ unfoldable pub refusal_text : Refusal → List ℕ
 refusal_text r = refused_text ++ (decimal (refusal_number r) ++ (at_text ++ (decimal (refusal_detail r) ++ (newline ∷ []))))
 
 unfoldable pub text_after : Outcome → List ℕ → List ℕ
-text_after Done t = t
-text_after (Refused r) t = refusal_text r
+text_after (Ok tt) t = t
+text_after (Err r) t = refusal_text r
 
 unfoldable pub report_text : List ℕ → List ℕ
 report_text l = text_after (list_questions l) (text_of_tableau (run_record l))

@@ -1,9 +1,7 @@
 -- The run of a gate list: "The run starts at the identity of that width and composes each gate on the left. It reports its steps: the
 -- gates on the chain."
 use Rattle.std.specs.Prelude.{ℕ, ◌≡◌, List, [], ◌∷◌, length}
-use Rattle.pauli.specs.declared.refusal.Outcome.{Outcome}
-use Rattle.pauli.specs.declared.refusal.CountAnswer.{CountAnswer}
-use Rattle.pauli.specs.Answers.{count_answer, count_reply, reply_to, written}
+use Rattle.pauli.specs.Answers.{count_answer, count_reply, reply_to, written, Outcome, Answer}
 use Rattle.pauli.specs.Questions.{◌and_then◌, room_question}
 use Rattle.clifford.specs.Layout.{record_length}
 use Rattle.clifford.specs.GateAnswers.{gate_record}
@@ -28,7 +26,7 @@ run_answer l room = list_questions l and_then room_question (record_length (list
 
 -- what `run` promises of its answer r: the case, its number and value, and the destination, which held d at entry and holds e at
 -- exit. The value is the number n of steps.
-pub record RunAnswered (q : Outcome) (n : ℕ) (out d e : List ℕ) (r : CountAnswer) : Type 0 where
+pub record RunAnswered (q : Outcome) (n : ℕ) (out d e : List ℕ) (r : Answer ℕ) : Type 0 where
   pub answer : r ≡ count_answer q n
   pub told : count_reply r ≡ reply_to q n
   pub bytes : e ≡ written q out d

@@ -4,15 +4,15 @@ ghost use Rattle.gate_list.specs.Inside.Reading.{BeforeChain, links_question};
 
 use crate::questions::{check_link, check_record};
 use crate::reading::next;
-use pauli::refusal::{Outcome, Refusal};
+use pauli::refusal::Refusal;
 
 // The head's link, and then the records from there on, each marked when it is met.
-pub(crate) fn check_chain(list: &[u8], met: &mut [u8]) -> Outcome
+pub(crate) fn check_chain(list: &[u8], met: &mut [u8]) -> Result<(), Refusal>
     requires { BeforeChain list.now met.old }
     ensures { result ≡ links_question list.now }
 {
     let link = check_link(list, 0);
-    let Outcome::Done = link else {
+    let Ok(()) = link else {
         return link;
     };
     // The record whose link is followed.
@@ -20,13 +20,13 @@ pub(crate) fn check_chain(list: &[u8], met: &mut [u8]) -> Outcome
     loop {
         let i = next(list, at);
         if i == 0 {
-            return Outcome::Done;
+            return Ok(());
         }
         if met[i] != 0 {
-            return Outcome::Refused(Refusal::Loop { record: i });
+            return Err(Refusal::Loop { record: i });
         }
         let answer = check_record(list, i);
-        let Outcome::Done = answer else {
+        let Ok(()) = answer else {
             return answer;
         };
         met[i] = 1;

@@ -14,15 +14,15 @@ use crate::running::write_run;
 use clifford::layout::LONGEST_RECORD;
 use clifford::questions::{check_width, record_size};
 use pauli::questions::{and_then, check_room};
-use pauli::refusal::{CountAnswer, Outcome};
+use pauli::refusal::Refusal;
 
 // All questions in their order, with a mark for each record, none of them set.
-fn check_list_with(list: &[u8], met: &mut [u8]) -> Outcome
+fn check_list_with(list: &[u8], met: &mut [u8]) -> Result<(), Refusal>
     requires { NoneMet met.old }
     ensures { result ≡ list_questions list.now }
 {
     let size = check_size(list);
-    let Outcome::Done = size else {
+    let Ok(()) = size else {
         return size;
     };
     let from_head = and_then(check_head(list), check_chain(list, met));
@@ -30,7 +30,7 @@ fn check_list_with(list: &[u8], met: &mut [u8]) -> Outcome
 }
 
 // Whether a list can be run: Done, or the refusal.
-pub fn check_list(list: &[u8]) -> Outcome
+pub fn check_list(list: &[u8]) -> Result<(), Refusal>
     ensures { result ≡ list_questions list.now }
 {
     let mut met = [0u8; MOST_RECORDS];
@@ -38,7 +38,7 @@ pub fn check_list(list: &[u8]) -> Outcome
 }
 
 // The questions of a run: those of the list, and room for the record last.
-fn run_answer(list: &[u8], room: usize) -> Outcome
+fn run_answer(list: &[u8], room: usize) -> Result<(), Refusal>
     ensures { result ≡ run_answer list.now room }
 {
     let admitted = check_list(list);
@@ -47,32 +47,32 @@ fn run_answer(list: &[u8], room: usize) -> Outcome
 }
 
 // The tableau of all gates on the chain, each composed on the left; the answer is their number.
-pub fn run(list: &[u8], dst: &mut [u8]) -> CountAnswer
+pub fn run(list: &[u8], dst: &mut [u8]) -> Result<usize, Refusal>
     ensures { ListRun list.now dst.old dst.new result }
 {
     let answer = run_answer(list, dst.len());
     match answer {
-        Outcome::Done => {
+        Ok(()) => {
             let steps = write_run(list, dst);
-            CountAnswer::Count(steps)
+            Ok(steps)
         }
-        Outcome::Refused(why) => CountAnswer::NoCount(why),
+        Err(why) => Err(why),
     }
 }
 
-fn report_with(list: &[u8], work: &mut [u8], out: &mut [u8]) -> CountAnswer
+fn report_with(list: &[u8], work: &mut [u8], out: &mut [u8]) -> Result<usize, Refusal>
     requires { WorkRoom work.old }
     ensures { Reported list.now out.old out.new result }
 {
     let answer = check_list(list);
     match answer {
-        Outcome::Done => report_run(list, work, out),
-        Outcome::Refused(why) => report_refusal(why, out),
+        Ok(()) => report_run(list, work, out),
+        Err(why) => report_refusal(why, out),
     }
 }
 
 // The display text of the run, or the text of the refusal; the answer is its length.
-pub fn report(list: &[u8], out: &mut [u8]) -> CountAnswer
+pub fn report(list: &[u8], out: &mut [u8]) -> Result<usize, Refusal>
     ensures { Reported list.now out.old out.new result }
 {
     let mut work = [0u8; LONGEST_RECORD];

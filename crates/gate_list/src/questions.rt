@@ -4,47 +4,47 @@ ghost use Rattle.gate_list.specs.ListQuestions.{size_question, head_question, li
 ghost use Rattle.gate_list.specs.Inside.Reading.{OwnRecord, zeros_right, step_different_question, two_questions, step_qubits_questions};
 
 use crate::reading::{LONGEST_LIST, RECORD_SIZE, byte, next, record_count, wide, width};
-use pauli::refusal::{Outcome, Refusal};
+use pauli::refusal::Refusal;
 
-pub(crate) fn check_size(list: &[u8]) -> Outcome
+pub(crate) fn check_size(list: &[u8]) -> Result<(), Refusal>
     ensures { result ≡ size_question list.now }
 {
     if list.len() % RECORD_SIZE != 0 {
-        return Outcome::Refused(Refusal::ListLength);
+        return Err(Refusal::ListLength);
     }
     if list.len() < RECORD_SIZE {
-        return Outcome::Refused(Refusal::ListLength);
+        return Err(Refusal::ListLength);
     }
     if LONGEST_LIST < list.len() {
-        return Outcome::Refused(Refusal::ListLength);
+        return Err(Refusal::ListLength);
     }
-    Outcome::Done
+    Ok(())
 }
 
-pub(crate) fn check_head(list: &[u8]) -> Outcome
+pub(crate) fn check_head(list: &[u8]) -> Result<(), Refusal>
     requires { OwnRecord list.now 0 }
     ensures { result ≡ head_question list.now }
 {
     if byte(list, 0, 0) != 0 {
-        return Outcome::Refused(Refusal::ListRecord { record: 0 });
+        return Err(Refusal::ListRecord { record: 0 });
     }
     if byte(list, 0, 2) != 0 {
-        return Outcome::Refused(Refusal::ListRecord { record: 0 });
+        return Err(Refusal::ListRecord { record: 0 });
     }
     if byte(list, 0, 3) != 0 {
-        return Outcome::Refused(Refusal::ListRecord { record: 0 });
+        return Err(Refusal::ListRecord { record: 0 });
     }
-    Outcome::Done
+    Ok(())
 }
 
-pub(crate) fn check_link(list: &[u8], i: usize) -> Outcome
+pub(crate) fn check_link(list: &[u8], i: usize) -> Result<(), Refusal>
     requires { OwnRecord list.now i }
     ensures { result ≡ link_question list.now i }
 {
     if next(list, i) < record_count(list) {
-        return Outcome::Done;
+        return Ok(());
     }
-    Outcome::Refused(Refusal::Link { record: i })
+    Err(Refusal::Link { record: i })
 }
 
 // Byte 3, and the second qubit of a gate on one qubit.
@@ -60,96 +60,96 @@ fn zeros_right(gate: u8, second: u8, fixed: u8) -> bool
     second == 0
 }
 
-fn check_zeros(list: &[u8], i: usize) -> Outcome
+fn check_zeros(list: &[u8], i: usize) -> Result<(), Refusal>
     requires { OwnRecord list.now i }
     ensures { result ≡ zeros_question list.now i }
 {
     if zeros_right(byte(list, i, 0), byte(list, i, 2), byte(list, i, 3)) {
-        return Outcome::Done;
+        return Ok(());
     }
-    Outcome::Refused(Refusal::ListRecord { record: i })
+    Err(Refusal::ListRecord { record: i })
 }
 
-fn check_gate(list: &[u8], i: usize) -> Outcome
+fn check_gate(list: &[u8], i: usize) -> Result<(), Refusal>
     requires { OwnRecord list.now i }
     ensures { result ≡ step_gate_question list.now i }
 {
     if byte(list, i, 0) < 38 {
-        return Outcome::Done;
+        return Ok(());
     }
-    Outcome::Refused(Refusal::StepGate { record: i })
+    Err(Refusal::StepGate { record: i })
 }
 
 // A qubit that record i names.
-fn check_qubit(list: &[u8], i: usize, qubit: u8) -> Outcome
+fn check_qubit(list: &[u8], i: usize, qubit: u8) -> Result<(), Refusal>
     ensures { result ≡ step_qubit_question list.now i qubit }
 {
     if wide(qubit) < width(list) {
-        return Outcome::Done;
+        return Ok(());
     }
-    Outcome::Refused(Refusal::StepQubit { record: i })
+    Err(Refusal::StepQubit { record: i })
 }
 
-fn check_different(i: usize, first: u8, second: u8) -> Outcome
+fn check_different(i: usize, first: u8, second: u8) -> Result<(), Refusal>
     ensures { result ≡ step_different_question i first second }
 {
     if first == second {
-        return Outcome::Refused(Refusal::StepSameQubit { record: i });
+        return Err(Refusal::StepSameQubit { record: i });
     }
-    Outcome::Done
+    Ok(())
 }
 
 // The second qubit of a gate on two.
-fn check_two(list: &[u8], i: usize) -> Outcome
+fn check_two(list: &[u8], i: usize) -> Result<(), Refusal>
     requires { OwnRecord list.now i }
     ensures { result ≡ two_questions list.now i }
 {
     let second = byte(list, i, 2);
     let inside = check_qubit(list, i, second);
-    let Outcome::Done = inside else {
+    let Ok(()) = inside else {
         return inside;
     };
     check_different(i, byte(list, i, 1), second)
 }
 
 // The second qubit, where the gate has one.
-fn check_second(list: &[u8], i: usize) -> Outcome
+fn check_second(list: &[u8], i: usize) -> Result<(), Refusal>
     requires { OwnRecord list.now i }
     ensures { result ≡ step_second_questions list.now i }
 {
     if byte(list, i, 0) < 24 {
-        return Outcome::Done;
+        return Ok(());
     }
     check_two(list, i)
 }
 
 // The qubits of record i, and then its link.
-fn check_qubits(list: &[u8], i: usize) -> Outcome
+fn check_qubits(list: &[u8], i: usize) -> Result<(), Refusal>
     requires { OwnRecord list.now i }
     ensures { result ≡ step_qubits_questions list.now i }
 {
     let first = check_qubit(list, i, byte(list, i, 1));
-    let Outcome::Done = first else {
+    let Ok(()) = first else {
         return first;
     };
     let second = check_second(list, i);
-    let Outcome::Done = second else {
+    let Ok(()) = second else {
         return second;
     };
     check_link(list, i)
 }
 
 // All of record i, in the order of the questions. A list asks this of each record: no question is worked out after a refusal.
-pub(crate) fn check_record(list: &[u8], i: usize) -> Outcome
+pub(crate) fn check_record(list: &[u8], i: usize) -> Result<(), Refusal>
     requires { OwnRecord list.now i }
     ensures { result ≡ record_questions list.now i }
 {
     let zeros = check_zeros(list, i);
-    let Outcome::Done = zeros else {
+    let Ok(()) = zeros else {
         return zeros;
     };
     let gate = check_gate(list, i);
-    let Outcome::Done = gate else {
+    let Ok(()) = gate else {
         return gate;
     };
     check_qubits(list, i)

@@ -11,7 +11,7 @@ use crate::running::write_run;
 use clifford::clifford_rep::display;
 use clifford::questions::record_size;
 use pauli::questions::check_room;
-use pauli::refusal::{CountAnswer, Outcome, Refusal, detail, number};
+use pauli::refusal::{Refusal, detail, number};
 use pauli::text_writer::{put_decimal, put_text};
 
 // The text of a refusal; the answer is its length.
@@ -34,18 +34,18 @@ fn refusal_length(why: Refusal) -> usize
 }
 
 // The text of a refusal, where there is room for it.
-pub(crate) fn report_refusal(why: Refusal, out: &mut [u8]) -> CountAnswer
+pub(crate) fn report_refusal(why: Refusal, out: &mut [u8]) -> Result<usize, Refusal>
     ensures { TextReported (refusal_text why) out.old out.new result }
 {
     let answer = check_room(refusal_length(why), out.len());
     match answer {
-        Outcome::Done => CountAnswer::Count(write_refusal(why, out)),
-        Outcome::Refused(room) => CountAnswer::NoCount(room),
+        Ok(()) => Ok(write_refusal(why, out)),
+        Err(room) => Err(room),
     }
 }
 
 // The display text of the run of an admitted list, where there is room for it. The work is room for the run's record.
-pub(crate) fn report_run(list: &[u8], work: &mut [u8], out: &mut [u8]) -> CountAnswer
+pub(crate) fn report_run(list: &[u8], work: &mut [u8], out: &mut [u8]) -> Result<usize, Refusal>
     requires { ShowRoom list.now work.old }
     ensures { TextReported (text_of_tableau (run_record list.now)) out.old out.new result }
 {

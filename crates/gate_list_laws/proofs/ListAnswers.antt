@@ -8,9 +8,7 @@ use native.Mathlib.Decide.{ℕ_discrete}
 use native.Mathlib.Omega.{arith}
 use Rattle.pauli.specs.declared.refusal.Refusal.{Refusal}
 use Rattle.pauli.specs.declared.refusal.Refusal.TheVariants.{Width, ListLength, ListRecord, Link, Loop}
-use Rattle.pauli.specs.declared.refusal.Outcome.{Outcome}
-use Rattle.pauli.specs.declared.refusal.Outcome.TheVariants.{Done, Refused}
-use Rattle.pauli.specs.Answers.{refusal_number}
+use Rattle.pauli.specs.Answers.{refusal_number, Outcome, Answer}
 use Rattle.pauli.specs.Questions.{◌and_then◌}
 use Rattle.pauli.proofs.Asking.{passed}
 use Rattle.clifford.specs.Questions.{width_question}
@@ -26,6 +24,7 @@ use Rattle.gate_list.proofs.ListRefusals.{Refusing, one, refusing_ask, record_re
 use Rattle.gate_list_laws.specs.GateLists.{RightHead, GateList, Walk, starts, meets, ComesBack, list_numbers}
 use Rattle.gate_list_laws.proofs.RightLists.{passed_right, passed_head}
 use Rattle.gate_list_laws.proofs.Walks.{left, left_all, left_fewer, walk-own, met_some, walk-asked, none_left_lem, chain_only, chain_walked, Forward, walk_forward}
+use Rattle.std.specs.Prelude.{Ok, Err, true, false, Bool, ℕ}
 
 -- ---- from the list to its answer
 -- a right head leaves the chain to be asked
@@ -41,12 +40,12 @@ head-asked {l} h =
 walk-answered : {l met : List ℕ} {i : ℕ} → RightHead l → Walk l met i → list_questions l ≡ chain_questions l met (left l met) i
 walk-answered h w = head-asked h ∙ walk-asked h w
 
-pub lists_admitted : {l chain : List ℕ} → GateList l chain → list_questions l ≡ Done
+pub lists_admitted : {l chain : List ℕ} → GateList l chain → list_questions l ≡ Ok tt
 lists_admitted {l} g =
     let e = chain_walked g.head starts g.ended g.right in
     walk-answered g.head e.walk ∙ chain_end l e.met (left l e.met) 0 refl
 
-pub loops_refused : {l : List ℕ} {i : ℕ} → ComesBack l i → list_questions l ≡ Refused (Loop i)
+pub loops_refused : {l : List ℕ} {i : ℕ} → ComesBack l i → list_questions l ≡ Err (Loop i)
 loops_refused {l} {i} c = walk-answered c.head c.walk ∙ chain_met l c.met (left l c.met) i (met_some c.walk c.again) c.again
 
 -- ---- from the answer to the list
@@ -54,14 +53,14 @@ abbrev NotLoop : Refusal → Type 0
 NotLoop r = refusal_number r ≡ 19 → ⊥
 
 data Answer (l : List ℕ) : Outcome → Type 0 where
-  ended : {met : List ℕ} → RightHead l → Walk l met 0 → Answer l Done
-  back : {i : ℕ} → ComesBack l i → Answer l (Refused (Loop i))
-  other : {r : Refusal} → NotLoop r → Answer l (Refused r)
+  ended : {met : List ℕ} → RightHead l → Walk l met 0 → Answer l (Ok tt)
+  back : {i : ℕ} → ComesBack l i → Answer l (Err (Loop i))
+  other : {r : Refusal} → NotLoop r → Answer l (Err r)
 
-then_answer : {l : List ℕ} (a b : Outcome) → Refusing NotLoop a → (a ≡ Done → Answer l b) → Answer l (a and_then b)
+then_answer : {l : List ℕ} (a b : Outcome) → Refusing NotLoop a → (a ≡ Ok tt → Answer l b) → Answer l (a and_then b)
 unfolding ◌and_then◌
-then_answer Done b p k = k refl
-then_answer (Refused r) b (one p) k = other p
+then_answer (Ok tt) b p k = k refl
+then_answer (Err r) b (one p) k = other p
 
 record-other : (l : List ℕ) (i : ℕ) → Refusing NotLoop (record_questions l i)
 unfolding refusal_number
@@ -95,10 +94,10 @@ list_answer l =
     (λ z. then_answer (link_question l 0) _ (refusing_ask _ (Link 0) (omega arith))
     (λ k. chain_answer (passed_head l s w z k) (record_count l - 1) (sym (left_all l)) starts))))
 
-done_right : {l : List ℕ} → Answer l Done → Forward l
+done_right : {l : List ℕ} → Answer l (Ok tt) → Forward l
 done_right (ended h w) = walk_forward h w ends All.none
 
-pub admitted_lists : (l : List ℕ) → list_questions l ≡ Done → GateList l (chain_of l)
+pub admitted_lists : (l : List ℕ) → list_questions l ≡ Ok tt → GateList l (chain_of l)
 admitted_lists l e =
     let f = done_right (subst (Answer l) e (list_answer l)) in
     subst (GateList l) (chain_only f.list.ended (admitted_chain l e)) f.list
@@ -107,15 +106,15 @@ admitted_lists l e =
 pub list_chain : {l chain : List ℕ} → GateList l chain → chain ≡ chain_of l
 list_chain {l} g = chain_only g.ended (admitted_chain l (lists_admitted g))
 
-pub refused_loops : (l : List ℕ) {i : ℕ} → list_questions l ≡ Refused (Loop i) → ComesBack l i
+pub refused_loops : (l : List ℕ) {i : ℕ} → list_questions l ≡ Err (Loop i) → ComesBack l i
 refused_loops l e = loop-back (subst (Answer l) e (list_answer l))
   where
-    loop-back : {l : List ℕ} {i : ℕ} → Answer l (Refused (Loop i)) → ComesBack l i
+    loop-back : {l : List ℕ} {i : ℕ} → Answer l (Err (Loop i)) → ComesBack l i
     loop-back (back c) = c
     loop-back (other p) = absurd (unfold refusal_number in p refl)
 
 -- ---- no other number
-pub refusal_numbers : (l : List ℕ) {r : Refusal} → list_questions l ≡ Refused r → is_met list_numbers (refusal_number r) ≡ true
+pub refusal_numbers : (l : List ℕ) {r : Refusal} → list_questions l ≡ Err r → is_met list_numbers (refusal_number r) ≡ true
 unfolding refusal_number is_met
 refusal_numbers l =
     refusal_of (λ r. is_met list_numbers (refusal_number r) ≡ true) l refl refl

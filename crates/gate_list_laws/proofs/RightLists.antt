@@ -1,11 +1,11 @@
 -- The questions of a record and of a list's head let by exactly the right ones.
+use Rattle.std.specs.Prelude.{Ok, true, ℕ}
 use mathlib.Core.Path.{◌≡◌, refl, sym}
 use mathlib.Core.List.{List}
 use Prim.Native.Nat.{ℕ}
 use lib.Dec.{eqb}
 use borrow.Author.Tests.{eqb-true}
 use Rattle.pauli.specs.declared.refusal.Refusal.TheVariants.{ListRecord}
-use Rattle.pauli.specs.declared.refusal.Outcome.TheVariants.{Done}
 use Rattle.pauli.proofs.Asking.{ask_done}
 use Rattle.clifford_group.proofs.Valid.{and_both}
 use Rattle.clifford.specs.Questions.{width_question}
@@ -18,7 +18,7 @@ use Rattle.gate_list.proofs.ListAdmitted.{size_done}
 use Rattle.gate_list.proofs.OrderedChains.{record_done}
 use Rattle.gate_list_laws.specs.GateLists.{RightHead, RightRecord}
 
-pub passed_right : (l : List ℕ) (i : ℕ) → record_questions l i ≡ Done → RightRecord l i
+pub passed_right : (l : List ℕ) (i : ℕ) → record_questions l i ≡ Ok tt → RightRecord l i
 unfolding zeros_question
 passed_right l i e = record {
   fixed = eqb-true _ 0 (and_both _ _ (ask_done _ (ListRecord i) (zeros_of l i e))).0;
@@ -26,11 +26,11 @@ passed_right l i e = record {
   link = record-link l i e;
 }
 
-pub right_passes : {l : List ℕ} {i : ℕ} → RightRecord l i → record_questions l i ≡ Done
+pub right_passes : {l : List ℕ} {i : ℕ} → RightRecord l i → record_questions l i ≡ Ok tt
 unfolding play_of
 right_passes r = sym (record_done (record { gate = refl; first = refl; second = refl; fixed = r.fixed; link = refl }) r.play r.link)
 
-pub passed_head : (l : List ℕ) → size_question l ≡ Done → width_question (list_width l) ≡ Done → head_question l ≡ Done → link_question l 0 ≡ Done → RightHead l
+pub passed_head : (l : List ℕ) → size_question l ≡ Ok tt → width_question (list_width l) ≡ Ok tt → head_question l ≡ Ok tt → link_question l 0 ≡ Ok tt → RightHead l
 unfolding head_question
 passed_head l s w h k =
     let zeros = ask_done _ (ListRecord 0) h in

@@ -1,9 +1,9 @@
 -- A string sent through the record of a run goes as by the gates' own tableaux, one after another.
+use Rattle.std.specs.Prelude.{Ok, ℕ}
 use mathlib.Core.Path.{◌≡◌, ap, ◌∙◌}
 use mathlib.Core.List.{List}
 use Prim.Native.Nat.{ℕ, ◌≤◌}
 use Rattle.pauli_group.specs.PauliString.{qubits}
-use Rattle.pauli.specs.declared.refusal.Outcome.TheVariants.{Done}
 use Rattle.pauli.specs.Questions.{string_questions}
 use Rattle.clifford.specs.Tableaux.{identity_record, apply_record}
 use Rattle.clifford.proofs.RecordLaws.{identity-good, send_identity}
@@ -21,7 +21,7 @@ unfolding tableaux_of
 gates_good small none = nil
 gates_good small (more f g) = good_more (own-good small f) (gate-narrow small f) (gates_good small g)
 
-pub run_sends : (l : List ℕ) → list_questions l ≡ Done → (s : List ℕ) → string_questions s ≡ Done
+pub run_sends : (l : List ℕ) → list_questions l ≡ Ok tt → (s : List ℕ) → string_questions s ≡ Ok tt
     → apply_record (run_record l) s ≡ sent_by (tableaux_of (gates_of l)) s
 unfolding run_record product_of
 run_sends l e s h =

@@ -8,9 +8,7 @@ use native.Mathlib.Omega.{arith}
 use native.Mathlib.Decide.{dec_lt}
 use lib.ListN.{length, drop_of_length-le}
 use borrow.Author.Rules.{rules}
-use Rattle.pauli.specs.declared.refusal.Outcome.{Outcome}
-use Rattle.pauli.specs.declared.refusal.Outcome.TheVariants.{Done}
-use Rattle.pauli.specs.Answers.{written}
+use Rattle.pauli.specs.Answers.{written, Outcome}
 use Rattle.pauli.specs.Questions.{◌and_then◌}
 use Rattle.pauli.proofs.Answers.{answers}
 use Rattle.pauli.proofs.Asking.{passed, done_first, done_second}
@@ -25,6 +23,7 @@ use Rattle.clifford.proofs.GateAsking.{gate_in, gate-below, own_in, own_below, q
 use Rattle.clifford.proofs.Play.{playable-is, playable_yes}
 use Rattle.clifford_laws.proofs.PlayedGates.{played-is, length-played, played-same}
 use Rattle.gate_play.specs.PlayQuestions.{play_questions}
+use Rattle.std.specs.Prelude.{Ok, true, Bool, ℕ}
 
 -- ---- all of them
 pub play-asked : (t : List ℕ) (g q r : ℕ) {n : ℕ} {a b c d o : Outcome} → a ≡ tableau_questions t → b ≡ gate_question 38 g → n ≡ width_of t
@@ -36,8 +35,8 @@ play-asked t g q r ea eb en ec ed eo =
 pub ruleset play-questions = (play-asked, rules)
 
 -- ---- what they let by: a tableau, and a gate that has a place in it
-module _ (t : List ℕ) (g q r : ℕ) (e : play_questions t g q r ≡ Done) where
-  rest : (gate_question 38 g and_then qubits_questions (width_of t) g q r) ≡ Done
+module _ (t : List ℕ) (g q r : ℕ) (e : play_questions t g q r ≡ Ok tt) where
+  rest : (gate_question 38 g and_then qubits_questions (width_of t) g q r) ≡ Ok tt
   rest = unfold play_questions in done_second (tableau_questions t) _ e
 
   formed : FormedTableau t
@@ -49,7 +48,7 @@ module _ (t : List ℕ) (g q r : ℕ) (e : play_questions t g q r ≡ Done) wher
   first : q < width_of t
   first = unfold qubits_questions in own_below (width_of t) q (done_first _ _ (done_second (gate_question 38 g) _ rest))
 
-  two : 24 ≤ g → (own_qubit_question (width_of t) r and_then different_question q r) ≡ Done
+  two : 24 ≤ g → (own_qubit_question (width_of t) r and_then different_question q r) ≡ Ok tt
   two h = done_second (own_qubit_question (width_of t) q) _ (qubits_of_two (width_of t) g q r h ∙ done_second (gate_question 38 g) _ rest)
 
   second : 24 ≤ g → r < width_of t
@@ -62,7 +61,7 @@ module _ (t : List ℕ) (g q r : ℕ) (e : play_questions t g q r ≡ Done) wher
   asked-playable = playable_yes g q r t gate first second different formed.narrow formed.long
 
   -- the whole record is written
-  pub play_written : {d : List ℕ} {b : Bool} → GatePlayed g q r t d b → d ≡ written Done (compose_record (gate_record g q r) t) t
+  pub play_written : {d : List ℕ} {b : Bool} → GatePlayed g q r t d b → d ≡ written (Ok tt) (compose_record (gate_record g q r) t) t
   unfolding written
   play_written {d} p =
       let out : List ℕ = compose_record (gate_record g q r) t in
@@ -70,20 +69,20 @@ module _ (t : List ℕ) (g q r : ℕ) (e : play_questions t g q r ≡ Done) wher
       let long : length t ≤ length out = omega (arith, ap length (sym is) ∙ length-played g q r t) in
       p.bytes ∙ is ∙ sym (ap (λ (l : List ℕ). out ++ l) (drop_of_length-le t {i = length out} long) ∙ append-nil out)
 
-pub playable-asked : (t : List ℕ) (g q r : ℕ) → tableau_questions t ≡ Done → playable g q r t ≡ true → play_questions t g q r ≡ Done
+pub playable-asked : (t : List ℕ) (g q r : ℕ) → tableau_questions t ≡ Ok tt → playable g q r t ≡ true → play_questions t g q r ≡ Ok tt
 unfolding play_questions
 playable-asked t g q r e h =
     let p = playable-is g q r t h in
     let w = width_of t in
-    let qubits : Done ≡ qubits_questions w g q r = elim (dec_lt g 24) [
+    let qubits : Ok tt ≡ qubits_questions w g q r = elim (dec_lt g 24) [
       | yes l ↦ qubits-one w q r (omega arith) (own_in p.first)
       | no l ↦ let m : 24 ≤ g = omega arith in
           passed (own_in p.first) refl (passed (own_in (p.second m)) refl (qubits_differ (p.different m))) ∙ qubits_of_two w g q r m
     ] in
     sym (passed (sym e) refl (passed (gate_in p.gate) refl qubits))
 
-pub play_done : (t : List ℕ) (g q r : ℕ) {o : Outcome} {d : List ℕ} {b : Bool} → o ≡ play_questions t g q r → o ≡ Done → GatePlayed g q r t d b
-    → d ≡ written Done (compose_record (gate_record g q r) t) t
+pub play_done : (t : List ℕ) (g q r : ℕ) {o : Outcome} {d : List ℕ} {b : Bool} → o ≡ play_questions t g q r → o ≡ Ok tt → GatePlayed g q r t d b
+    → d ≡ written (Ok tt) (compose_record (gate_record g q r) t) t
 play_done t g q r e f p = play_written t g q r (sym e ∙ f) p
 
 pub ruleset play_answers = (play_done, played-same, answers, rules)

@@ -1,20 +1,18 @@
 -- Dense text: its end, its letters, and the record that is written from them.
-use Rattle.std.proofs.Common.{◌≡◌, ℕ, suc, ◌+◌, ◌-◌, ◌<◌, ◌≤◌, max, Bool, true, false, not, ◌||◌, ltb, List, ◌∷◌, ◌++◌, length, get_or, take, drop, set, sym, refl, ap, ◌∙◌, ap₂, append-nil, add-one, arith, length-drop, drop_of_length-le, length-take, take_all, drop-cons, rules, le-ltb, lt-ltb, ne_eqb}
+use Rattle.std.proofs.Common.{◌≡◌, ℕ, suc, ◌+◌, ◌-◌, ◌<◌, ◌≤◌, max, Bool, true, false, not, ◌||◌, ltb, List, ◌∷◌, ◌++◌, length, get_or, take, drop, set, sym, refl, ap, ◌∙◌, ap₂, append-nil, add-one, arith, length-drop, drop_of_length-le, length-take, take_all, drop-cons, rules, le-ltb, lt-ltb, ne_eqb, Ok, Err}
 use borrow.Rule.Slice.PartMut.{put_mid}
 use Rattle.pauli_group.specs.PauliString.{qubits}
 use Rattle.pauli.specs.declared.refusal.Refusal.{Refusal}
 use Rattle.pauli.specs.declared.refusal.Refusal.TheVariants.{NotLetter, TextQubit}
-use Rattle.pauli.specs.declared.refusal.Outcome.{Outcome}
-use Rattle.pauli.specs.declared.refusal.Outcome.TheVariants.{Done, Refused}
 use Rattle.pauli.specs.declared.text.Head.{Head}
-use Rattle.pauli.specs.Answers.{written, Written}
+use Rattle.pauli.specs.Answers.{written, Written, Outcome}
 use Rattle.pauli.specs.Places.{listed, first_place}
 use Rattle.pauli.specs.Layout.{phase_byte, encode_string, string_record}
 use Rattle.pauli.specs.Questions.{◌and_then◌, room_question}
 use Rattle.pauli.specs.Inside.Reading.{EndRead, HeadRead, letters_named, DenseAt, DenseFit}
 use Rattle.pauli.specs.Text.{is_space, is_identity, letter_named, text_end, text_phase, body_start, ascii_question, dense_body, dense_letter, letter_questions, dense_questions, dense_string, from_dense_questions, dense_record}
 use Rattle.pauli.proofs.Answers.{answers, written-done}
-use Rattle.pauli.proofs.Asking.{and_then_assoc, asked_yes, asked_no, refused, passed, done_second, room-is, record-bytes}
+use Rattle.pauli.proofs.Asking.{own_done, own_not, first_done, first_not, in_order, and_then_assoc, asked_yes, asked_no, refused, passed, done_second, room-is, record-bytes}
 use Rattle.pauli.proofs.EntryStrings.{put_record}
 use Rattle.pauli.proofs.Places.{none_start, none_more, none_found, none_left_lem, length-listed, get_d_listed, listed_ext, Filled, filled_none, filled_step, filled_length, filled_room, filled_all}
 use Rattle.pauli.proofs.Records.{letter_there}
@@ -39,7 +37,7 @@ end_found t e = record { is = ap (λ (j : ℕ). length t - j) e; within = omega 
 pub ruleset ends = (end_found, not_on, not_off, none_start, none_more, none_found, none_left_lem, rules)
 
 -- ---- one letter
-pub letter-identity : (c k q : ℕ) {b : Bool} → b ≡ is_identity c → b ≡ true → Done ≡ dense_letter c k q
+pub letter-identity : (c k q : ℕ) {b : Bool} → b ≡ is_identity c → b ≡ true → Ok tt ≡ dense_letter c k q
 unfolding dense_letter
 letter-identity c k q e h =
     let is : is_identity c ≡ true = sym e ∙ h in
@@ -49,7 +47,7 @@ module _ (c k q : ℕ) {b : Bool} {l : ℕ} (e : b ≡ is_identity c) (h : b ≡
   not-identity : is_identity c ≡ false
   not-identity = sym e ∙ h
 
-  pub letter_unknown : l ≡ 0 → Refused (NotLetter k) ≡ dense_letter c k q
+  pub letter_unknown : l ≡ 0 → Err (NotLetter k) ≡ dense_letter c k q
   unfolding dense_letter
   letter_unknown z =
       refused _ (asked_no (NotLetter k) (ap₂ ◌||◌ not-identity (le-ltb 0 (letter_named c) (omega arith)))) refl
@@ -57,11 +55,11 @@ module _ (c k q : ℕ) {b : Bool} {l : ℕ} (e : b ≡ is_identity c) (h : b ≡
   known : (l ≡ 0 → ⊥) → (is_identity c || ltb 0 (letter_named c)) ≡ true
   known z = ap₂ ◌||◌ not-identity (lt-ltb 0 (letter_named c) (omega arith))
 
-  pub letter_in_lem : (l ≡ 0 → ⊥) → q < 128 → Done ≡ dense_letter c k q
+  pub letter_in_lem : (l ≡ 0 → ⊥) → q < 128 → Ok tt ≡ dense_letter c k q
   unfolding dense_letter qubits
   letter_in_lem z s = passed (asked_yes (NotLetter k) (known z)) refl (asked_yes (TextQubit k) (ap₂ ◌||◌ not-identity (lt-ltb q 128 s)))
 
-  pub letter-out : (l ≡ 0 → ⊥) → 128 ≤ q → Refused (TextQubit k) ≡ dense_letter c k q
+  pub letter-out : (l ≡ 0 → ⊥) → 128 ≤ q → Err (TextQubit k) ≡ dense_letter c k q
   unfolding dense_letter qubits
   letter-out z s = passed (asked_yes (NotLetter k) (known z)) refl (asked_no (TextQubit k) (ap₂ ◌||◌ not-identity (le-ltb q 128 s)))
 
@@ -81,21 +79,21 @@ unfolding letter_questions
 letters_here b k i h = ap (letter_questions k i) (drop-cons b i 0 h)
 
 pub lettered-more : {b : List ℕ} {o i : ℕ} {r : Outcome} → Lettered b o i → i < length b → r ≡ dense_letter (get_or b i 0) (o + i) i
-    → r ≡ Done → Lettered b o (i + 1)
+    → r ≡ Ok tt → Lettered b o (i + 1)
 lettered-more {b} {o} {i} m h e d =
     let next : suc (o + i) ≡ o + (i + 1) = omega arith in
     record {
       within = omega arith;
-      rest = m.rest ∙ letters_here b (o + i) i h ∙ sym (passed e d refl)
+      rest = m.rest ∙ letters_here b (o + i) i h ∙ sym (first_done (own_done e d) refl)
           ∙ ap₂ (λ (k j : ℕ). letter_questions k j (drop j b)) next (sym (add-one i));
     }
 
 pub lettered-refused : {b : List ℕ} {o i : ℕ} {r : Outcome} {x : Refusal} → Lettered b o i → i < length b
-    → r ≡ dense_letter (get_or b i 0) (o + i) i → r ≡ Refused x
-    → r ≡ letter_questions o 0 b
-lettered-refused {b} {o} {i} m h e d = refused _ e d ∙ sym (m.rest ∙ letters_here b (o + i) i h)
+    → r ≡ dense_letter (get_or b i 0) (o + i) i → r ≡ Err x
+    → Err x ≡ letter_questions o 0 b
+lettered-refused {b} {o} {i} m h e d = first_not _ (own_not e d) ∙ sym (m.rest ∙ letters_here b (o + i) i h)
 
-pub lettered_all : {b : List ℕ} {o i : ℕ} → Lettered b o i → length b ≤ i → Done ≡ letter_questions o 0 b
+pub lettered_all : {b : List ℕ} {o i : ℕ} → Lettered b o i → length b ≤ i → Ok tt ≡ letter_questions o 0 b
 unfolding letter_questions
 lettered_all {b} {o} {i} m h = sym (m.rest ∙ ap (letter_questions (o + i) i) (drop_of_length-le b h))
 
@@ -141,24 +139,16 @@ module _ (t b : List ℕ) (k : ℕ) (at : DenseAt t b k) where
       ap (λ q. ascii_question t and_then q and_then room_question 129 room) letters_are
       ∙ sym (and_then_assoc (ascii_question t) (letter_questions (body_start t) 0 (dense_body t)) (room_question 129 room))
 
-  pub dense_not_ascii : (room : ℕ) {r : Outcome} {x : Refusal} → r ≡ ascii_question t → r ≡ Refused x → r ≡ from_dense_questions t room
-  dense_not_ascii room h e = refused _ h e ∙ chain_is room
-
-  pub dense_bad_letter : (room : ℕ) {r s : Outcome} {x : Refusal} → r ≡ ascii_question t → r ≡ Done → s ≡ letter_questions k 0 b
-      → s ≡ Refused x → s ≡ from_dense_questions t room
-  dense_bad_letter room h e hs es = passed h e (refused _ hs es) ∙ chain_is room
-
-  pub dense_done : (room : ℕ) {r s q : Outcome} → r ≡ ascii_question t → r ≡ Done → s ≡ letter_questions k 0 b → s ≡ Done
-      → q ≡ room_question 129 room → q ≡ from_dense_questions t room
-  dense_done room h e hs es hq = passed h e (passed hs es hq) ∙ chain_is room
+  pub dense-asked : (room : ℕ) {r : Outcome} → r ≡ chain room → r ≡ from_dense_questions t room
+  dense-asked room e = e ∙ chain_is room
 
 pub dense-fits : {t b : List ℕ} {k : ℕ} → DenseAt t b k → k + length b < 18446744073709551616
 dense-fits at = at.fits
 
-pub ruleset dense_answers = (dense_not_ascii, dense_bad_letter, dense_done, dense-fits, rules)
+pub ruleset dense_answers = (dense-asked, in_order, dense-fits, rules)
 
 -- ---- the record
-pub dense-room : (t d : List ℕ) {r : Outcome} → r ≡ from_dense_questions t (length d) → r ≡ Done → DenseFit d
+pub dense-room : (t d : List ℕ) {r : Outcome} → r ≡ from_dense_questions t (length d) → r ≡ Ok tt → DenseFit d
 unfolding from_dense_questions
 dense-room t d e h = record { room = room-is 129 (length d) (done_second (dense_questions t) _ (sym e ∙ h)) }
 
@@ -169,16 +159,16 @@ named-record t b k p at ep =
     (ap (λ (s : List ℕ). listed 128 (λ q. letter_named (get_or s q 0))) at.body
     ∙ listed_ext 128 _ _ (λ q l. sym (letter_there (letter_named (get_or (dense_body t) q 0)) (letter-small (get_or (dense_body t) q 0)))))
 
-dense-record : (t d : List ℕ) → dense_record t ++ drop 129 d ≡ written Done (dense_record t) d
+dense-record : (t d : List ℕ) → dense_record t ++ drop 129 d ≡ written (Ok tt) (dense_record t) d
 unfolding dense_record
 dense-record t d = record-bytes (dense_string t) d
 
 pub dense-bytes : (t b d : List ℕ) (k p : ℕ) {r : Outcome} {e : List ℕ} → DenseAt t b k → p ≡ phase_byte (text_phase t)
-    → r ≡ from_dense_questions t (length d) → r ≡ Done
-    → e ≡ p ∷ letters_named 128 b ++ drop 129 d → Written (from_dense_questions t (length d)) (dense_record t) d e r
-dense-bytes t b d k p at ep h done w = written-done h done (w ∙ ap (λ (l : List ℕ). l ++ drop 129 d) (named-record t b k p at ep) ∙ dense-record t d)
+    → r ≡ from_dense_questions t (length d) → r ≡ Ok tt
+    → e ≡ p ∷ letters_named 128 b ++ drop 129 d → Written (from_dense_questions t (length d)) (dense_record t) d e (Ok tt)
+dense-bytes t b d k p at ep h done w = written-done (own_done h done) (w ∙ ap (λ (l : List ℕ). l ++ drop 129 d) (named-record t b k p at ep) ∙ dense-record t d)
 
-pub ruleset dense-strings = (dense_written, dense-room, dense-bytes, answers, rules)
+pub ruleset dense-strings = (dense_written, dense-room, dense-bytes, answers, in_order, rules)
 
 -- the body, from the prefix to the trimmed end
 pub dense-at : {t : List ℕ} {h : Head} {k e : ℕ} → HeadRead t h → EndRead t k → e ≡ max h.at k → length t < 18446744073709551616

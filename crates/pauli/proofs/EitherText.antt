@@ -1,8 +1,7 @@
 -- `from_str`: its rule is the same as any digit in the text, and its answer is that of the reader it picks.
 use Rattle.std.proofs.Common.{◌≡◌, ℕ, ◌+◌, ◌<◌, ◌≤◌, Bool, true, false, cond, ◌&&◌, ◌||◌, eqb, leb, ◌⊎◌, List, [], ◌∷◌, length, get_or, drop, sym, refl, ap, ◌∙◌, subst, inl, inr, add-one, arith, drop_of_length-le, drop-cons, rules, eqb-true, leb-true}
 use lib.Seq.{drop-nil}
-use Rattle.pauli.specs.declared.refusal.Outcome.{Outcome}
-use Rattle.pauli.specs.Answers.{Written}
+use Rattle.pauli.specs.Answers.{Written, Outcome}
 use Rattle.pauli.specs.Questions.{◌and_then◌, room_question}
 use Rattle.pauli.specs.Layout.{string_record}
 use Rattle.pauli.specs.Text.{is_space, is_digit, is_sign, is_small_i, leading_spaces, text_start, without_signs, without_i, any_digit, is_sparse, text_questions, text_string, from_sparse_questions, sparse_record, from_dense_questions, dense_record, from_str_questions, text_record, sparse_questions, dense_questions, sparse_string, dense_string}

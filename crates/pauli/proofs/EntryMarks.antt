@@ -1,12 +1,11 @@
 -- Entries and their marks: the questions put to entries, what the marks say of them, and the string that they name.
-use Rattle.std.proofs.Common.{◌≡◌, ℕ, zero, suc, ◌+◌, ◌-◌, ◌*◌, ◌/◌, ◌%◌, ◌<◌, ◌≤◌, Bool, true, false, cond, eqb, ltb, leb, ◌≢◌, List, length, get_or, set, replicate, sym, refl, ap, ◌∙◌, ap₂, add-one, arith, length-set, get_or-set_other, get_or-set_same, ext_get_or, rules, ltb-false, le-ltb, lt-ltb, eq-eqb, ne_eqb, le-leb, leb-false, leb-true}
+use Rattle.std.proofs.Common.{◌≡◌, ℕ, zero, suc, ◌+◌, ◌-◌, ◌*◌, ◌/◌, ◌%◌, ◌<◌, ◌≤◌, Bool, true, false, cond, eqb, ltb, leb, ◌≢◌, List, length, get_or, set, replicate, sym, refl, ap, ◌∙◌, ap₂, add-one, arith, length-set, get_or-set_other, get_or-set_same, ext_get_or, rules, ltb-false, le-ltb, lt-ltb, eq-eqb, ne_eqb, le-leb, leb-false, leb-true, Ok, Err}
 use native.Mathlib.Decide.{ℕ_discrete}
 use lib.ListN.{get_or-replicate, length-replicate}
 use borrow.Author.Tests.{lt-leb}
 use Rattle.pauli_group.specs.Letter.{I}
 use Rattle.pauli_group.specs.PauliString.{qubits, count_to}
 use Rattle.pauli.specs.declared.refusal.Refusal.TheVariants.{Length, BadByte, Qubit}
-use Rattle.pauli.specs.declared.refusal.Outcome.TheVariants.{Done, Refused}
 use Rattle.pauli.specs.Places.{first_place}
 use Rattle.pauli.specs.Layout.{letter_of, letter_byte}
 use Rattle.pauli.specs.Entries.{entry_count, entry_letter, entry_qubit, occurrences, entry_of, entries_string}
@@ -17,43 +16,43 @@ use Rattle.pauli.proofs.Places.{length-listed, get_d_listed, first_le, first-is,
 use Rattle.pauli.proofs.Records.{letter_there}
 
 -- ---- the questions
-pub entries_odd : (e : List ℕ) → (length e % 2 ≡ 0 → ⊥) → Refused Length ≡ even_question e
+pub entries_odd : (e : List ℕ) → (length e % 2 ≡ 0 → ⊥) → Err Length ≡ even_question e
 unfolding even_question
 entries_odd e h = asked_no Length (ne_eqb (length e % 2) 0 h)
 
-pub entries-even : (e : List ℕ) → length e % 2 ≡ 0 → Done ≡ even_question e
+pub entries-even : (e : List ℕ) → length e % 2 ≡ 0 → Ok tt ≡ even_question e
 unfolding even_question
 entries-even e h = asked_yes Length (eq-eqb (length e % 2) 0 h)
 
-pub letters_bad : (e : List ℕ) {j : ℕ} → j ≡ first_bad_entry e → j < length e / 2 → Refused (BadByte (2 * j)) ≡ entry_letters_question e
+pub letters_bad : (e : List ℕ) {j : ℕ} → j ≡ first_bad_entry e → j < length e / 2 → Err (BadByte (2 * j)) ≡ entry_letters_question e
 unfolding entry_letters_question entry_count
-letters_bad e p h = ap (λ (k : ℕ). Refused (BadByte (2 * k))) p ∙ asked_no (BadByte (2 * first_bad_entry e)) (lt-leb (length e / 2) (first_bad_entry e) (omega arith))
+letters_bad e p h = ap (λ (k : ℕ). Err (BadByte (2 * k))) p ∙ asked_no (BadByte (2 * first_bad_entry e)) (lt-leb (length e / 2) (first_bad_entry e) (omega arith))
 
-pub letters-good : (e : List ℕ) {j : ℕ} → j ≡ first_bad_entry e → length e / 2 ≤ j → Done ≡ entry_letters_question e
+pub letters-good : (e : List ℕ) {j : ℕ} → j ≡ first_bad_entry e → length e / 2 ≤ j → Ok tt ≡ entry_letters_question e
 unfolding entry_letters_question entry_count
 letters-good e p h = asked_yes (BadByte (2 * first_bad_entry e)) (le-leb (length e / 2) (first_bad_entry e) (omega arith))
 
-pub qubits_bad : (e : List ℕ) {j q : ℕ} → j ≡ first_high_entry e → j < length e / 2 → q ≡ get_or e (2 * j + 1) 0 → Refused (Qubit q) ≡ entry_qubits_question e
+pub qubits_bad : (e : List ℕ) {j q : ℕ} → j ≡ first_high_entry e → j < length e / 2 → q ≡ get_or e (2 * j + 1) 0 → Err (Qubit q) ≡ entry_qubits_question e
 unfolding entry_qubits_question entry_count entry_qubit
 qubits_bad e p h eq =
-    ap (λ (k : ℕ). Refused (Qubit k)) (eq ∙ ap (λ (k : ℕ). get_or e (2 * k + 1) 0) p)
+    ap (λ (k : ℕ). Err (Qubit k)) (eq ∙ ap (λ (k : ℕ). get_or e (2 * k + 1) 0) p)
     ∙ asked_no (Qubit (get_or e (2 * first_high_entry e + 1) 0)) (lt-leb (length e / 2) (first_high_entry e) (omega arith))
 
-pub qubits-good : (e : List ℕ) {j : ℕ} → j ≡ first_high_entry e → length e / 2 ≤ j → Done ≡ entry_qubits_question e
+pub qubits-good : (e : List ℕ) {j : ℕ} → j ≡ first_high_entry e → length e / 2 ≤ j → Ok tt ≡ entry_qubits_question e
 unfolding entry_qubits_question entry_count
 qubits-good e p h = asked_yes (Qubit (entry_qubit e (first_high_entry e))) (le-leb (length e / 2) (first_high_entry e) (omega arith))
 
 pub ruleset entry-questions = (entries_odd, entries-even, letters_bad, letters-good, qubits_bad, qubits-good, rules)
 
 -- what they let by
-pub letters-small : (p : ℕ) (e : List ℕ) → entry_questions p e ≡ Done → (j : ℕ) → j < entry_count e → entry_letter e j ≤ 3
+pub letters-small : (p : ℕ) (e : List ℕ) → entry_questions p e ≡ Ok tt → (j : ℕ) → j < entry_count e → entry_letter e j ≤ 3
 unfolding entry_questions entry_letters_question first_bad_entry
 letters-small p e h j l =
     let all : entry_count e ≤ first_bad_entry e =
     leb-true _ _ (ask_done _ _ (done_first _ _ (done_second (even_question e) _ (done_second (byte_question p) _ h)))) in
     ltb-false 3 (entry_letter e j) (first-before (entry_count e) (λ k. ltb 3 (entry_letter e k)) j (omega arith))
 
-pub qubits-below : (p : ℕ) (e : List ℕ) → entry_questions p e ≡ Done → (j : ℕ) → j < entry_count e → entry_qubit e j < 128
+pub qubits-below : (p : ℕ) (e : List ℕ) → entry_questions p e ≡ Ok tt → (j : ℕ) → j < entry_count e → entry_qubit e j < 128
 unfolding entry_questions entry_qubits_question first_high_entry qubits
 qubits-below p e h j l =
     let all : entry_count e ≤ first_high_entry e =

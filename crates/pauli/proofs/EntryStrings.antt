@@ -1,13 +1,11 @@
 -- Strings made from entries: the questions in their order, and the record that is written from the marks.
-use Rattle.std.proofs.Common.{◌≡◌, ℕ, ◌<◌, ◌≤◌, leb, List, [], ◌∷◌, ◌++◌, length, get_or, take, drop, set, replicate, sym, refl, ap, ◌∙◌, ap₂, append-nil, not-suc-le-zero, arith, length-drop, drop_of_length-le, length-take, take_all, rules, le-leb, leb-true}
+use Rattle.std.proofs.Common.{◌≡◌, ℕ, ◌<◌, ◌≤◌, leb, List, [], ◌∷◌, ◌++◌, length, get_or, take, drop, set, replicate, sym, refl, ap, ◌∙◌, ap₂, append-nil, not-suc-le-zero, arith, length-drop, drop_of_length-le, length-take, take_all, rules, le-leb, leb-true, Ok, Err, true}
 use borrow.Author.Tests.{lt-leb}
 use borrow.Rule.Slice.PartMut.{put_mid}
 use Rattle.pauli_group.specs.PauliString.{qubits}
 use Rattle.pauli.specs.declared.refusal.Refusal.{Refusal}
 use Rattle.pauli.specs.declared.refusal.Refusal.TheVariants.{Duplicate}
-use Rattle.pauli.specs.declared.refusal.Outcome.{Outcome}
-use Rattle.pauli.specs.declared.refusal.Outcome.TheVariants.{Done, Refused}
-use Rattle.pauli.specs.Answers.{written, Written}
+use Rattle.pauli.specs.Answers.{written, Written, Outcome}
 use Rattle.pauli.specs.Places.{listed}
 use Rattle.pauli.specs.Layout.{letter_byte, encode_string, string_record}
 use Rattle.pauli.specs.Entries.{entry_count, entry_letter, entries_string}
@@ -16,17 +14,17 @@ use Rattle.pauli.specs.Questions.{ask, ◌and_then◌, byte_question, entry_ques
 use Rattle.pauli.specs.Rows.{shorter}
 use Rattle.pauli.specs.Strings.{entries_record}
 use Rattle.pauli.proofs.Answers.{answers, written-done}
-use Rattle.pauli.proofs.Asking.{asked_yes, asked_no, ask_done, refused, passed, done_first, done_second, byte_small, room-is, record-bytes}
+use Rattle.pauli.proofs.Asking.{never_done, own_done, first_done, first_not, in_order, asked_yes, asked_no, ask_done, done_first, done_second, byte_small, room-is, record-bytes}
 use Rattle.pauli.proofs.EntryMarks.{no_marks, letters-small, qubits-below, first_duplicate, letter-byte, length-marks}
 use Rattle.pauli.proofs.Places.{length-listed, get_d_listed, listed_ext, Filled, filled_none, filled_step, filled_length, filled_room, filled_all}
 use Rattle.pauli.proofs.Records.{phase_there}
 
 -- ---- question 12 by the marks
-pub marks-twice : (m : List ℕ) {q : ℕ} → q ≡ first_twice m → q < 128 → Refused (Duplicate q) ≡ marks_question m
+pub marks-twice : (m : List ℕ) {q : ℕ} → q ≡ first_twice m → q < 128 → Err (Duplicate q) ≡ marks_question m
 unfolding marks_question qubits
-marks-twice m e h = ap (λ (k : ℕ). Refused (Duplicate k)) e ∙ asked_no (Duplicate (first_twice m)) (lt-leb 128 (first_twice m) (omega arith))
+marks-twice m e h = ap (λ (k : ℕ). Err (Duplicate k)) e ∙ asked_no (Duplicate (first_twice m)) (lt-leb 128 (first_twice m) (omega arith))
 
-pub marks-once : (m : List ℕ) {q : ℕ} → q ≡ first_twice m → 128 ≤ q → Done ≡ marks_question m
+pub marks-once : (m : List ℕ) {q : ℕ} → q ≡ first_twice m → 128 ≤ q → Ok tt ≡ marks_question m
 unfolding marks_question qubits
 marks-once m e h = asked_yes (Duplicate (first_twice m)) (le-leb 128 (first_twice m) (omega arith))
 
@@ -36,25 +34,22 @@ unfolding marks_question duplicate_question
 marks_question_lem e small = ap (λ (k : ℕ). ask (leb qubits k) (Duplicate k)) (first_duplicate e small)
 
 -- ---- the questions in their order
-pub not_done : {r : Outcome} {x : Refusal} → r ≡ Refused x → r ≡ Done → ⊥
-not_done h k = let z : ◌≡◌ {A = ℕ} 0 1 = cc in omega arith
-
-pub read_refused : {p : ℕ} {e : List ℕ} {room : ℕ} {m : List ℕ} {r : Outcome} {x : Refusal} → r ≡ entry_questions p e → r ≡ Refused x → EntriesRead p e room m r
+pub read_refused : {p : ℕ} {e : List ℕ} {room : ℕ} (m : List ℕ) {x : Refusal} → Err x ≡ entry_questions p e → EntriesRead p e room m (Err x)
 unfolding with_phase_questions
-read_refused h k = record { answer = refused _ h k; marks = λ d. absurd (not_done k d) }
+read_refused m h = record { answer = first_not _ h; marks = λ d. absurd (never_done d) }
 
-pub read_unmarked : (p : ℕ) {e m : List ℕ} {r : Outcome} → r ≡ entry_questions p e → r ≡ Done → Blank m → Unmarked e m
-read_unmarked p {e} h k b = record { letters = letters-small p e (sym h ∙ k); places = qubits-below p e (sym h ∙ k); none = b.none e }
+pub read_unmarked : (p : ℕ) {e m : List ℕ} → Ok tt ≡ entry_questions p e → Blank m → Unmarked e m
+read_unmarked p {e} h b = record { letters = letters-small p e (sym h); places = qubits-below p e (sym h); none = b.none e }
 
-pub read_done : (p : ℕ) (e : List ℕ) {m : List ℕ} {room : ℕ} {r s : Outcome} → r ≡ entry_questions p e → r ≡ Done → m ≡ marks_to e (entry_count e)
+pub read_done : (p : ℕ) (e : List ℕ) {m : List ℕ} {room : ℕ} {s : Outcome} → Ok tt ≡ entry_questions p e → m ≡ marks_to e (entry_count e)
     → s ≡ marks_question m and_then room_question 129 room → EntriesRead p e room m s
 unfolding with_phase_questions
-read_done p e {m} {room} h k em hs = record {
-  answer = passed h k (hs ∙ ap (λ q. q and_then room_question 129 room) (ap marks_question em ∙ marks_question_lem e (letters-small p e (sym h ∙ k))));
+read_done p e {m} {room} h em hs = record {
+  answer = first_done h (hs ∙ ap (λ q. q and_then room_question 129 room) (ap marks_question em ∙ marks_question_lem e (letters-small p e (sym h))));
   marks = λ d. em;
 }
 
-pub ruleset entry-reads = (marks-twice, marks-once, refused, passed, read_refused, read_unmarked, read_done, rules)
+pub ruleset entry-reads = (marks-twice, marks-once, read_refused, read_unmarked, read_done, in_order, rules)
 
 -- ---- the letters written from the marks
 pub letter_marked : (n : ℕ) (m : List ℕ) (i : ℕ) {x : ℕ} → x ≡ unmarked (get_or m i 0) → i < n → x ≡ get_or (letters_marked n m) i 0
@@ -93,7 +88,7 @@ marked_written {m} {d} {ys} p f e =
     put_record d ys p f.room ∙ ap (λ (l : List ℕ). p ∷ l ++ drop 129 d) letters
 
 -- ---- the marks of entries that name each qubit once hold their record
-module _ (p : ℕ) (e m : List ℕ) (small : p ≤ 3) (letters : (j : ℕ) → j < entry_count e → entry_letter e j ≤ 3) (named : duplicate_question e ≡ Done)
+module _ (p : ℕ) (e m : List ℕ) (small : p ≤ 3) (letters : (j : ℕ) → j < entry_count e → entry_letter e j ≤ 3) (named : duplicate_question e ≡ Ok tt)
     (marks : m ≡ marks_to e (entry_count e)) where
   once : 128 ≤ smallest_duplicate e
   unfolding duplicate_question qubits
@@ -107,41 +102,41 @@ module _ (p : ℕ) (e m : List ℕ) (small : p ≤ 3) (letters : (j : ℕ) → j
   unfolding string_record encode_string entries_string qubits
   marked_record = ap₂ (λ (x : ℕ) (l : List ℕ). x ∷ l) (sym (phase_there p small)) letters_are
 
-  pub marked_bytes : (d : List ℕ) {out : List ℕ} → out ≡ p ∷ letters_marked 128 m ++ drop 129 d → out ≡ written Done (string_record (entries_string p e)) d
+  pub marked_bytes : (d : List ℕ) {out : List ℕ} → out ≡ p ∷ letters_marked 128 m ++ drop 129 d → out ≡ written (Ok tt) (string_record (entries_string p e)) d
   marked_bytes d w = w ∙ ap (λ (l : List ℕ). l ++ drop 129 d) marked_record ∙ record-bytes (entries_string p e) d
 
   pub marked_fit : (d : List ℕ) → 129 ≤ length d → MarksFit m d
   marked_fit d h = record { marks = ap length marks ∙ length-marks e (entry_count e); room = h }
 
 -- ---- the record of entries
-module _ {p : ℕ} {e : List ℕ} {m : List ℕ} {r : Outcome} (d : List ℕ) (read : EntriesRead p e (length d) m r) (h : r ≡ Done) where
-  asked : entry_questions p e and_then duplicate_question e and_then room_question 129 (length d) ≡ Done
+module _ {p : ℕ} {e : List ℕ} {m : List ℕ} {r : Outcome} (d : List ℕ) (read : EntriesRead p e (length d) m r) (h : r ≡ Ok tt) where
+  asked : entry_questions p e and_then duplicate_question e and_then room_question 129 (length d) ≡ Ok tt
   unfolding with_phase_questions
   asked = sym read.answer ∙ h
 
-  entries-asked : entry_questions p e ≡ Done
+  entries-asked : entry_questions p e ≡ Ok tt
   entries-asked = done_first (entry_questions p e) _ asked
 
-  phase-asked : byte_question p ≡ Done
+  phase-asked : byte_question p ≡ Ok tt
   unfolding entry_questions
   phase-asked = done_first (byte_question p) _ entries-asked
 
-  named-asked : duplicate_question e ≡ Done
+  named-asked : duplicate_question e ≡ Ok tt
   named-asked = done_first (duplicate_question e) _ (done_second (entry_questions p e) _ asked)
 
-  room-asked : room_question 129 (length d) ≡ Done
+  room-asked : room_question 129 (length d) ≡ Ok tt
   room-asked = done_second (duplicate_question e) _ (done_second (entry_questions p e) _ asked)
 
   pub marks_fit : MarksFit m d
   marks_fit = marked_fit p e m (byte_small p phase-asked) (letters-small p e entries-asked) named-asked (read.marks h) d (room-is 129 (length d) room-asked)
 
-  pub entries_written : {out : List ℕ} → out ≡ p ∷ letters_marked 128 m ++ drop 129 d → Written (with_phase_questions p e (length d)) (entries_record p e) d out r
+  pub entries_written : {out : List ℕ} → out ≡ p ∷ letters_marked 128 m ++ drop 129 d → Written (with_phase_questions p e (length d)) (entries_record p e) d out (Ok tt)
   unfolding entries_record
   entries_written w =
-      written-done read.answer h (marked_bytes p e m (byte_small p phase-asked) (letters-small p e entries-asked) named-asked (read.marks h) d w)
+      written-done (own_done read.answer h) (marked_bytes p e m (byte_small p phase-asked) (letters-small p e entries-asked) named-asked (read.marks h) d w)
 
 -- a fresh array of 128 zeros
 pub blank_zeros : Blank (replicate 128 0)
 blank_zeros = record { none = no_marks }
 
-pub ruleset entry-strings = (marked_written, marks_fit, entries_written, answers, rules)
+pub ruleset entry-strings = (marked_written, marks_fit, entries_written, answers, in_order, rules)

@@ -1,5 +1,5 @@
 -- The entries that name the letters of a string other than I, by rising qubit: each qubit is named once, and they name the string.
-use Rattle.std.proofs.Common.{◌≡◌, ℕ, zero, suc, ◌+◌, ◌*◌, ◌/◌, ◌<◌, ◌≤◌, Bool, true, false, cond, eqb, ltb, leb, List, [], ◌∷◌, ◌++◌, length, get_or, sym, refl, ap, ◌∙◌, subst, ap₂, append-nil, not-suc-le-zero, arith, length-append, get_or-append-add, le-ltb, lt-ltb, eq-eqb, ne_eqb, le-leb, leb-false}
+use Rattle.std.proofs.Common.{◌≡◌, ℕ, zero, suc, ◌+◌, ◌*◌, ◌/◌, ◌<◌, ◌≤◌, Bool, true, false, cond, eqb, ltb, leb, List, [], ◌∷◌, ◌++◌, length, get_or, sym, refl, ap, ◌∙◌, subst, ap₂, append-nil, not-suc-le-zero, arith, length-append, get_or-append-add, le-ltb, lt-ltb, eq-eqb, ne_eqb, le-leb, leb-false, Ok}
 use native.Mathlib.Decide.{ℕ_discrete, dec_lt}
 use lib.ListN.{get_or-append}
 use lib.Seq.{get_or_at}
@@ -8,7 +8,6 @@ use Rattle.pauli_group.specs.Letter.{Letter, I, X, Z, Y}
 use Rattle.pauli_group.specs.PauliString.{PauliString, qubits, Within}
 use Rattle.pauli_group.proofs.Strings.{string_ext}
 use Rattle.pauli.specs.declared.refusal.Refusal.TheVariants.{Duplicate}
-use Rattle.pauli.specs.declared.refusal.Outcome.TheVariants.{Done}
 use Rattle.pauli.specs.Places.{first_place}
 use Rattle.pauli.specs.Layout.{phase_byte, letter_byte, letter_of}
 use Rattle.pauli.specs.Entries.{entry_count, entry_letter, entry_qubit, occurrences, entry_of, entries_string}
@@ -164,7 +163,7 @@ module _ {n : ℕ} {f : ℕ → Letter} {e : List ℕ} (m : Listing n f e) where
       never : cond (ltb q n) (letter_mark (f q)) 0 ≡ 5 → ⊥
       never d = omega (arith, mark_small (ltb q n) (f q))
 
-  named-once : duplicate_question e ≡ Done
+  named-once : duplicate_question e ≡ Ok tt
   unfolding duplicate_question smallest_duplicate
   named-once = sym (asked_yes (Duplicate _) (le-leb qubits _ (omega (arith, none))))
     where
@@ -183,7 +182,7 @@ module _ {n : ℕ} {f : ℕ → Letter} {e : List ℕ} (m : Listing n f e) where
 letters_equal : (a b : Letter) → letter_byte a ≡ letter_byte b → a ≡ b
 letters_equal a b h = sym (letter-back a) ∙ ap letter_of h ∙ letter-back b
 
-pub entries-once : (n : ℕ) (f : ℕ → Letter) → duplicate_question (entries_to n f) ≡ Done
+pub entries-once : (n : ℕ) (f : ℕ → Letter) → duplicate_question (entries_to n f) ≡ Ok tt
 entries-once n f = named-once (listing n f)
 
 entries-phase : (p : Phase) (e : List ℕ) → (entries_string (phase_byte p) e).phase ≡ p

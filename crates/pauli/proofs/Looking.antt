@@ -1,12 +1,11 @@
 -- One pass over two strings: no byte above 3, and the places that their product takes.
-use Rattle.std.proofs.Common.{◌≡◌, ℕ, suc, ◌+◌, ◌<◌, ◌≤◌, max, Bool, true, false, cond, ◌||◌, eqb, List, length, get_or, sym, refl, ap, ◌∙◌, ap₂, add-one, arith, rules, eq-eqb, ne_eqb}
+use Rattle.std.proofs.Common.{◌≡◌, ℕ, suc, ◌+◌, ◌<◌, ◌≤◌, max, Bool, true, false, cond, ◌||◌, eqb, List, length, get_or, sym, refl, ap, ◌∙◌, ap₂, add-one, arith, rules, eq-eqb, ne_eqb, Ok}
 use native.Mathlib.Decide.{ℕ_discrete}
 use Rattle.pauli_group.specs.PauliString.{qubits, last_to, has_letter, places_taken}
 use Rattle.pauli.specs.Layout.{string_of}
 use Rattle.pauli.specs.Questions.{string_questions, strings_questions}
 use Rattle.pauli.specs.Strings.{places_taken_of_records}
 use Rattle.pauli.specs.Inside.Products.{seen_with, Looked}
-use Rattle.pauli.specs.declared.refusal.Outcome.TheVariants.{Done}
 use Rattle.pauli.specs.declared.algebra.Sight.{Sight}
 use Rattle.pauli.proofs.Asking.{passed, done_first, done_second, string-length, formed-good}
 use Rattle.pauli.proofs.Records.{has_none, has_one}
@@ -94,7 +93,7 @@ seen_all {s} {t} {q} i h =
     }
 
 module _ {s t : List ℕ} where
-  not-strings : (strings_questions s t ≡ Done → ⊥) → Looked s t (record { largest = 255; places = 0 })
+  not-strings : (strings_questions s t ≡ Ok tt → ⊥) → Looked s t (record { largest = 255; places = 0 })
   not-strings h = record { clean = λ l. absurd (omega arith); taken = λ d. absurd (h d) }
 
   pub not_first : (length s ≡ 129 → ⊥) → Looked s t (record { largest = 255; places = 0 })
@@ -123,7 +122,7 @@ module _ (r : Sight) (x y q : ℕ) {b m : ℕ} (e : b ≡ max x y) (f : m ≡ ma
 pub ruleset sees = (see_I, see_letter, rules)
 
 -- the questions are put again where a bad byte was seen
-pub seen_clean : (s t : List ℕ) {m : ℕ} → (m < 4 → strings_questions s t ≡ Done) → m < 4 → Done ≡ strings_questions s t
+pub seen_clean : (s t : List ℕ) {m : ℕ} → (m < 4 → strings_questions s t ≡ Ok tt) → m < 4 → Ok tt ≡ strings_questions s t
 seen_clean s t h l = sym (h l)
 
 pub ruleset seen_questions = (seen_clean, rules)

@@ -1,5 +1,6 @@
 -- The product of two strings: its letters, 32 places at a step as far as the last that has one, and how it is written.
-use Rattle.std.proofs.Common.{◌≡◌, ℕ, ◌+◌, ◌%◌, ◌<◌, ◌≤◌, List, ◌∷◌, ◌++◌, length, get_or, take, drop, set, replicate, sym, refl, ap, ◌∙◌, ap₂, append-nil, zero-le, add-one, arith, length-drop, take-append-drop, drop_of_length-le, length-take, get_or-drop, take_all, ext_get_or, rules}
+use Rattle.pauli.specs.Answers.{Outcome}
+use Rattle.std.proofs.Common.{◌≡◌, ℕ, ◌+◌, ◌%◌, ◌<◌, ◌≤◌, List, ◌∷◌, ◌++◌, length, get_or, take, drop, set, replicate, sym, refl, ap, ◌∙◌, ap₂, append-nil, zero-le, add-one, arith, length-drop, take-append-drop, drop_of_length-le, length-take, get_or-drop, take_all, ext_get_or, rules, Ok}
 use lib.ListN.{length-replicate, get_or-replicate}
 use lib.Bits.{bit_xor}
 use borrow.Rule.Slice.PartMut.{put_mid}
@@ -17,12 +18,9 @@ use Rattle.pauli.specs.Strings.{places_taken_of_records, product_record}
 use Rattle.pauli.specs.Promises.{StringsMultiplied}
 use Rattle.pauli.specs.Inside.Turns.{LetterBytes}
 use Rattle.pauli.specs.Inside.Products.{Looked, Factors, Operands, product_row, phase_to, blank_row, Beginning, RowTo, Stepping, Stepped, RowMultiplied}
-use Rattle.pauli.specs.declared.refusal.Outcome.{Outcome}
-use Rattle.pauli.specs.declared.refusal.Outcome.TheVariants.{Done}
-use Rattle.pauli.specs.declared.refusal.Product.TheVariants.{Multiplied}
 use Rattle.pauli.specs.declared.algebra.Sight.{Sight}
-use Rattle.pauli.proofs.Answers.{product-done, product-not}
-use Rattle.pauli.proofs.Asking.{then_asked, done_first, done_second, string-formed, room-is, record-bytes}
+use Rattle.pauli.proofs.Answers.{answers, number-done}
+use Rattle.pauli.proofs.Asking.{first_done, in_order, done_first, done_second, string-formed, room-is, record-bytes}
 use Rattle.pauli.proofs.Places.{length-listed, get_d_listed, fill_more, length_fill}
 use Rattle.pauli.proofs.Records.{letter_of_lem, string-within}
 use Rattle.pauli.proofs.Turns.{power_sum, letter_sum}
@@ -211,28 +209,24 @@ product_written {s} {t} {d} {row} {ys} {turns = turns} {p = p} {n = n} f m ep ey
     phase-is = ap (λ x. phase_byte (phase_of (get_or s 0 0) · phase_of (get_or t 0 0) · x)) m.turns ∙ ap phase_byte (sym (phase_of_lem s t))
 
 -- ---- what the questions of the product let by, and what is answered then
-pub mul-asked : (s t : List ℕ) (room : ℕ) {a b r : Outcome} → a ≡ strings_questions s t → b ≡ room_question 129 room → r ≡ a and_then b → r ≡ mul_questions s t room
+pub mul-asked : (s t : List ℕ) (room : ℕ) {r : Outcome} → r ≡ strings_questions s t and_then room_question 129 room → r ≡ mul_questions s t room
 unfolding mul_questions
-mul-asked s t room p h e = then_asked e p h
+mul-asked s t room e = e
 
-module _ (s t d : List ℕ) {sight : Sight} {r : Outcome} (l : Looked s t sight) (p : r ≡ mul_questions s t (length d)) (h : r ≡ Done) where
-  both : strings_questions s t ≡ Done
-  unfolding mul_questions
-  both = done_first _ _ (sym p ∙ h)
-
+module _ (s t d : List ℕ) {sight : Sight} (l : Looked s t sight) (p : Ok tt ≡ strings_questions s t) (h : Ok tt ≡ room_question 129 (length d)) where
   pub operands : Operands s t sight.places d
-  unfolding mul_questions strings_questions
+  unfolding strings_questions
   operands = record {
     factors = record {
-      first = string-formed s (done_first _ _ both);
-      second = string-formed t (done_second (string_questions s) _ both);
-      taken = l.taken both;
+      first = string-formed s (done_first _ _ (sym p));
+      second = string-formed t (done_second (string_questions s) _ (sym p));
+      taken = l.taken (sym p);
     };
-    room = room-is 129 (length d) (done_second (strings_questions s t) _ (sym p ∙ h));
+    room = room-is 129 (length d) (sym h);
   }
 
-  pub multiplied : {e : List ℕ} → e ≡ product_record s t ++ drop 129 d → StringsMultiplied s t d e (Multiplied sight.places)
-  unfolding product_record
-  multiplied w = product-done p h (l.taken both) (w ∙ record-bytes (mul (string_of s) (string_of t)) d)
+  pub multiplied : {e : List ℕ} {n : ℕ} → n ≡ sight.places → e ≡ product_record s t ++ drop 129 d → StringsMultiplied s t d e (Ok n)
+  unfolding product_record mul_questions
+  multiplied c w = number-done (first_done p h) (c ∙ l.taken (sym p)) (w ∙ record-bytes (mul (string_of s) (string_of t)) d)
 
-pub ruleset string-products = (mul-asked, product_written, operands, begins, multiplied, product-not, rules)
+pub ruleset string-products = (mul-asked, product_written, operands, begins, multiplied, answers, in_order, rules)

@@ -1,9 +1,9 @@
 -- Sparse text read token by token: an index, one entry, and the tokens that are left.
-use Rattle.std.proofs.Common.{◌≡◌, ℕ, zero, suc, ◌+◌, ◌-◌, ◌<◌, ◌≤◌, Bool, true, false, cond, not, ◌||◌, eqb, ltb, List, [], ◌∷◌, length, get_or, take, drop, sym, refl, ap, ◌∙◌, subst, ap₂, not-suc-le-zero, add-one, arith, length-drop, drop_of_length-le, length-take, get_or-drop, drop-cons, get_or-take, drop-drop, rules, ltb-true, le-ltb, lt-ltb}
+use Rattle.std.proofs.Common.{◌≡◌, ℕ, zero, suc, ◌+◌, ◌-◌, ◌<◌, ◌≤◌, Bool, true, false, cond, not, ◌||◌, eqb, ltb, List, [], ◌∷◌, length, get_or, take, drop, sym, refl, ap, ◌∙◌, subst, ap₂, not-suc-le-zero, add-one, arith, length-drop, drop_of_length-le, length-take, get_or-drop, drop-cons, get_or-take, drop-drop, rules, ltb-true, le-ltb, lt-ltb, Err}
 use Rattle.pauli_group.specs.PauliString.{qubits}
+use Rattle.pauli.specs.Answers.{Outcome}
 use Rattle.pauli.specs.declared.refusal.Refusal.{Refusal}
 use Rattle.pauli.specs.declared.refusal.Refusal.TheVariants.{NotLetter, NoIndex, NotNumeral, TextQubit}
-use Rattle.pauli.specs.declared.refusal.Outcome.TheVariants.{Refused}
 use Rattle.pauli.specs.declared.text.Numeral.{Numeral}
 use Rattle.pauli.specs.declared.text.Numeral.TheVariants.{Value, NotNumber}
 use Rattle.pauli.specs.declared.sparse_reader.IndexAnswer.{IndexAnswer}
@@ -77,10 +77,10 @@ never_entry e = let z : ◌≡◌ {A = ℕ} 0 1 = cc in omega arith
 never_high : {o n : ℕ} {x : Refusal} → NoEntry x ≡ High o n → ⊥
 never_high e = let z : ◌≡◌ {A = ℕ} 0 1 = cc in omega arith
 
-pub entry-refused : {ws : List Token} {t : List ℕ} {k : ℕ} {x : Refusal} → token_questions ws ≡ Refused x → EntryRead ws t k (NoEntry x)
+pub entry-refused : {ws : List Token} {t : List ℕ} {k : ℕ} {x : Refusal} → token_questions ws ≡ Err x → EntryRead ws t k (NoEntry x)
 entry-refused {x = x} h = record { one = λ l q n e. absurd (never_entry e); high = λ o n e. absurd (never_high e); refused = λ y e. h ∙ same y e }
   where
-    same : (y : Refusal) → NoEntry x ≡ NoEntry y → Refused x ≡ Refused y
+    same : (y : Refusal) → NoEntry x ≡ NoEntry y → ◌≡◌ {A = Outcome} (Err x) (Err y)
     same y e = cc
 
 pub entry-high : {ws : List Token} {t : List ℕ} {k o n : ℕ} → HighEntry ws t k o n → EntryRead ws t k (High o n)
@@ -139,7 +139,7 @@ module _ (ws : List Token) (t : List ℕ) (k l n o : ℕ) (bs : List ℕ) (small
     within = within;
   }
 
-  no_numeral : is_index bs ≡ false → token_questions ws ≡ Refused (NotNumeral o)
+  no_numeral : is_index bs ≡ false → token_questions ws ≡ Err (NotNumeral o)
   unfolding index_questions
   no_numeral a =
       questions ∙ refused-first (index_questions o bs) _ (sym (refused (ask (ltb (index_value bs) qubits) (TextQubit o)) (asked_no (NotNumeral o) a) refl))

@@ -1,10 +1,9 @@
 -- All tokens of a sparse text: what has been read and marked before a place.
-use Rattle.std.proofs.Common.{◌≡◌, ℕ, suc, ◌+◌, ◌-◌, ◌*◌, ◌<◌, ◌≤◌, min, false, eqb, List, [], ◌∷◌, ◌++◌, length, get_or, drop, set, sym, refl, ap, ◌∙◌, subst, append_assoc, append-nil, le_refl, not-suc-le-zero, arith, length-append, drop_of_length-le, drop-drop, get_or-append-add, rules}
+use Rattle.std.proofs.Common.{◌≡◌, ℕ, suc, ◌+◌, ◌-◌, ◌*◌, ◌<◌, ◌≤◌, min, false, eqb, List, [], ◌∷◌, ◌++◌, length, get_or, drop, set, sym, refl, ap, ◌∙◌, subst, append_assoc, append-nil, le_refl, not-suc-le-zero, arith, length-append, drop_of_length-le, drop-drop, get_or-append-add, rules, Ok, Err}
 use native.Mathlib.Decide.{ℕ_discrete, dec_lt}
 use lib.ListN.{get_or-append}
 use Rattle.pauli.specs.declared.refusal.Refusal.{Refusal}
 use Rattle.pauli.specs.declared.refusal.Refusal.TheVariants.{TextQubit}
-use Rattle.pauli.specs.declared.refusal.Outcome.TheVariants.{Done, Refused}
 use Rattle.pauli.specs.declared.sparse_reader.EntryAnswer.{EntryAnswer}
 use Rattle.pauli.specs.declared.sparse_reader.EntryAnswer.TheVariants.{Entry, High, NoEntry}
 use Rattle.pauli_group.specs.PauliString.{qubits}
@@ -99,7 +98,7 @@ pub record Reading (ws : List Token) (t : List ℕ) (k h : ℕ) (m : List ℕ) :
   pub questions : length t ≤ h → token_questions ws ≡ token_questions (tokens k (drop k t))
   pub entries : length t ≤ h → token_entries ws ≡ seen ++ token_entries (tokens k (drop k t))
   pub passed : h < length t → h ≤ k
-  pub high : h < length t → token_questions ws ≡ Refused (TextQubit h)
+  pub high : h < length t → token_questions ws ≡ Err (TextQubit h)
 
 skip_tokens : (t : List ℕ) (n k : ℕ) → Skipped leading_spaces t n k → tokens n (drop n t) ≡ tokens k (drop k t)
 skip_tokens t n k s =
@@ -189,10 +188,10 @@ module _ {ws : List Token} {t m : List ℕ} {k h : ℕ} {a : EntryAnswer} {o n :
   new_high : length t ≤ h → min h o ≡ o
   new_high b = omega (arith, over.place)
 
-  now_high : token_questions ws ≡ Refused (TextQubit (min h o))
+  now_high : token_questions ws ≡ Err (TextQubit (min h o))
   now_high = elim (dec_lt h (length t)) [
-    | yes b ↦ r.high b ∙ ap (λ (x : ℕ). Refused (TextQubit x)) (sym (first-high (r.passed b)))
-    | no b ↦ let c : length t ≤ h = omega arith in r.questions c ∙ over.questions ∙ ap (λ (x : ℕ). Refused (TextQubit x)) (sym (new_high c))
+    | yes b ↦ r.high b ∙ ap (λ (x : ℕ). Err (TextQubit x)) (sym (first-high (r.passed b)))
+    | no b ↦ let c : length t ≤ h = omega arith in r.questions c ∙ over.questions ∙ ap (λ (x : ℕ). Err (TextQubit x)) (sym (new_high c))
   ]
 
   pub high-step : {g j : ℕ} → g ≡ min h o → Skipped leading_spaces t n j → Reading ws t j g m
@@ -206,25 +205,25 @@ module _ {ws : List Token} {t m : List ℕ} {k h : ℕ} {a : EntryAnswer} {o n :
     questions = λ b. absurd (never b);
     entries = λ b. absurd (never b);
     passed = λ b. omega (arith, over.onward, s.onward);
-    high = λ b. now_high ∙ ap (λ (x : ℕ). Refused (TextQubit x)) (sym eg);
+    high = λ b. now_high ∙ ap (λ (x : ℕ). Err (TextQubit x)) (sym eg);
   }
     where
       never : length t ≤ g → ⊥
       never b = omega (arith, over.place)
 
-refused_read : {ws : List Token} (m : List ℕ) {x : Refusal} → token_questions ws ≡ Refused x → TokensRead ws m (Refused x)
+refused_read : {ws : List Token} (m : List ℕ) {x : Refusal} → token_questions ws ≡ Err x → TokensRead ws m (Err x)
 refused_read m e = record { answer = sym e; marks = λ d. absurd (never_done d); good = λ d. absurd (never_done d) }
 
 -- a token is refused at once only where no index before it is too high
 pub reading-refused : {ws : List Token} {t m : List ℕ} {k h : ℕ} {a : EntryAnswer} {x : Refusal} → Reading ws t k h m → k < h
     → EntryRead (tokens k (drop k t)) t k a
-    → a ≡ NoEntry x → TokensRead ws m (Refused x)
+    → a ≡ NoEntry x → TokensRead ws m (Err x)
 reading-refused {m = m} {x = x} r l read told = refused_read m (r.questions (reading_open r l) ∙ read.refused x told)
 
-pub reading-high : {ws : List Token} {t m : List ℕ} {k h : ℕ} → Reading ws t k h m → h < length t → TokensRead ws m (Refused (TextQubit h))
+pub reading-high : {ws : List Token} {t m : List ℕ} {k h : ℕ} → Reading ws t k h m → h < length t → TokensRead ws m (Err (TextQubit h))
 reading-high {m = m} r l = refused_read m (r.high l)
 
-pub reading_done : {ws : List Token} {t m : List ℕ} {k h : ℕ} → Reading ws t k h m → length t ≤ h → length t ≤ k → TokensRead ws m Done
+pub reading_done : {ws : List Token} {t m : List ℕ} {k h : ℕ} → Reading ws t k h m → length t ≤ h → length t ≤ k → TokensRead ws m (Ok tt)
 unfolding token_questions token_entries
 reading_done {ws} {t} {m} {k} r b l =
     let left : tokens k (drop k t) ≡ [] = no_more k (drop k t) (drop_of_length-le t l) in

@@ -1,20 +1,17 @@
 -- The text of a string record: its questions, and what is written.
-use Rattle.std.proofs.Common.{◌≡◌, ℕ, zero, suc, ◌<◌, ◌≤◌, min, List, ◌++◌, length, get_or, take, drop, sym, refl, ap, ◌∙◌, ap₂, append-nil, arith, length-append, length-drop, length-take, take_all, rules}
+use Rattle.std.proofs.Common.{◌≡◌, ℕ, zero, suc, ◌<◌, ◌≤◌, min, List, ◌++◌, length, get_or, take, drop, sym, refl, ap, ◌∙◌, ap₂, append-nil, arith, length-append, length-drop, length-take, take_all, rules, Ok, Err}
 use native.Mathlib.Decide.{ℕ_discrete}
 use Rattle.pauli_group.specs.Letter.{Letter, I}
 use Rattle.pauli_group.specs.PauliString.{PauliString, qubits, Within}
 use Rattle.pauli.specs.declared.refusal.Refusal.{Refusal}
-use Rattle.pauli.specs.declared.refusal.Outcome.{Outcome}
-use Rattle.pauli.specs.declared.refusal.Outcome.TheVariants.{Done, Refused}
-use Rattle.pauli.specs.declared.refusal.CountAnswer.TheVariants.{Count}
-use Rattle.pauli.specs.Answers.{written, CountWritten}
+use Rattle.pauli.specs.Answers.{written, CountWritten, Outcome}
 use Rattle.pauli.specs.Layout.{phase_of, letter_of, string_of, decode_string, WellFormed}
 use Rattle.pauli.specs.Questions.{string_questions, room_question}
 use Rattle.pauli.specs.Rows.{letter_at, shorter, copied}
 use Rattle.pauli.specs.SparseText.{words_at, entry_words, prefix_text, body_text, sparse_text_to, sparse_text, row_string, row_text, text_of_record, to_sparse_questions}
 use Rattle.pauli.specs.Inside.TextWriting.{TextWritten}
-use Rattle.pauli.proofs.Answers.{answers, count-done}
-use Rattle.pauli.proofs.Asking.{refused, passed, done_first, done_second, string-formed, room-is}
+use Rattle.pauli.proofs.Answers.{answers, number-done}
+use Rattle.pauli.proofs.Asking.{own_done, first_done, first_not, in_order, done_first, done_second, string-formed, room-is}
 use Rattle.pauli.proofs.Places.{from, from_at, length_from}
 use Rattle.pauli.proofs.Records.{decode_letter, decode_within}
 
@@ -54,17 +51,17 @@ unfolding text_of_record string_of qubits
 row_is f = row-text (omega arith) f
 
 -- ---- the questions
-pub text-refused : (s : List ℕ) {r : Outcome} {x : Refusal} (room : ℕ) → r ≡ string_questions s → r ≡ Refused x → r ≡ to_sparse_questions s room
+pub text-refused : (s : List ℕ) {x : Refusal} (room : ℕ) → Err x ≡ string_questions s → Err x ≡ to_sparse_questions s room
 unfolding to_sparse_questions
-text-refused s room p h = refused _ p h
+text-refused s room p = first_not _ p
 
-pub text-asked : (s : List ℕ) {r t : Outcome} {n : ℕ} (room : ℕ) → r ≡ string_questions s → r ≡ Done → n ≡ length (row_text (get_or s 0 0) (from 1 s))
+pub text-asked : (s : List ℕ) {t : Outcome} {n : ℕ} (room : ℕ) → Ok tt ≡ string_questions s → n ≡ length (row_text (get_or s 0 0) (from 1 s))
     → t ≡ room_question n room → t ≡ to_sparse_questions s room
 unfolding to_sparse_questions
-text-asked s room p h c q = passed p h (q ∙ ap (λ (k : ℕ). room_question k room) (c ∙ ap length (row_is (string-formed s (sym p ∙ h)))))
+text-asked s room p c q = first_done p (q ∙ ap (λ (k : ℕ). room_question k room) (c ∙ ap length (row_is (string-formed s (sym p)))))
 
-pub text-byte : (s : List ℕ) {r : Outcome} → r ≡ string_questions s → r ≡ Done → 1 ≤ length s
-text-byte s p h = omega (arith, (string-formed s (sym p ∙ h)).long)
+pub text-byte : (s : List ℕ) → Ok tt ≡ string_questions s → 1 ≤ length s
+text-byte s p = omega (arith, (string-formed s (sym p)).long)
 
 -- ---- what is written
 copied-length : (w d : List ℕ) → length (copied w d) ≡ length d
@@ -74,13 +71,13 @@ copied-length w d = length-append (take (shorter w d) w) (drop (shorter w d) d) 
 pub text_same : {w d e : List ℕ} {n : ℕ} → TextWritten w d e n → length e ≡ length d
 text_same {w} {d} t = ap length t.bytes ∙ copied-length w d
 
-pub copied-whole : (w d : List ℕ) → length w ≤ length d → copied w d ≡ written Done w d
+pub copied-whole : (w d : List ℕ) → length w ≤ length d → copied w d ≡ written (Ok tt) w d
 unfolding copied written
 copied-whole w d l =
     let short : shorter w d ≡ length w = omega arith in
     ap (λ (k : ℕ). take k w ++ drop k d) short ∙ ap (λ (x : List ℕ). x ++ drop (length w) d) (take_all (length w) w (omega arith))
 
-module _ (s d : List ℕ) {r : Outcome} (p : r ≡ to_sparse_questions s (length d)) (h : r ≡ Done) where
+module _ (s d : List ℕ) {r : Outcome} (p : r ≡ to_sparse_questions s (length d)) (h : r ≡ Ok tt) where
   formed : WellFormed 128 s
   unfolding to_sparse_questions
   formed = string-formed s (done_first _ _ (sym p ∙ h))
@@ -93,8 +90,8 @@ module _ (s d : List ℕ) {r : Outcome} (p : r ≡ to_sparse_questions s (length
   text-place = omega (arith, formed.long)
 
   pub text_done : {e : List ℕ} {n : ℕ} → TextWritten (row_text (get_or s 0 0) (from 1 s)) d e n
-      → CountWritten (to_sparse_questions s (length d)) (text_of_record s) d e (Count n)
+      → CountWritten (to_sparse_questions s (length d)) (text_of_record s) d e (Ok n)
   text_done t =
-      count-done p h (t.count ∙ ap length (row_is formed)) (t.bytes ∙ ap (λ (w : List ℕ). copied w d) (row_is formed) ∙ copied-whole (text_of_record s) d room)
+      number-done (own_done p h) (t.count ∙ ap length (row_is formed)) (t.bytes ∙ ap (λ (w : List ℕ). copied w d) (row_is formed) ∙ copied-whole (text_of_record s) d room)
 
-pub ruleset string_texts = (text-refused, text-asked, text-byte, text_same, text-place, text_done, answers, rules)
+pub ruleset string_texts = (text-refused, text-asked, text-byte, text_same, text-place, text_done, answers, in_order, rules)

@@ -1,11 +1,10 @@
 -- Bytes of text: what the tests on them find.
-use Rattle.std.proofs.Common.{◌≡◌, ℕ, suc, ◌+◌, ◌<◌, ◌≤◌, Bool, true, false, cond, not, ◌&&◌, ◌||◌, eqb, leb, ◌⊎◌, List, length, get_or, drop, sym, refl, ap, ◌∙◌, ap₂, inl, inr, add-one, arith, length-drop, rules, ne_eqb, eqb-true, le-leb}
+use Rattle.std.proofs.Common.{◌≡◌, ℕ, suc, ◌+◌, ◌<◌, ◌≤◌, Bool, true, false, cond, not, ◌&&◌, ◌||◌, eqb, leb, ◌⊎◌, List, length, get_or, drop, sym, refl, ap, ◌∙◌, ap₂, inl, inr, add-one, arith, length-drop, rules, ne_eqb, eqb-true, le-leb, Ok, Err}
 use native.Mathlib.Decide.{dec_lt}
 use lib.ListN.{get_or-eq_default}
 use borrow.Author.Tests.{lt-leb}
 use Rattle.pauli_group.specs.Phase.{PlusOne, MinusOne, PlusI, MinusI}
 use Rattle.pauli.specs.declared.refusal.Refusal.TheVariants.{NotAscii}
-use Rattle.pauli.specs.declared.refusal.Outcome.TheVariants.{Done, Refused}
 use Rattle.pauli.specs.declared.text.Prefix.{Prefix}
 use Rattle.pauli.specs.Layout.{phase_byte}
 use Rattle.pauli.specs.Inside.Reading.{Skipped, PrefixRead, HeadRead, leading_word}
@@ -70,11 +69,11 @@ pub ruleset word_scans = (flag-on, flag_off, none_start, none_more, none_found, 
 pub ruleset space_scans = (not_on, not_off, none_start, none_more, none_found, none_left_lem, rules)
 
 -- ---- the first byte that is not ASCII
-pub ascii_not : (t : List ℕ) {k : ℕ} → k ≡ first_not_ascii t → k < length t → Refused (NotAscii k) ≡ ascii_question t
+pub ascii_not : (t : List ℕ) {k : ℕ} → k ≡ first_not_ascii t → k < length t → Err (NotAscii k) ≡ ascii_question t
 unfolding ascii_question
-ascii_not t e h = ap (λ (j : ℕ). Refused (NotAscii j)) e ∙ asked_no (NotAscii (first_not_ascii t)) (lt-leb (length t) (first_not_ascii t) (omega arith))
+ascii_not t e h = ap (λ (j : ℕ). Err (NotAscii j)) e ∙ asked_no (NotAscii (first_not_ascii t)) (lt-leb (length t) (first_not_ascii t) (omega arith))
 
-pub ascii_all : (t : List ℕ) {k : ℕ} → k ≡ first_not_ascii t → length t ≤ k → Done ≡ ascii_question t
+pub ascii_all : (t : List ℕ) {k : ℕ} → k ≡ first_not_ascii t → length t ≤ k → Ok tt ≡ ascii_question t
 unfolding ascii_question
 ascii_all t e h = asked_yes (NotAscii (first_not_ascii t)) (le-leb (length t) (first_not_ascii t) (omega arith))
 

@@ -1,6 +1,6 @@
 -- Written sparse text, read back. `from_sparse_str` reads every text of a string that has a letter other than I, and refuses I by
 -- itself, which `from_dense_str` reads; `from_str` reads them all.
-use Rattle.std.proofs.Common.{◌≡◌, ℕ, zero, suc, ◌+◌, ◌<◌, Bool, true, false, cond, ◌||◌, leb, List, [], ◌∷◌, ◌++◌, length, get_or, drop, sym, refl, ap, ◌∙◌, ap₂, not-suc-le-zero, arith, le-leb}
+use Rattle.std.proofs.Common.{◌≡◌, ℕ, zero, suc, ◌+◌, ◌<◌, Bool, true, false, cond, ◌||◌, leb, List, [], ◌∷◌, ◌++◌, length, get_or, drop, sym, refl, ap, ◌∙◌, ap₂, not-suc-le-zero, arith, le-leb, Ok, Err}
 use native.Mathlib.Decide.{ℕ_discrete, dec_lt}
 use lib.Seq.{drop-append_seam}
 use borrow.Author.Tests.{lt-leb}
@@ -9,7 +9,6 @@ use Rattle.pauli_group.specs.Letter.{Letter, I, X, Z, Y}
 use Rattle.pauli_group.specs.PauliString.{PauliString, qubits, Within}
 use Rattle.pauli_group.proofs.Strings.{string_ext}
 use Rattle.pauli.specs.declared.refusal.Refusal.TheVariants.{NotAscii, NotLetter}
-use Rattle.pauli.specs.declared.refusal.Outcome.TheVariants.{Done, Refused}
 use Rattle.pauli.specs.Places.{first_place}
 use Rattle.pauli.specs.Layout.{phase_byte, letter_of, string_record, string_of}
 use Rattle.pauli.specs.Entries.{entries_string}
@@ -59,7 +58,7 @@ sparse-is MinusI t h k = refl
 abbrev pub Ascii : List ℕ → Type 0
 Ascii t = Each (λ c. c < 128) t
 
-pub ascii_asked : (t : List ℕ) → Ascii t → ascii_question t ≡ Done
+pub ascii_asked : (t : List ℕ) → Ascii t → ascii_question t ≡ Ok tt
 unfolding ascii_question first_not_ascii
 ascii_asked t a = sym (asked_yes (NotAscii _) (le-leb (length t) _ (omega (arith, all))))
   where
@@ -124,7 +123,7 @@ module _ (p : Phase) (w : List ℕ) (ws : List (List ℕ)) (e : EntryWord w) (r 
     unfolding sparse_entries
     entries_are = ap token_entries tokens_are ∙ tokens-entries (length (prefix_text p)) n f w ws h e r
 
-    words_asked_all : sparse_questions (prefix_text p ++ spaced w ws) ≡ Done
+    words_asked_all : sparse_questions (prefix_text p ++ spaced w ws) ≡ Ok tt
     unfolding sparse_questions ◌and_then◌
     words_asked_all =
         ap₂ (λ x y. x and_then (y and_then duplicate_question (sparse_entries (prefix_text p ++ spaced w ws))))
@@ -164,7 +163,7 @@ all_identity (suc n) f h = ap₂ (λ ws l. ws ++ words_at l n) (all_identity n f
 abbrev alone : Phase → List ℕ
 alone p = prefix_text p ++ (73 ∷ [])
 
-alone-refused : (p : Phase) → sparse_questions (alone p) ≡ Refused (NotLetter (length (prefix_text p)))
+alone-refused : (p : Phase) → sparse_questions (alone p) ≡ Err (NotLetter (length (prefix_text p)))
 unfolding sparse_questions ascii_question first_not_ascii first_place sparse_tokens body_start text_start leading_spaces is_space is_sign is_small_i prefix_text prefix_length tokens starts_word token_questions letter_question letter_named ask ◌and_then◌
 alone-refused PlusOne = refl
 alone-refused MinusOne = refl
@@ -178,7 +177,7 @@ alone-body MinusOne = refl
 alone-body PlusI = refl
 alone-body MinusI = refl
 
-alone-asked : (p : Phase) → dense_questions (alone p) ≡ Done
+alone-asked : (p : Phase) → dense_questions (alone p) ≡ Ok tt
 unfolding dense_questions dense_letter letter_questions is_identity ask ◌and_then◌
 alone-asked p =
     ap₂ (λ x b. x and_then letter_questions (body_start (alone p)) 0 b)
@@ -223,10 +222,10 @@ unfolding body_text letter_text
 identity-text s h = text-is s [] (all_identity 128 s.letters h)
 
 -- ---- read back: a string with a letter other than I
-pub sparse-accepts : (s : PauliString) → Within qubits s → (q : ℕ) → (s.letters q ≡ I → ⊥) → sparse_questions (sparse_text s) ≡ Done
+pub sparse-accepts : (s : PauliString) → Within qubits s → (q : ℕ) → (s.letters q ≡ I → ⊥) → sparse_questions (sparse_text s) ≡ Ok tt
 sparse-accepts s h q l = go (form s h)
   where
-    go : Form s → sparse_questions (sparse_text s) ≡ Done
+    go : Form s → sparse_questions (sparse_text s) ≡ Ok tt
     go (nothing i t) = absurd (l (i q))
     go (entries w ws e r n t) = ap sparse_questions t ∙ words_asked_all s.phase w ws e r 128 s.letters n
 
@@ -239,21 +238,21 @@ sparse-reads s h q l = go (form s h)
     go (entries w ws e r n t) = ap sparse_string t ∙ words-string s.phase w ws e r 128 s.letters n ∙ entries_name 128 s h
 
 -- a string of I alone: "+I" is 9 at 1
-pub sparse-refuses : (s : PauliString) → ((q : ℕ) → s.letters q ≡ I) → sparse_questions (sparse_text s) ≡ Refused (NotLetter (length (prefix_text s.phase)))
+pub sparse-refuses : (s : PauliString) → ((q : ℕ) → s.letters q ≡ I) → sparse_questions (sparse_text s) ≡ Err (NotLetter (length (prefix_text s.phase)))
 sparse-refuses s h = ap sparse_questions (identity-text s h) ∙ alone-refused s.phase
 
-pub dense-accepts : (s : PauliString) → ((q : ℕ) → s.letters q ≡ I) → dense_questions (sparse_text s) ≡ Done
+pub dense-accepts : (s : PauliString) → ((q : ℕ) → s.letters q ≡ I) → dense_questions (sparse_text s) ≡ Ok tt
 dense-accepts s h = ap dense_questions (identity-text s h) ∙ alone-asked s.phase
 
 pub dense-reads : (s : PauliString) → ((q : ℕ) → s.letters q ≡ I) → dense_string (sparse_text s) ≡ s
 dense-reads s h = ap dense_string (identity-text s h) ∙ alone-string s h
 
 -- every string, by `from_str`
-pub text-accepts : (s : PauliString) → Within qubits s → text_questions (sparse_text s) ≡ Done
+pub text-accepts : (s : PauliString) → Within qubits s → text_questions (sparse_text s) ≡ Ok tt
 unfolding text_questions
 text-accepts s h = go (form s h)
   where
-    go : Form s → cond (is_sparse (sparse_text s)) (sparse_questions (sparse_text s)) (dense_questions (sparse_text s)) ≡ Done
+    go : Form s → cond (is_sparse (sparse_text s)) (sparse_questions (sparse_text s)) (dense_questions (sparse_text s)) ≡ Ok tt
     go (nothing i t) =
         ap (λ b. cond b (sparse_questions (sparse_text s)) (dense_questions (sparse_text s))) (ap is_sparse t ∙ alone-dense s.phase) ∙ dense-accepts s i
     go (entries w ws e r n t) =
@@ -271,10 +270,10 @@ text-reads s h = go (form s h)
         ∙ ap sparse_string t ∙ words-string s.phase w ws e r 128 s.letters n ∙ entries_name 128 s h
 
 -- and of records: the record that is read from a record's text is that record
-pub record-accepts : (b : List ℕ) → text_questions (text_of_record b) ≡ Done
+pub record-accepts : (b : List ℕ) → text_questions (text_of_record b) ≡ Ok tt
 unfolding text_of_record string_of
 record-accepts b = text-accepts (string_of b) (decode_within qubits b)
 
-pub record-reads : (b : List ℕ) → string_questions b ≡ Done → string_record (text_string (text_of_record b)) ≡ b
+pub record-reads : (b : List ℕ) → string_questions b ≡ Ok tt → string_record (text_string (text_of_record b)) ≡ b
 unfolding text_of_record string_of
 record-reads b h = ap string_record (text-reads (string_of b) (decode_within qubits b)) ∙ sym (admitted_strings b h)

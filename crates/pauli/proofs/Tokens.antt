@@ -1,17 +1,17 @@
 -- Tokens of a text: where each begins and ends, and what the questions put to the first one say of the whole.
-use Rattle.std.proofs.Common.{◌≡◌, ℕ, zero, suc, ◌+◌, ◌<◌, Bool, true, false, cond, not, List, [], ◌∷◌, ◌++◌, length, get_or, take, drop, sym, refl, ap, ◌∙◌, ap₂, append-nil, arith, le-ltb, lt-ltb}
+use Rattle.std.proofs.Common.{◌≡◌, ℕ, zero, suc, ◌+◌, ◌<◌, Bool, true, false, cond, not, List, [], ◌∷◌, ◌++◌, length, get_or, take, drop, sym, refl, ap, ◌∙◌, ap₂, append-nil, arith, le-ltb, lt-ltb, Ok, Err}
 use lib.Seq.{drop-nil}
 use Rattle.pauli.specs.declared.refusal.Refusal.{Refusal}
 use Rattle.pauli.specs.declared.refusal.Refusal.TheVariants.{NotLetter, NoIndex}
-use Rattle.pauli.specs.declared.refusal.Outcome.{Outcome}
-use Rattle.pauli.specs.declared.refusal.Outcome.TheVariants.{Done, Refused}
 use Rattle.pauli.specs.Places.{first_place}
 use Rattle.pauli.specs.Questions.{◌and_then◌}
 use Rattle.pauli.specs.Text.{is_space, letter_named, leading_spaces, Token, token, starts_word, longer, tokens, index_questions, letter_question, has_index, attached_questions, token_questions, attached_entry, apart_entry, token_entries}
 use Rattle.pauli.specs.Inside.Reading.{leading_word}
 use Rattle.pauli.proofs.Asking.{asked_yes, asked_no, and_then_done}
+use Rattle.pauli.specs.Answers.{Outcome}
 
 -- ---- white space and words at the front
+
 pub spaces_here : (c : ℕ) (cs : List ℕ) → is_space c ≡ true → leading_spaces (c ∷ cs) ≡ suc (leading_spaces cs)
 unfolding leading_spaces first_place
 spaces_here c cs e = ap (λ b. cond (not b) zero (suc (first_place (length cs) (λ k. not (is_space (get_or cs k 0)))))) e
@@ -105,11 +105,11 @@ tokens-word k c (d ∷ ds) e = step (is_space d) refl (λ h. tokens-word (suc k)
     step false h rest = word_more k c (d ∷ ds) e (starts d ds ∙ ap not h) (rest h)
 
 -- ---- the questions put to the first token
-pub refused-first : (q r : Outcome) {x : Refusal} → q ≡ Refused x → q and_then r ≡ Refused x
+pub refused-first : (q r : Outcome) {x : Refusal} → q ≡ Err x → q and_then r ≡ Err x
 unfolding ◌and_then◌
 refused-first q r h = ap (λ z. z and_then r) h
 
-pub done_then : (q r : Outcome) → q ≡ Done → q and_then r ≡ r
+pub done_then : (q r : Outcome) → q ≡ Ok tt → q and_then r ≡ r
 unfolding ◌and_then◌
 done_then q r h = ap (λ z. z and_then r) h
 
@@ -117,22 +117,22 @@ module _ (w : Token) where
   abbrev letter : ℕ
   letter = letter_named (get_or w.bytes 0 0)
 
-  unknown : letter ≡ 0 → letter_question w ≡ Refused (NotLetter w.offset)
+  unknown : letter ≡ 0 → letter_question w ≡ Err (NotLetter w.offset)
   unfolding letter_question
   unknown h = sym (asked_no (NotLetter w.offset) (le-ltb 0 letter (omega arith)))
 
-  known : 0 < letter → letter_question w ≡ Done
+  known : 0 < letter → letter_question w ≡ Ok tt
   unfolding letter_question
   known h = sym (asked_yes (NotLetter w.offset) (lt-ltb 0 letter h))
 
-  pub not-letter : (ws : List Token) → letter ≡ 0 → token_questions (w ∷ ws) ≡ Refused (NotLetter w.offset)
+  pub not-letter : (ws : List Token) → letter ≡ 0 → token_questions (w ∷ ws) ≡ Err (NotLetter w.offset)
   unfolding token_questions
   not-letter [] h = refused-first (letter_question w) _ (unknown h)
   not-letter (x ∷ ws) h = refused-first (letter_question w) _ (unknown h)
 
   pub attached_questions_lem : (ws : List Token) → 0 < letter → has_index w ≡ true → token_questions (w ∷ ws) ≡ attached_questions w and_then token_questions ws
   unfolding token_questions
-  attached_questions_lem [] h i = done_then (letter_question w) _ (known h) ∙ ap (λ b. cond b (attached_questions w) (Refused (NoIndex w.offset))) i ∙ and_then_done (attached_questions w)
+  attached_questions_lem [] h i = done_then (letter_question w) _ (known h) ∙ ap (λ b. cond b (attached_questions w) (Err (NoIndex w.offset))) i ∙ and_then_done (attached_questions w)
   attached_questions_lem (x ∷ ws) h i =
       done_then (letter_question w) _ (known h)
       ∙ ap (λ b. cond b (attached_questions w and_then token_questions (x ∷ ws)) (index_questions x.offset x.bytes and_then token_questions ws)) i
@@ -142,9 +142,9 @@ module _ (w : Token) where
   attached_entries [] i = sym (append-nil (attached_entry w))
   attached_entries (x ∷ ws) i = ap (λ b. cond b (attached_entry w ++ token_entries (x ∷ ws)) (apart_entry w x ++ token_entries ws)) i
 
-  pub no_index : 0 < letter → has_index w ≡ false → token_questions (w ∷ []) ≡ Refused (NoIndex w.offset)
+  pub no_index : 0 < letter → has_index w ≡ false → token_questions (w ∷ []) ≡ Err (NoIndex w.offset)
   unfolding token_questions
-  no_index h i = done_then (letter_question w) _ (known h) ∙ ap (λ b. cond b (attached_questions w) (Refused (NoIndex w.offset))) i
+  no_index h i = done_then (letter_question w) _ (known h) ∙ ap (λ b. cond b (attached_questions w) (Err (NoIndex w.offset))) i
 
   pub apart_questions : (x : Token) (ws : List Token) → 0 < letter → has_index w ≡ false
       → token_questions (w ∷ x ∷ ws) ≡ index_questions x.offset x.bytes and_then token_questions ws

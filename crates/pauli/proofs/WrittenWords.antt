@@ -1,10 +1,9 @@
 -- The words of written sparse text, as they are read.
-use Rattle.std.proofs.Common.{◌≡◌, ℕ, zero, suc, ◌+◌, ◌^◌, ◌<◌, ◌≤◌, Bool, true, false, cond, ◌&&◌, ◌||◌, ltb, leb, List, [], ◌∷◌, ◌++◌, length, get_or, drop, sym, refl, ap, ◌∙◌, ap₂, not-suc-le-zero, arith, lt-ltb, ne_eqb, le-leb, leb-true}
+use Rattle.std.proofs.Common.{◌≡◌, ℕ, zero, suc, ◌+◌, ◌^◌, ◌<◌, ◌≤◌, Bool, true, false, cond, ◌&&◌, ◌||◌, ltb, leb, List, [], ◌∷◌, ◌++◌, length, get_or, drop, sym, refl, ap, ◌∙◌, ap₂, not-suc-le-zero, arith, lt-ltb, ne_eqb, le-leb, leb-true, Ok, Err}
 use borrow.Author.Tests.{lt-leb}
 use Rattle.pauli_group.specs.Letter.{Letter, I, X, Z, Y}
 use Rattle.pauli_group.specs.PauliString.{qubits}
 use Rattle.pauli.specs.declared.refusal.Refusal.TheVariants.{NotLetter, NoIndex, NotNumeral, TextQubit}
-use Rattle.pauli.specs.declared.refusal.Outcome.TheVariants.{Done, Refused}
 use Rattle.pauli.specs.Layout.{letter_byte}
 use Rattle.pauli.specs.Questions.{◌and_then◌}
 use Rattle.pauli.specs.SparseText.{decimal, letter_text, entry_word, words_at, entry_words}
@@ -137,24 +136,24 @@ has_index_lem : {w : List ℕ} (k : ℕ) → EntryWord w → has_index (token k 
 unfolding has_index
 has_index_lem {w} k e = lt-ltb 1 (length w) e.long
 
-letter-asked : {w : List ℕ} (k : ℕ) → EntryWord w → letter_question (token k w) ≡ Done
+letter-asked : {w : List ℕ} (k : ℕ) → EntryWord w → letter_question (token k w) ≡ Ok tt
 unfolding letter_question
 letter-asked {w} k e = sym (asked_yes (NotLetter k) (lt-ltb 0 (letter_named (get_or w 0 0)) e.letter))
 
-index_asked : {w : List ℕ} (k : ℕ) → EntryWord w → attached_questions (token k w) ≡ Done
+index_asked : {w : List ℕ} (k : ℕ) → EntryWord w → attached_questions (token k w) ≡ Ok tt
 unfolding attached_questions index_questions ◌and_then◌ qubits
 index_asked {w} k e =
     ap₂ ◌and_then◌ (sym (asked_yes (NotNumeral (suc k)) e.index)) (sym (asked_yes (TextQubit (suc k)) (lt-ltb (index_value (drop 1 w)) 128 e.below)))
 
-token_asked : (t : Token) (ts : List Token) → letter_question t ≡ Done → has_index t ≡ true → attached_questions t ≡ Done → token_questions ts ≡ Done
-    → token_questions (t ∷ ts) ≡ Done
+token_asked : (t : Token) (ts : List Token) → letter_question t ≡ Ok tt → has_index t ≡ true → attached_questions t ≡ Ok tt → token_questions ts ≡ Ok tt
+    → token_questions (t ∷ ts) ≡ Ok tt
 unfolding token_questions ◌and_then◌
-token_asked t [] l h a r = ap₂ (λ q b. q and_then cond b (attached_questions t) (Refused (NoIndex t.offset))) l h ∙ a
+token_asked t [] l h a r = ap₂ (λ q b. q and_then cond b (attached_questions t) (Err (NoIndex t.offset))) l h ∙ a
 token_asked t (x ∷ ts) l h a r =
     ap₂ (λ q b. q and_then cond b (attached_questions t and_then token_questions (x ∷ ts)) (index_questions x.offset x.bytes and_then token_questions ts)) l h
     ∙ ap₂ ◌and_then◌ a r
 
-pub words-asked : (k : ℕ) (w : List ℕ) (ws : List (List ℕ)) → EntryWord w → Each EntryWord ws → token_questions (word_tokens k w ws) ≡ Done
+pub words-asked : (k : ℕ) (w : List ℕ) (ws : List (List ℕ)) → EntryWord w → Each EntryWord ws → token_questions (word_tokens k w ws) ≡ Ok tt
 unfolding token_questions
 words-asked k w [] e none = token_asked (token k w) [] (letter-asked k e) (has_index_lem k e) (index_asked k e) refl
 words-asked k w (x ∷ ws) e (more f r) =

@@ -1,20 +1,16 @@
 -- The number and the value of each answer, as the scope document gives them under "Questions on entry".
-use Rattle.std.specs.Prelude.{◌≡◌, ℕ, ◌+◌, ◌*◌, Bool, true, false, List, ◌++◌, length, drop}
+use Rattle.std.specs.Prelude.{◌≡◌, ℕ, ◌+◌, ◌*◌, Bool, true, false, List, ◌++◌, length, drop, Option, Some, None, Result, Ok, Err}
+use Rattle.pauli.specs.declared.algebra.PhasedLetter.{PhasedLetter}
 use Rattle.pauli.specs.declared.refusal.Refusal.{Refusal}
 use Rattle.pauli.specs.declared.refusal.Refusal.TheVariants.{Width, Length, BadByte, Gate, Qubit, SameQubit, Room, NotAscii, NotLetter, NoIndex, NotNumeral, Duplicate, TextQubit, ImageWidth, Slot, ListLength, ListRecord, StepGate, StepQubit, StepSameQubit, Link, Loop, FalseWeight}
-use Rattle.pauli.specs.declared.refusal.Outcome.{Outcome}
-use Rattle.pauli.specs.declared.refusal.Outcome.TheVariants.{Done, Refused}
-use Rattle.pauli.specs.declared.refusal.Product.{Product}
-use Rattle.pauli.specs.declared.refusal.Product.TheVariants.{Multiplied, NoProduct}
-use Rattle.pauli.specs.declared.refusal.ByteAnswer.{ByteAnswer}
-use Rattle.pauli.specs.declared.refusal.ByteAnswer.TheVariants.{Byte, NoByte}
-use Rattle.pauli.specs.declared.refusal.Flag.{Flag}
-use Rattle.pauli.specs.declared.refusal.Flag.TheVariants.{Yes, No, NoFlag}
-use Rattle.pauli.specs.declared.refusal.CountAnswer.{CountAnswer}
-use Rattle.pauli.specs.declared.refusal.CountAnswer.TheVariants.{Count, NoCount}
-use Rattle.pauli.specs.declared.refusal.LetterAnswer.{LetterAnswer}
-use Rattle.pauli.specs.declared.refusal.LetterAnswer.TheVariants.{Phased, NoLetter}
 use Rattle.pauli.specs.declared.refusal.Reply.{Reply}
+
+-- what an answer names, or the refusal; and what questions come to
+abbrev pub Answer : Type 0 → Type 0
+Answer T = Result T Refusal
+
+abbrev pub Outcome : Type 0
+Outcome = Answer (Unit {0})
 
 unfoldable pub refusal_number : Refusal → ℕ
 refusal_number Width = 1
@@ -75,104 +71,65 @@ refusal_reply r = reply (refusal_number r) (refusal_detail r)
 
 -- what is told where the questions let a call by, with a value, and where they do not
 unfoldable pub reply_to : Outcome → ℕ → Reply
-reply_to Done v = reply 0 v
-reply_to (Refused r) v = refusal_reply r
+reply_to (Ok tt) v = reply 0 v
+reply_to (Err r) v = refusal_reply r
 
--- ---- each answer enum: its number and value by case
+-- ---- an answer: its number and value by case, where `value` says what its kind tells of the thing named
 
-unfoldable pub outcome_reply : Outcome → Reply
-outcome_reply Done = reply 0 0
-outcome_reply (Refused r) = refusal_reply r
+unfoldable pub reply_of : {T : Type 0} → (T → ℕ) → Answer T → Reply
+reply_of value (Ok x) = reply 0 (value x)
+reply_of value (Err r) = refusal_reply r
 
-unfoldable pub product_reply : Product → Reply
-product_reply (Multiplied places) = reply 0 places
-product_reply (NoProduct r) = refusal_reply r
+-- of a function that only writes
+abbrev pub no_value : Unit {0} → ℕ
+no_value x = 0
 
-unfoldable pub byte_reply : ByteAnswer → Reply
-byte_reply (Byte b) = reply 0 b
-byte_reply (NoByte r) = refusal_reply r
-
-unfoldable pub flag_reply : Flag → Reply
-flag_reply Yes = reply 0 1
-flag_reply No = reply 0 0
-flag_reply (NoFlag r) = refusal_reply r
-
-unfoldable pub count_reply : CountAnswer → Reply
-count_reply (Count n) = reply 0 n
-count_reply (NoCount r) = refusal_reply r
-
-unfoldable pub letter_reply : LetterAnswer → Reply
-letter_reply (Phased phase letter) = reply 0 (4 * phase + letter)
-letter_reply (NoLetter r) = refusal_reply r
-
--- ---- the answer after the questions
-
-unfoldable pub productAnswer : Outcome → ℕ → Product
-productAnswer Done n = Multiplied n
-productAnswer (Refused r) n = NoProduct r
-
-unfoldable pub byteAnswer : Outcome → ℕ → ByteAnswer
-byteAnswer Done b = Byte b
-byteAnswer (Refused r) b = NoByte r
-
-abbrev pub yes_or_no : Bool → Flag
-yes_or_no true = Yes
-yes_or_no false = No
-
-unfoldable pub flag_answer : Outcome → Bool → Flag
-flag_answer Done f = yes_or_no f
-flag_answer (Refused r) f = NoFlag r
-
-unfoldable pub count_answer : Outcome → ℕ → CountAnswer
-count_answer Done n = Count n
-count_answer (Refused r) n = NoCount r
-
-unfoldable pub letterAnswer : Outcome → ℕ → ℕ → LetterAnswer
-letterAnswer Done p l = Phased p l
-letterAnswer (Refused r) p l = NoLetter r
-
--- "An answer changes only the bytes it writes"; a refusal changes none
-unfoldable pub written : Outcome → List ℕ → List ℕ → List ℕ
-written Done out d = out ++ drop (length out) d
-written (Refused r) out d = d
-
--- ---- what the contracts promise of the answer r to questions q: the case, its number and value, and the destination, which
--- held d at entry and holds e at exit
-
-pub record ByteAnswered (q : Outcome) (b : ℕ) (r : ByteAnswer) : Type 0 where
-  pub answer : r ≡ byteAnswer q b
-  pub told : byte_reply r ≡ reply_to q b
+-- of a phase, a letter, a count, an offset
+abbrev pub number_value : ℕ → ℕ
+number_value n = n
 
 abbrev pub one_or_zero : Bool → ℕ
 one_or_zero true = 1
 one_or_zero false = 0
 
-pub record FlagAnswered (q : Outcome) (f : Bool) (r : Flag) : Type 0 where
-  pub answer : r ≡ flag_answer q f
-  pub told : flag_reply r ≡ reply_to q (one_or_zero f)
+-- of a product of letters
+abbrev pub letter_value : PhasedLetter → ℕ
+letter_value x = 4 * x.0 + x.1
 
--- a count, or an offset
-pub record CountAnswered (q : Outcome) (n : ℕ) (r : CountAnswer) : Type 0 where
-  pub answer : r ≡ count_answer q n
-  pub told : count_reply r ≡ reply_to q n
+-- of a gate; 255 stands for none
+abbrev pub gate_value : Option ℕ → ℕ
+gate_value (Some g) = g
+gate_value None = 255
 
-pub record LetterAnswered (q : Outcome) (p l : ℕ) (r : LetterAnswer) : Type 0 where
-  pub answer : r ≡ letterAnswer q p l
-  pub told : letter_reply r ≡ reply_to q (4 * p + l)
+-- ---- the answer after the questions
+
+unfoldable pub answer_to : {T : Type 0} → Outcome → T → Answer T
+answer_to (Ok tt) x = Ok x
+answer_to (Err r) x = Err r
+
+-- "An answer changes only the bytes it writes"; a refusal changes none
+unfoldable pub written : Outcome → List ℕ → List ℕ → List ℕ
+written (Ok tt) out d = out ++ drop (length out) d
+written (Err r) out d = d
+
+-- ---- what the contracts promise of the answer r to questions q: the case, its number and value, and the destination, which
+-- held d at entry and holds e at exit
+
+pub record Answered {T : Type 0} (value : T → ℕ) (q : Outcome) (x : T) (r : Answer T) : Type 0 where
+  pub answer : r ≡ answer_to q x
+  pub told : reply_of value r ≡ reply_to q (value x)
 
 pub record Written (q : Outcome) (out d e : List ℕ) (r : Outcome) : Type 0 where
   pub answer : r ≡ q
-  pub told : outcome_reply r ≡ reply_to q 0
+  pub told : reply_of no_value r ≡ reply_to q 0
   pub bytes : e ≡ written q out d
 
--- a product, with the number n of the places that it took
-pub record ProductWritten (q : Outcome) (n : ℕ) (out d e : List ℕ) (r : Product) : Type 0 where
-  pub answer : r ≡ productAnswer q n
-  pub told : product_reply r ≡ reply_to q n
+-- with a number n that is answered
+pub record NumberWritten (q : Outcome) (n : ℕ) (out d e : List ℕ) (r : Answer ℕ) : Type 0 where
+  pub answer : r ≡ answer_to q n
+  pub told : reply_of number_value r ≡ reply_to q n
   pub bytes : e ≡ written q out d
 
 -- as many bytes are written as are counted
-pub record CountWritten (q : Outcome) (out d e : List ℕ) (r : CountAnswer) : Type 0 where
-  pub answer : r ≡ count_answer q (length out)
-  pub told : count_reply r ≡ reply_to q (length out)
-  pub bytes : e ≡ written q out d
+abbrev pub CountWritten : (q : Outcome) (out d e : List ℕ) (r : Answer ℕ) → Type 0
+CountWritten q out d e r = NumberWritten q (length out) out d e r

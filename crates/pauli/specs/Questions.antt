@@ -1,24 +1,23 @@
 -- The questions on entry (scope document, "Questions on entry"), each with its refusal, and the order in which they are put.
-use Rattle.std.specs.Prelude.{ℕ, ◌+◌, ◌*◌, ◌%◌, Bool, true, false, ltb, leb, List, length, ◌==◌, nat_le, nat_lt, slice_index}
+use Rattle.std.specs.Prelude.{ℕ, ◌+◌, ◌*◌, ◌%◌, Bool, true, false, ltb, leb, List, length, ◌==◌, nat_le, nat_lt, slice_index, Ok, Err}
 use Rattle.pauli_group.specs.PauliString.{qubits}
 use Rattle.pauli.specs.Places.{first_place}
 use Rattle.pauli.specs.Layout.{string_length}
 use Rattle.pauli.specs.Entries.{entry_count, entry_letter, entry_qubit, occurrences}
 use Rattle.pauli.specs.declared.refusal.Refusal.{Refusal}
 use Rattle.pauli.specs.declared.refusal.Refusal.TheVariants.{Length, BadByte, Qubit, Room, Duplicate}
-use Rattle.pauli.specs.declared.refusal.Outcome.{Outcome}
-use Rattle.pauli.specs.declared.refusal.Outcome.TheVariants.{Done, Refused}
-
 -- "a no gives the number, a detail and untouched buffers"
+use Rattle.pauli.specs.Answers.{Outcome}
+
 unfoldable pub ask : Bool → Refusal → Outcome
-ask true r = Done
-ask false r = Refused r
+ask true r = Ok tt
+ask false r = Err r
 
 -- the second question is put where the first lets by
 infixr 20 ◌and_then◌
 unfoldable pub ◌and_then◌ : Outcome → Outcome → Outcome
-Done and_then q = q
-Refused r and_then q = Refused r
+Ok tt and_then q = q
+Err r and_then q = Err r
 
 -- "Is every phase and letter at most 3? 3, detail the first bad offset", counted from base
 unfoldable pub first_bad : List ℕ → ℕ

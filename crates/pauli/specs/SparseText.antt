@@ -3,12 +3,12 @@ use Rattle.std.specs.Prelude.{ℕ, zero, suc, ◌+◌, ◌/◌, ◌%◌, min, co
 use Rattle.pauli_group.specs.Phase.{Phase, PlusOne, MinusOne, PlusI, MinusI}
 use Rattle.pauli_group.specs.Letter.{Letter, I, X, Z, Y}
 use Rattle.pauli_group.specs.PauliString.{PauliString, qubits}
-use Rattle.pauli.specs.declared.refusal.Outcome.{Outcome}
 use Rattle.pauli.specs.Layout.{phase_of, string_of}
 use Rattle.pauli.specs.Questions.{◌and_then◌, string_questions, room_question}
 use Rattle.pauli.specs.Rows.{letter_at}
-
 -- 0 is 48
+use Rattle.pauli.specs.Answers.{Outcome}
+
 abbrev pub digit_text : ℕ → ℕ
 digit_text d = 48 + d
 

@@ -1,18 +1,17 @@
 -- Text, read (scope document, "String record" and the questions on text). Offsets count from the text's first byte, before trimming.
-use Rattle.std.specs.Prelude.{ℕ, suc, ◌+◌, ◌-◌, ◌*◌, ◌^◌, Bool, true, false, cond, not, ◌&&◌, ◌||◌, leb, List, [], ◌∷◌, ◌++◌, length, take, drop, ◌==◌, nat_le, nat_lt, slice_index}
+use Rattle.std.specs.Prelude.{ℕ, suc, ◌+◌, ◌-◌, ◌*◌, ◌^◌, Bool, true, false, cond, not, ◌&&◌, ◌||◌, leb, List, [], ◌∷◌, ◌++◌, length, take, drop, ◌==◌, nat_le, nat_lt, slice_index, Ok, Err}
 use Rattle.pauli_group.specs.Phase.{Phase, PlusOne, MinusOne, PlusI, MinusI}
 use Rattle.pauli_group.specs.PauliString.{PauliString, qubits}
 use Rattle.pauli.specs.declared.refusal.Refusal.TheVariants.{NotAscii, NotLetter, NoIndex, NotNumeral, TextQubit}
-use Rattle.pauli.specs.declared.refusal.Outcome.{Outcome}
-use Rattle.pauli.specs.declared.refusal.Outcome.TheVariants.{Done, Refused}
 use Rattle.pauli.specs.Places.{first_place}
 use Rattle.pauli.specs.Layout.{phase_byte, letter_of, string_length, string_record}
 use Rattle.pauli.specs.Entries.{entries_string}
 use Rattle.pauli.specs.Questions.{ask, ◌and_then◌, duplicate_question, room_question}
-
 -- ---- bytes
 
 -- "White space is bytes 9 to 13 and 32"
+use Rattle.pauli.specs.Answers.{Outcome}
+
 unfoldable pub is_space : ℕ → Bool
 is_space c = (nat_le 9 c && nat_le c 13) || c == 32
 
@@ -131,8 +130,8 @@ attached_questions w = index_questions (suc w.offset) (drop 1 w.bytes)
 
 -- left to right; "Is there an index? 10, the letter's offset"
 unfoldable pub token_questions : List Token → Outcome
-token_questions [] = Done
-token_questions (w ∷ []) = letter_question w and_then cond (has_index w) (attached_questions w) (Refused (NoIndex w.offset))
+token_questions [] = Ok tt
+token_questions (w ∷ []) = letter_question w and_then cond (has_index w) (attached_questions w) (Err (NoIndex w.offset))
 token_questions (w ∷ x ∷ ws) =
     letter_question w
     and_then cond (has_index w) (attached_questions w and_then token_questions (x ∷ ws)) (index_questions x.offset x.bytes and_then token_questions ws)
@@ -181,7 +180,7 @@ dense_letter c k q = ask (is_identity c || nat_lt 0 (letter_named c)) (NotLetter
 
 -- letter by letter
 unfoldable pub letter_questions : ℕ → ℕ → List ℕ → Outcome
-letter_questions k q [] = Done
+letter_questions k q [] = Ok tt
 letter_questions k q (c ∷ cs) = dense_letter c k q and_then letter_questions (suc k) (suc q) cs
 
 unfoldable pub dense_questions : List ℕ → Outcome

@@ -4,7 +4,6 @@ ghost use Rattle.std.specs.Prelude.{◌≡◌, ◌<◌, ◌++◌, drop};
 ghost use Rattle.pauli_group.specs.Phase.{◌·◌};
 ghost use Rattle.pauli_group.specs.Letter.{letter_phase};
 ghost use Rattle.pauli_group.specs.Papers.{power};
-ghost use Rattle.pauli.specs.declared.refusal.Outcome.TheVariants.{Done};
 ghost use Rattle.pauli.specs.Layout.{letter_of};
 ghost use Rattle.pauli.specs.Rows.{letter_bytes_product};
 ghost use Rattle.pauli.specs.Questions.{strings_questions};
@@ -13,8 +12,8 @@ ghost use Rattle.pauli.specs.Inside.Turns.{LetterBytes};
 ghost use Rattle.pauli.specs.Inside.Products.{seen_with, Looked, Operands, Beginning, Stepping, Stepped, RowMultiplied};
 ghost use Rattle.pauli.specs.Promises.{LettersMultiplied, StringsMultiplied};
 
-use crate::questions::{and_then, check_pair, check_room, check_strings};
-use crate::refusal::{LetterAnswer, Outcome, Product};
+use crate::questions::{check_pair, check_room, check_strings};
+use crate::refusal::Refusal;
 use crate::rows::{copy, larger, letter_turns, turned_phase};
 use crate::{QUBITS, STRING_LENGTH};
 
@@ -56,20 +55,11 @@ pub fn multiply_paulis(a: u8, b: u8) -> PhasedLetter
 }
 
 // The product of two letters, as a phase and a letter.
-pub fn letter_product(a: u8, b: u8) -> LetterAnswer
+pub fn letter_product(a: u8, b: u8) -> Result<PhasedLetter, Refusal>
     ensures { LettersMultiplied a b result }
 {
-    let answer = check_pair(a, b);
-    match answer {
-        Outcome::Done => {
-            let p = multiply_paulis(a, b);
-            LetterAnswer::Phased {
-                phase: p.0,
-                letter: p.1,
-            }
-        }
-        Outcome::Refused(why) => LetterAnswer::NoLetter(why),
-    }
+    check_pair(a, b)?;
+    Ok(multiply_paulis(a, b))
 }
 
 // What one pass over two strings sees: the largest byte, and the places that their product takes.
@@ -124,12 +114,12 @@ fn look(s: &[u8], t: &[u8]) -> Sight
 }
 
 // The questions on two strings that were looked through.
-fn check_seen(s: &[u8], t: &[u8], largest: u8) -> Outcome
-    requires { largest < 4 → strings_questions s.now t.now ≡ Done }
+fn check_seen(s: &[u8], t: &[u8], largest: u8) -> Result<(), Refusal>
+    requires { largest < 4 → strings_questions s.now t.now ≡ Ok tt }
     ensures { result ≡ strings_questions s.now t.now }
 {
     if largest < 4 {
-        return Outcome::Done;
+        return Ok(());
     }
     check_strings(s, t)
 }
@@ -187,20 +177,13 @@ fn write_product(s: &[u8], t: &[u8], places: usize, dst: &mut [u8])
 }
 
 // The product s·t of two string records, and the places that it took: 1 + the last at which either has a letter other than I, or 0.
-pub fn mul(s: &[u8], t: &[u8], dst: &mut [u8]) -> Product
+pub fn mul(s: &[u8], t: &[u8], dst: &mut [u8]) -> Result<usize, Refusal>
     ensures { StringsMultiplied s.now t.now dst.old dst.new result }
 {
     let sight = look(s, t);
-    let answer = and_then(
-        check_seen(s, t, sight.largest),
-        check_room(STRING_LENGTH, dst.len()),
-    );
-    match answer {
-        Outcome::Done => {
-            let places = sight.places as usize;
-            write_product(s, t, places, dst);
-            Product::Multiplied { places }
-        }
-        Outcome::Refused(why) => Product::NoProduct(why),
-    }
+    check_seen(s, t, sight.largest)?;
+    check_room(STRING_LENGTH, dst.len())?;
+    let places = usize::from(sight.places);
+    write_product(s, t, places, dst);
+    Ok(places)
 }

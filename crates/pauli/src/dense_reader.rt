@@ -7,7 +7,7 @@ ghost use Rattle.pauli.specs.Text.{is_identity, text_phase, dense_letter, letter
 ghost use Rattle.pauli.specs.Promises.{FromDenseText};
 
 use crate::questions::check_room;
-use crate::refusal::{Outcome, Refusal};
+use crate::refusal::Refusal;
 use crate::text::{byte_at, check_ascii, is_space, letter_named, read_head};
 use crate::{QUBITS, STRING_LENGTH};
 
@@ -48,35 +48,32 @@ fn larger(a: usize, b: usize) -> usize
 }
 
 // One letter, at this offset, for this qubit.
-fn check_letter(c: u8, offset: usize, qubit: usize) -> Outcome
+fn check_letter(c: u8, offset: usize, qubit: usize) -> Result<(), Refusal>
     ensures { result ≡ dense_letter c offset qubit }
 {
     if is_identity(c) {
-        return Outcome::Done;
+        return Ok(());
     }
     if letter_named(c) == 0 {
-        return Outcome::Refused(Refusal::NotLetter { offset });
+        return Err(Refusal::NotLetter { offset });
     }
     if qubit < QUBITS {
-        return Outcome::Done;
+        return Ok(());
     }
-    Outcome::Refused(Refusal::TextQubit { offset })
+    Err(Refusal::TextQubit { offset })
 }
 
 // The letters of a body that begins at this offset, one after another.
-fn check_letters(body: &[u8], offset: usize) -> Outcome
+fn check_letters(body: &[u8], offset: usize) -> Result<(), Refusal>
     requires { offset + length body.now < 18446744073709551616 }
     ensures { result ≡ letter_questions offset 0 body.now }
 {
     let mut i = 0;
     while i < body.len() {
-        let answer = check_letter(body[i], offset + i, i);
-        let Outcome::Done = answer else {
-            return answer;
-        };
+        check_letter(body[i], offset + i, i)?;
         i += 1;
     }
-    Outcome::Done
+    Ok(())
 }
 
 // The letters that a body names, over the destination; I past its end.
@@ -101,35 +98,33 @@ fn write_dense(phase: u8, body: &[u8], dst: &mut [u8])
 }
 
 // The questions put to a dense text with this body, in their order.
-fn dense_answer(t: &[u8], body: &[u8], offset: usize, room: usize) -> Outcome
+fn dense_answer(t: &[u8], body: &[u8], offset: usize, room: usize) -> Result<(), Refusal>
     requires { DenseAt t.now body.now offset }
     ensures { result ≡ from_dense_questions t.now room }
 {
-    let first = check_ascii(t);
-    let Outcome::Done = first else {
-        return first;
-    };
-    let second = check_letters(body, offset);
-    let Outcome::Done = second else {
-        return second;
-    };
+    check_ascii(t)?;
+    check_letters(body, offset)?;
     check_room(STRING_LENGTH, room)
 }
 
-fn dense_body(t: &[u8], phase: u8, body: &[u8], offset: usize, dst: &mut [u8]) -> Outcome
+fn dense_body(
+    t: &[u8],
+    phase: u8,
+    body: &[u8],
+    offset: usize,
+    dst: &mut [u8],
+) -> Result<(), Refusal>
     requires dense_at { DenseAt t.now body.now offset }
     requires phase_value { phase ≡ phase_byte (text_phase t.now) }
     ensures { FromDenseText t.now dst.old dst.new result }
 {
-    let answer = dense_answer(t, body, offset, dst.len());
-    if let Outcome::Done = answer {
-        write_dense(phase, body, dst);
-    }
-    answer
+    dense_answer(t, body, offset, dst.len())?;
+    write_dense(phase, body, dst);
+    Ok(())
 }
 
 // The string of a dense text.
-pub(crate) fn dense_string(t: &[u8], dst: &mut [u8]) -> Outcome
+pub(crate) fn dense_string(t: &[u8], dst: &mut [u8]) -> Result<(), Refusal>
     ensures { FromDenseText t.now dst.old dst.new result }
 {
     let head = read_head(t);

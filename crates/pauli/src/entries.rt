@@ -6,8 +6,8 @@ ghost use Rattle.pauli.specs.Entries.{entry_count};
 ghost use Rattle.pauli.specs.Inside.Marks.{mark_more, marks_to, first_twice, unmarked, MarkFits, Unmarked, marks_question, Blank, EntriesRead, letters_marked, letters_over, MarksFit};
 ghost use Rattle.pauli.specs.Questions.{even_question, first_bad_entry, entry_letters_question, first_high_entry, entry_qubits_question, entry_questions, room_question, ◌and_then◌};
 
-use crate::questions::{and_then, check_byte, check_room};
-use crate::refusal::{Outcome, Refusal};
+use crate::questions::{check_byte, check_room};
+use crate::refusal::Refusal;
 use crate::rows::smaller;
 use crate::{QUBITS, STRING_LENGTH};
 
@@ -17,13 +17,13 @@ fn wide(x: u8) -> usize
     x as usize
 }
 
-fn check_even(entries: &[u8]) -> Outcome
+fn check_even(entries: &[u8]) -> Result<(), Refusal>
     ensures { result ≡ even_question entries.now }
 {
     if entries.len() % 2 != 0 {
-        return Outcome::Refused(Refusal::Length);
+        return Err(Refusal::Length);
     }
-    Outcome::Done
+    Ok(())
 }
 
 // The first entry whose letter is above 3, or the number of entries.
@@ -41,14 +41,14 @@ fn first_bad_entry(entries: &[u8]) -> usize
     j
 }
 
-fn check_entry_letters(entries: &[u8]) -> Outcome
+fn check_entry_letters(entries: &[u8]) -> Result<(), Refusal>
     ensures { result ≡ entry_letters_question entries.now }
 {
     let j = first_bad_entry(entries);
     if j < entries.len() / 2 {
-        return Outcome::Refused(Refusal::BadByte { offset: 2 * j });
+        return Err(Refusal::BadByte { offset: 2 * j });
     }
-    Outcome::Done
+    Ok(())
 }
 
 // The first entry whose qubit is not below 128, or the number of entries.
@@ -66,24 +66,26 @@ fn first_high_entry(entries: &[u8]) -> usize
     j
 }
 
-fn check_entry_qubits(entries: &[u8]) -> Outcome
+fn check_entry_qubits(entries: &[u8]) -> Result<(), Refusal>
     ensures { result ≡ entry_qubits_question entries.now }
 {
     let j = first_high_entry(entries);
     if j < entries.len() / 2 {
-        return Outcome::Refused(Refusal::Qubit {
+        return Err(Refusal::Qubit {
             qubit: wide(entries[2 * j + 1]),
         });
     }
-    Outcome::Done
+    Ok(())
 }
 
 // The questions put to a phase and to entries before their qubits are compared.
-pub(crate) fn check_entries(phase: u8, entries: &[u8]) -> Outcome
+pub(crate) fn check_entries(phase: u8, entries: &[u8]) -> Result<(), Refusal>
     ensures { result ≡ entry_questions phase entries.now }
 {
-    let each = and_then(check_entry_letters(entries), check_entry_qubits(entries));
-    and_then(check_byte(phase), and_then(check_even(entries), each))
+    check_byte(phase)?;
+    check_even(entries)?;
+    check_entry_letters(entries)?;
+    check_entry_qubits(entries)
 }
 
 // One more entry with this letter on this qubit.
@@ -133,32 +135,35 @@ pub(crate) fn first_twice(marks: &[u8]) -> usize
 }
 
 // Question 12 by the marks.
-pub(crate) fn check_marks(marks: &[u8]) -> Outcome
+pub(crate) fn check_marks(marks: &[u8]) -> Result<(), Refusal>
     ensures { result ≡ marks_question marks.now }
 {
     let qubit = first_twice(marks);
     if qubit < QUBITS {
-        return Outcome::Refused(Refusal::Duplicate { qubit });
+        return Err(Refusal::Duplicate { qubit });
     }
-    Outcome::Done
+    Ok(())
 }
 
 // Question 12 by the marks, then 7.
-pub(crate) fn check_marks_and_room(marks: &[u8], room: usize) -> Outcome
+pub(crate) fn check_marks_and_room(marks: &[u8], room: usize) -> Result<(), Refusal>
     ensures { result ≡ (marks_question marks.now and_then room_question 129 room) }
 {
-    and_then(check_marks(marks), check_room(STRING_LENGTH, room))
+    check_marks(marks)?;
+    check_room(STRING_LENGTH, room)
 }
 
 // The questions put to a phase, entries and a destination, in their order; the entries are left marked.
-pub(crate) fn read_entries(phase: u8, entries: &[u8], marks: &mut [u8], room: usize) -> Outcome
+pub(crate) fn read_entries(
+    phase: u8,
+    entries: &[u8],
+    marks: &mut [u8],
+    room: usize,
+) -> Result<(), Refusal>
     requires { Blank marks.old }
     ensures { EntriesRead phase entries.now room marks.new result }
 {
-    let first = check_entries(phase, entries);
-    let Outcome::Done = first else {
-        return first;
-    };
+    check_entries(phase, entries)?;
     mark_entries(entries, marks);
     check_marks_and_room(marks, room)
 }

@@ -8,61 +8,56 @@ ghost use Rattle.pauli.specs.Promises.{PhaseOfString, LetterOfString, PlacesCoun
 use crate::QUBITS;
 use crate::dense_reader::dense_string;
 use crate::entries::{read_entries, write_marked};
-use crate::questions::{and_then, check_qubit, check_room, check_string, check_strings};
-use crate::refusal::{ByteAnswer, CountAnswer, Outcome};
+use crate::questions::{check_qubit, check_room, check_string, check_strings};
+use crate::refusal::Refusal;
 use crate::rows::count_anticommuting;
 use crate::sparse_reader::sparse_string;
 use crate::sparse_text::{sparse_length, write_sparse};
 use crate::text::any_digit;
 
 // The phase of a string record.
-pub fn phase(s: &[u8]) -> ByteAnswer
+pub fn phase(s: &[u8]) -> Result<u8, Refusal>
     ensures { PhaseOfString s.now result }
 {
-    let answer = check_string(s);
-    match answer {
-        Outcome::Done => ByteAnswer::Byte(s[0]),
-        Outcome::Refused(why) => ByteAnswer::NoByte(why),
-    }
+    check_string(s)?;
+    Ok(s[0])
 }
 
 // The letter of a string record at one qubit.
-pub fn get(s: &[u8], qubit: usize) -> ByteAnswer
+pub fn get(s: &[u8], qubit: usize) -> Result<u8, Refusal>
     ensures { LetterOfString s.now qubit result }
 {
-    let answer = and_then(check_string(s), check_qubit(qubit));
-    match answer {
-        Outcome::Done => ByteAnswer::Byte(s[qubit + 1]),
-        Outcome::Refused(why) => ByteAnswer::NoByte(why),
-    }
+    check_string(s)?;
+    check_qubit(qubit)?;
+    Ok(s[qubit + 1])
 }
 
 // At how many qubits two string records anticommute; they commute where that is even. The kernel counts modulo 256, which the 128
 // places of a record never reach.
-pub fn anticommuting_places(s: &[u8], t: &[u8]) -> CountAnswer
+pub fn anticommuting_places(s: &[u8], t: &[u8]) -> Result<usize, Refusal>
     ensures { PlacesCounted s.now t.now result }
 {
-    let answer = check_strings(s, t);
-    match answer {
-        Outcome::Done => CountAnswer::Count(count_anticommuting(&s[1..], &t[1..]) as usize),
-        Outcome::Refused(why) => CountAnswer::NoCount(why),
-    }
+    check_strings(s, t)?;
+    Ok(usize::from(count_anticommuting(&s[1..], &t[1..])))
 }
 
 // The string of a phase and entries. The marks are a buffer of 128 zeros.
-fn string_of_entries(phase: u8, entries: &[u8], marks: &mut [u8], dst: &mut [u8]) -> Outcome
+fn string_of_entries(
+    phase: u8,
+    entries: &[u8],
+    marks: &mut [u8],
+    dst: &mut [u8],
+) -> Result<(), Refusal>
     requires { Blank marks.old }
     ensures { FromEntries phase entries.now dst.old dst.new result }
 {
-    let answer = read_entries(phase, entries, marks, dst.len());
-    if let Outcome::Done = answer {
-        write_marked(phase, marks, dst);
-    }
-    answer
+    read_entries(phase, entries, marks, dst.len())?;
+    write_marked(phase, marks, dst);
+    Ok(())
 }
 
 // The string with this phase and these entries, byte pairs (letter, qubit).
-pub fn with_phase_and_paulis(phase: u8, entries: &[u8], dst: &mut [u8]) -> Outcome
+pub fn with_phase_and_paulis(phase: u8, entries: &[u8], dst: &mut [u8]) -> Result<(), Refusal>
     ensures { FromEntries phase entries.now dst.old dst.new result }
 {
     let mut marks = [0u8; QUBITS];
@@ -70,7 +65,7 @@ pub fn with_phase_and_paulis(phase: u8, entries: &[u8], dst: &mut [u8]) -> Outco
 }
 
 // The string that a sparse text names.
-pub fn from_sparse_str(t: &[u8], dst: &mut [u8]) -> Outcome
+pub fn from_sparse_str(t: &[u8], dst: &mut [u8]) -> Result<(), Refusal>
     ensures { FromSparseText t.now dst.old dst.new result }
 {
     let mut marks = [0u8; QUBITS];
@@ -78,14 +73,14 @@ pub fn from_sparse_str(t: &[u8], dst: &mut [u8]) -> Outcome
 }
 
 // The string that a dense text names.
-pub fn from_dense_str(t: &[u8], dst: &mut [u8]) -> Outcome
+pub fn from_dense_str(t: &[u8], dst: &mut [u8]) -> Result<(), Refusal>
     ensures { FromDenseText t.now dst.old dst.new result }
 {
     dense_string(t, dst)
 }
 
 // The string that a text names: sparse where it holds a digit, otherwise dense.
-pub fn from_str(t: &[u8], dst: &mut [u8]) -> Outcome
+pub fn from_str(t: &[u8], dst: &mut [u8]) -> Result<(), Refusal>
     ensures { FromText t.now dst.old dst.new result }
 {
     if any_digit(t) {
@@ -95,23 +90,17 @@ pub fn from_str(t: &[u8], dst: &mut [u8]) -> Outcome
 }
 
 // The questions of `to_sparse_str`, in their order: the room is asked for this very text.
-fn to_sparse_answer(s: &[u8], room: usize) -> Outcome
+fn to_sparse_answer(s: &[u8], room: usize) -> Result<(), Refusal>
     ensures { result ≡ to_sparse_questions s.now room }
 {
-    let first = check_string(s);
-    if let Outcome::Done = first {
-        return check_room(sparse_length(s[0], &s[1..]), room);
-    }
-    first
+    check_string(s)?;
+    check_room(sparse_length(s[0], &s[1..]), room)
 }
 
 // The sparse text of a string record; the answer is its length.
-pub fn to_sparse_str(s: &[u8], dst: &mut [u8]) -> CountAnswer
+pub fn to_sparse_str(s: &[u8], dst: &mut [u8]) -> Result<usize, Refusal>
     ensures { SparseTextWritten s.now dst.old dst.new result }
 {
-    let answer = to_sparse_answer(s, dst.len());
-    match answer {
-        Outcome::Done => CountAnswer::Count(write_sparse(s[0], &s[1..], dst)),
-        Outcome::Refused(why) => CountAnswer::NoCount(why),
-    }
+    to_sparse_answer(s, dst.len())?;
+    Ok(write_sparse(s[0], &s[1..], dst))
 }

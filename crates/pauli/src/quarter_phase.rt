@@ -1,24 +1,20 @@
 // Phases. Ports quarter_phase.rs of PECOS, changed: Apache License, Version 2.0.
 ghost use Rattle.std.specs.Prelude.{◌≡◌};
 ghost use Rattle.pauli_group.specs.Phase.{is_real};
-ghost use Rattle.pauli.specs.Answers.{yes_or_no};
 ghost use Rattle.pauli.specs.Layout.{phase_of};
 ghost use Rattle.pauli.specs.Rows.{conjugate_byte};
 ghost use Rattle.pauli.specs.Promises.{PhasesMultiplied, PhaseConjugated, PhaseIsReal};
 
 use crate::questions::{check_byte, check_pair};
-use crate::refusal::{ByteAnswer, Flag, Outcome};
+use crate::refusal::Refusal;
 use crate::rows::phase_times;
 
 // The product of two phases.
-pub fn multiply(a: u8, b: u8) -> ByteAnswer
+pub fn multiply(a: u8, b: u8) -> Result<u8, Refusal>
     ensures { PhasesMultiplied a b result }
 {
-    let answer = check_pair(a, b);
-    match answer {
-        Outcome::Done => ByteAnswer::Byte(phase_times(a, b)),
-        Outcome::Refused(why) => ByteAnswer::NoByte(why),
-    }
+    check_pair(a, b)?;
+    Ok(phase_times(a, b))
 }
 
 // The conjugate of a phase byte; a byte above 3 is read as 3.
@@ -33,34 +29,23 @@ pub fn phase_conjugate(p: u8) -> u8
     }
 }
 
-pub fn conjugate(p: u8) -> ByteAnswer
+pub fn conjugate(p: u8) -> Result<u8, Refusal>
     ensures { PhaseConjugated p result }
 {
-    let answer = check_byte(p);
-    match answer {
-        Outcome::Done => ByteAnswer::Byte(phase_conjugate(p)),
-        Outcome::Refused(why) => ByteAnswer::NoByte(why),
-    }
+    check_byte(p)?;
+    Ok(phase_conjugate(p))
 }
 
 // Whether a phase byte is +1 or -1; a byte above 3 is read as 3.
-fn real_phase(p: u8) -> Flag
-    ensures { result ≡ yes_or_no (is_real (phase_of p)) }
+fn real_phase(p: u8) -> bool
+    ensures { result ≡ is_real (phase_of p) }
 {
-    match p {
-        0 => Flag::Yes,
-        1 => Flag::Yes,
-        2 => Flag::No,
-        _ => Flag::No,
-    }
+    p < 2
 }
 
-pub fn is_real(p: u8) -> Flag
+pub fn is_real(p: u8) -> Result<bool, Refusal>
     ensures { PhaseIsReal p result }
 {
-    let answer = check_byte(p);
-    match answer {
-        Outcome::Done => real_phase(p),
-        Outcome::Refused(why) => Flag::NoFlag(why),
-    }
+    check_byte(p)?;
+    Ok(real_phase(p))
 }

@@ -2,72 +2,72 @@
 ghost use Rattle.std.specs.Prelude.{◌≡◌};
 ghost use Rattle.pauli.specs.Questions.{byte_question, pair_questions, string_questions, strings_questions, qubit_question, room_question, ◌and_then◌};
 
-use crate::refusal::{Outcome, Refusal};
+use crate::refusal::Refusal;
 use crate::{QUBITS, STRING_LENGTH};
 
 // The second answer where the first question lets by.
-pub fn and_then(first: Outcome, second: Outcome) -> Outcome
+pub fn and_then(first: Result<(), Refusal>, second: Result<(), Refusal>) -> Result<(), Refusal>
     ensures { result ≡ (first and_then second) }
 {
-    if let Outcome::Done = first {
-        return second;
-    }
-    first
+    first?;
+    second
 }
 
 // A phase or a letter given by itself.
-pub fn check_byte(b: u8) -> Outcome
+pub fn check_byte(b: u8) -> Result<(), Refusal>
     ensures { result ≡ byte_question b }
 {
     if 3 < b {
-        return Outcome::Refused(Refusal::BadByte { offset: 0 });
+        return Err(Refusal::BadByte { offset: 0 });
     }
-    Outcome::Done
+    Ok(())
 }
 
 // Two of them, the first one first.
-pub fn check_pair(a: u8, b: u8) -> Outcome
+pub fn check_pair(a: u8, b: u8) -> Result<(), Refusal>
     ensures { result ≡ pair_questions a b }
 {
-    and_then(check_byte(a), check_byte(b))
+    check_byte(a)?;
+    check_byte(b)
 }
 
 // A string record.
-pub fn check_string(s: &[u8]) -> Outcome
+pub fn check_string(s: &[u8]) -> Result<(), Refusal>
     ensures { result ≡ string_questions s.now }
 {
     if s.len() != STRING_LENGTH {
-        return Outcome::Refused(Refusal::Length);
+        return Err(Refusal::Length);
     }
     let k = crate::rows::first_bad(s);
     if k < s.len() {
-        return Outcome::Refused(Refusal::BadByte { offset: k });
+        return Err(Refusal::BadByte { offset: k });
     }
-    Outcome::Done
+    Ok(())
 }
 
 // Two string records, the first one first.
-pub fn check_strings(s: &[u8], t: &[u8]) -> Outcome
+pub fn check_strings(s: &[u8], t: &[u8]) -> Result<(), Refusal>
     ensures { result ≡ strings_questions s.now t.now }
 {
-    and_then(check_string(s), check_string(t))
+    check_string(s)?;
+    check_string(t)
 }
 
-pub fn check_qubit(qubit: usize) -> Outcome
+pub fn check_qubit(qubit: usize) -> Result<(), Refusal>
     ensures { result ≡ qubit_question qubit }
 {
     if qubit < QUBITS {
-        return Outcome::Done;
+        return Ok(());
     }
-    Outcome::Refused(Refusal::Qubit { qubit })
+    Err(Refusal::Qubit { qubit })
 }
 
 // Room for the bytes that an answer needs.
-pub fn check_room(needed: usize, room: usize) -> Outcome
+pub fn check_room(needed: usize, room: usize) -> Result<(), Refusal>
     ensures { result ≡ room_question needed room }
 {
     if room < needed {
-        return Outcome::Refused(Refusal::Room);
+        return Err(Refusal::Room);
     }
-    Outcome::Done
+    Ok(())
 }

@@ -1,10 +1,10 @@
-// Refusals and answers. specs/Answers.antt gives the number and the value of each case.
-ghost use Rattle.std.specs.Prelude.{◌≡◌};
-ghost use Rattle.pauli.specs.Answers.{refusal_number, refusal_detail, refusal_reply, outcome_reply, product_reply, byte_reply, flag_reply, count_reply, letter_reply};
+// Refusals, and what C is told of an answer. specs/Answers.antt gives the number and the value of each case.
+ghost use Rattle.std.specs.Prelude.{◌≡◌, ℕ, ◌<◌, ◌^◌};
+ghost use Rattle.pauli.specs.Answers.{refusal_number, refusal_detail, no_value, number_value, one_or_zero, refusal_reply, reply_of};
 
 // A question that was answered no, with the values that its answer names: of a list's step its record, with the number of the gate's
 // own question.
-#[derive(Clone, Copy)]
+#[derive(Clone, Copy, Debug, PartialEq, Eq)]
 pub enum Refusal {
     Width,
     Length,
@@ -31,45 +31,70 @@ pub enum Refusal {
     FalseWeight { offset: usize },
 }
 
-// What questions come to; also the answer of a function that writes.
-#[derive(Clone, Copy)]
-pub enum Outcome {
-    Done,
-    Refused(Refusal),
-}
+impl Refusal {
+    #[tactic(auto, unfolding(crate::specs::Answers::refusal_number))]
+    pub fn number(self) -> u64
+        ensures { result ≡ refusal_number self }
+    {
+        match self {
+            Refusal::Width => 1,
+            Refusal::Length => 2,
+            Refusal::BadByte { .. } => 3,
+            Refusal::Gate => 4,
+            Refusal::Qubit { .. } => 5,
+            Refusal::SameQubit { .. } => 6,
+            Refusal::Room => 7,
+            Refusal::NotAscii { .. } => 8,
+            Refusal::NotLetter { .. } => 9,
+            Refusal::NoIndex { .. } => 10,
+            Refusal::NotNumeral { .. } => 11,
+            Refusal::Duplicate { .. } => 12,
+            Refusal::TextQubit { .. } => 13,
+            Refusal::ImageWidth { .. } => 14,
+            Refusal::Slot { .. } => 15,
+            Refusal::ListLength => 16,
+            Refusal::ListRecord { .. } => 17,
+            Refusal::StepGate { .. } => 4,
+            Refusal::StepQubit { .. } => 5,
+            Refusal::StepSameQubit { .. } => 6,
+            Refusal::Link { .. } => 18,
+            Refusal::Loop { .. } => 19,
+            Refusal::FalseWeight { .. } => 24,
+        }
+    }
 
-// The answer of the product of strings: the places that it took.
-#[derive(Clone, Copy)]
-pub enum Product {
-    Multiplied { places: usize },
-    NoProduct(Refusal),
-}
-
-#[derive(Clone, Copy)]
-pub enum ByteAnswer {
-    Byte(u8),
-    NoByte(Refusal),
-}
-
-#[derive(Clone, Copy)]
-pub enum Flag {
-    Yes,
-    No,
-    NoFlag(Refusal),
-}
-
-// A count, a length or an offset.
-#[derive(Clone, Copy)]
-pub enum CountAnswer {
-    Count(usize),
-    NoCount(Refusal),
-}
-
-// The answer of the product of two letters.
-#[derive(Clone, Copy)]
-pub enum LetterAnswer {
-    Phased { phase: u8, letter: u8 },
-    NoLetter(Refusal),
+    // 0 where it has none.
+    #[tactic(auto, unfolding(crate::specs::Answers::refusal_detail))]
+    pub fn detail(self) -> u64
+        ensures { result ≡ refusal_detail self }
+    {
+        let detail = match self {
+            Refusal::Width
+            | Refusal::Length
+            | Refusal::Gate
+            | Refusal::Room
+            | Refusal::ListLength => 0,
+            Refusal::BadByte { offset }
+            | Refusal::NotAscii { offset }
+            | Refusal::NotLetter { offset }
+            | Refusal::NoIndex { offset }
+            | Refusal::NotNumeral { offset }
+            | Refusal::TextQubit { offset }
+            | Refusal::FalseWeight { offset } => offset,
+            Refusal::Qubit { qubit }
+            | Refusal::SameQubit { qubit }
+            | Refusal::Duplicate { qubit }
+            | Refusal::ImageWidth { qubit, .. } => qubit,
+            Refusal::Slot { slot, .. } => slot,
+            Refusal::ListRecord { record }
+            | Refusal::StepGate { record }
+            | Refusal::StepQubit { record }
+            | Refusal::StepSameQubit { record }
+            | Refusal::Link { record }
+            | Refusal::Loop { record } => record,
+        };
+        detail as u64
+    }
 }
 
 // Number 0 and the answer's value, or a refusal's number and its detail.
@@ -80,149 +105,71 @@ pub struct Reply {
     pub value: u64,
 }
 
-// The refusal's number.
-pub fn number(r: Refusal) -> u64
-    ensures { result ≡ refusal_number r }
-{
-    match r {
-        Refusal::Width => 1,
-        Refusal::Length => 2,
-        Refusal::BadByte { offset: _ } => 3,
-        Refusal::Gate => 4,
-        Refusal::Qubit { qubit: _ } => 5,
-        Refusal::SameQubit { qubit: _ } => 6,
-        Refusal::Room => 7,
-        Refusal::NotAscii { offset: _ } => 8,
-        Refusal::NotLetter { offset: _ } => 9,
-        Refusal::NoIndex { offset: _ } => 10,
-        Refusal::NotNumeral { offset: _ } => 11,
-        Refusal::Duplicate { qubit: _ } => 12,
-        Refusal::TextQubit { offset: _ } => 13,
-        Refusal::ImageWidth { qubit: _, width: _ } => 14,
-        Refusal::Slot { slot: _, width: _ } => 15,
-        Refusal::ListLength => 16,
-        Refusal::ListRecord { record: _ } => 17,
-        Refusal::StepGate { record: _ } => 4,
-        Refusal::StepQubit { record: _ } => 5,
-        Refusal::StepSameQubit { record: _ } => 6,
-        Refusal::Link { record: _ } => 18,
-        Refusal::Loop { record: _ } => 19,
-        Refusal::FalseWeight { offset: _ } => 24,
+// What an answer names, as the value that C is told.
+pub trait Told {
+    ghost value: { Self → ℕ };
+
+    fn told(self) -> u64
+        ensures { result ≡ value self };
+}
+
+impl Told for () {
+    ghost value = { no_value };
+
+    fn told(self) -> u64 {
+        0
     }
 }
 
-// The refusal's detail, 0 where it has none.
-pub fn detail(r: Refusal) -> u64
-    ensures { result ≡ refusal_detail r }
-{
-    match r {
-        Refusal::Width => 0,
-        Refusal::Length => 0,
-        Refusal::BadByte { offset } => offset as u64,
-        Refusal::Gate => 0,
-        Refusal::Qubit { qubit } => qubit as u64,
-        Refusal::SameQubit { qubit } => qubit as u64,
-        Refusal::Room => 0,
-        Refusal::NotAscii { offset } => offset as u64,
-        Refusal::NotLetter { offset } => offset as u64,
-        Refusal::NoIndex { offset } => offset as u64,
-        Refusal::NotNumeral { offset } => offset as u64,
-        Refusal::Duplicate { qubit } => qubit as u64,
-        Refusal::TextQubit { offset } => offset as u64,
-        Refusal::ImageWidth { qubit, width: _ } => qubit as u64,
-        Refusal::Slot { slot, width: _ } => slot as u64,
-        Refusal::ListLength => 0,
-        Refusal::ListRecord { record } => record as u64,
-        Refusal::StepGate { record } => record as u64,
-        Refusal::StepQubit { record } => record as u64,
-        Refusal::StepSameQubit { record } => record as u64,
-        Refusal::Link { record } => record as u64,
-        Refusal::Loop { record } => record as u64,
-        Refusal::FalseWeight { offset } => offset as u64,
+// A phase, a letter, a gate.
+impl Told for u8 {
+    ghost value = { number_value };
+
+    fn told(self) -> u64 {
+        u64::from(self)
     }
 }
 
-pub fn refusal_reply(r: Refusal) -> Reply
-    ensures { result ≡ refusal_reply r }
-{
-    Reply {
-        number: number(r),
-        value: detail(r),
+// A count, a length, an offset.
+impl Told for usize {
+    ghost value = { number_value };
+
+    fn told(self) -> u64 {
+        self as u64
     }
 }
 
-pub fn outcome_reply(r: Outcome) -> Reply
-    ensures { result ≡ outcome_reply r }
-{
-    match r {
-        Outcome::Done => Reply {
-            number: 0,
-            value: 0,
-        },
-        Outcome::Refused(why) => refusal_reply(why),
+impl Told for bool {
+    ghost value = { one_or_zero };
+
+    fn told(self) -> u64 {
+        u64::from(self)
     }
 }
 
-pub fn product_reply(r: Product) -> Reply
-    ensures { result ≡ product_reply r }
-{
-    match r {
-        Product::Multiplied { places } => Reply {
-            number: 0,
-            value: places as u64,
-        },
-        Product::NoProduct(why) => refusal_reply(why),
+impl From<Refusal> for Reply {
+    ghost from_gives = { λ r reply. reply ≡ refusal_reply r };
+
+    #[tactic(auto, unfolding(crate::specs::Answers::refusal_reply))]
+    fn from(r: Refusal) -> Reply {
+        Reply {
+            number: r.number(),
+            value: r.detail(),
+        }
     }
 }
 
-pub fn byte_reply(r: ByteAnswer) -> Reply
-    ensures { result ≡ byte_reply r }
-{
-    match r {
-        ByteAnswer::Byte(b) => Reply {
-            number: 0,
-            value: b as u64,
-        },
-        ByteAnswer::NoByte(why) => refusal_reply(why),
-    }
-}
+impl<T: Told + Drop> From<Result<T, Refusal>> for Reply {
+    ghost from_gives = { λ r reply. reply ≡ reply_of T.value r };
 
-pub fn flag_reply(r: Flag) -> Reply
-    ensures { result ≡ flag_reply r }
-{
-    match r {
-        Flag::Yes => Reply {
-            number: 0,
-            value: 1,
-        },
-        Flag::No => Reply {
-            number: 0,
-            value: 0,
-        },
-        Flag::NoFlag(why) => refusal_reply(why),
-    }
-}
-
-pub fn count_reply(r: CountAnswer) -> Reply
-    ensures { result ≡ count_reply r }
-{
-    match r {
-        CountAnswer::Count(n) => Reply {
-            number: 0,
-            value: n as u64,
-        },
-        CountAnswer::NoCount(why) => refusal_reply(why),
-    }
-}
-
-pub fn letter_reply(r: LetterAnswer) -> Reply
-    ensures { result ≡ letter_reply r }
-{
-    match r {
-        LetterAnswer::Phased { phase, letter } => Reply {
-            number: 0,
-            value: 4 * (phase as u64) + letter as u64,
-        },
-        LetterAnswer::NoLetter(why) => refusal_reply(why),
+    #[tactic(auto, unfolding(crate::specs::Answers::reply_of))]
+    fn from(r: Result<T, Refusal>) -> Reply {
+        match r {
+            Ok(x) => Reply {
+                number: 0,
+                value: x.told(),
+            },
+            Err(why) => Reply::from(why),
+        }
     }
 }

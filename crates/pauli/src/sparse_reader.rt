@@ -7,7 +7,7 @@ ghost use Rattle.pauli.specs.Text.{tokens};
 ghost use Rattle.pauli.specs.Promises.{FromSparseText};
 
 use crate::entries::{check_marks_and_room, mark, write_marked};
-use crate::refusal::{Outcome, Refusal};
+use crate::refusal::Refusal;
 use crate::rows::smaller;
 use crate::text::{
     Numeral, check_ascii, letter_named, read_head, read_numeral, skip_spaces, skip_word,
@@ -95,7 +95,7 @@ fn read_entry(t: &[u8], at: usize) -> EntryAnswer
 }
 
 // All tokens from an offset on, up to one that is refused: each entry is marked.
-pub(crate) fn read_tokens(t: &[u8], start: usize, marks: &mut [u8]) -> Outcome
+pub(crate) fn read_tokens(t: &[u8], start: usize, marks: &mut [u8]) -> Result<(), Refusal>
     requires { BodyAt t.now start marks.old }
     ensures { TokensRead (tokens start (drop start t.now)) marks.new result }
 {
@@ -105,7 +105,7 @@ pub(crate) fn read_tokens(t: &[u8], start: usize, marks: &mut [u8]) -> Outcome
     while at < high {
         let entry = read_entry(t, at);
         match entry {
-            EntryAnswer::NoEntry(why) => return Outcome::Refused(why),
+            EntryAnswer::NoEntry(why) => return Err(why),
             EntryAnswer::High { offset, next } => {
                 high = smaller(high, offset);
                 at = skip_spaces(t, next);
@@ -121,37 +121,29 @@ pub(crate) fn read_tokens(t: &[u8], start: usize, marks: &mut [u8]) -> Outcome
         }
     }
     if high < t.len() {
-        return Outcome::Refused(Refusal::TextQubit { offset: high });
+        return Err(Refusal::TextQubit { offset: high });
     }
-    Outcome::Done
+    Ok(())
 }
 
 // The questions put to a sparse text whose body begins at this offset, in their order; its entries are left marked.
-fn sparse_answer(t: &[u8], at: usize, marks: &mut [u8], room: usize) -> Outcome
+fn sparse_answer(t: &[u8], at: usize, marks: &mut [u8], room: usize) -> Result<(), Refusal>
     requires { SparseAt t.now at marks.old }
     ensures { SparseRead t.now room marks.new result }
 {
-    let first = check_ascii(t);
-    let Outcome::Done = first else {
-        return first;
-    };
-    let second = read_tokens(t, at, marks);
-    let Outcome::Done = second else {
-        return second;
-    };
+    check_ascii(t)?;
+    read_tokens(t, at, marks)?;
     check_marks_and_room(marks, room)
 }
 
 // The string of a sparse text. The marks are a buffer of 128 zeros.
-pub(crate) fn sparse_string(t: &[u8], marks: &mut [u8], dst: &mut [u8]) -> Outcome
+pub(crate) fn sparse_string(t: &[u8], marks: &mut [u8], dst: &mut [u8]) -> Result<(), Refusal>
     requires { Blank marks.old }
     ensures { FromSparseText t.now dst.old dst.new result }
 {
     let head = read_head(t);
     let at = head.at;
-    let answer = sparse_answer(t, at, marks, dst.len());
-    if let Outcome::Done = answer {
-        write_marked(head.phase, marks, dst);
-    }
-    answer
+    sparse_answer(t, at, marks, dst.len())?;
+    write_marked(head.phase, marks, dst);
+    Ok(())
 }

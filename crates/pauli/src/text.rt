@@ -4,7 +4,7 @@ ghost use Rattle.std.specs.Prelude.{◌≡◌, ◌≤◌, length, slice_index};
 ghost use Rattle.pauli.specs.Inside.Reading.{Skipped, PrefixRead, HeadRead, DigitValue, digits_numeral, index_numeral, leading_word};
 ghost use Rattle.pauli.specs.Text.{is_space, is_digit, letter_named, leading_spaces, first_not_ascii, ascii_question, is_sparse};
 
-use crate::refusal::{Outcome, Refusal};
+use crate::refusal::Refusal;
 
 pub(crate) fn is_space(c: u8) -> bool
     ensures { result ≡ is_space c }
@@ -105,14 +105,14 @@ fn first_not_ascii(t: &[u8]) -> usize
     i
 }
 
-pub(crate) fn check_ascii(t: &[u8]) -> Outcome
+pub(crate) fn check_ascii(t: &[u8]) -> Result<(), Refusal>
     ensures { result ≡ ascii_question t.now }
 {
     let k = first_not_ascii(t);
     if k < t.len() {
-        return Outcome::Refused(Refusal::NotAscii { offset: k });
+        return Err(Refusal::NotAscii { offset: k });
     }
-    Outcome::Done
+    Ok(())
 }
 
 // The byte at a place, 0 past the end.

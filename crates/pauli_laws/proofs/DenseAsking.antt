@@ -14,7 +14,6 @@ use Rattle.pauli_group.specs.Letter.{Letter, I}
 use Rattle.pauli_group.specs.PauliString.{PauliString, qubits}
 use Rattle.pauli_group.proofs.Strings.{string_ext}
 use Rattle.pauli.specs.declared.refusal.Refusal.TheVariants.{NotLetter, TextQubit}
-use Rattle.pauli.specs.declared.refusal.Outcome.TheVariants.{Done}
 use Rattle.pauli.specs.Layout.{letter_byte, letter_of, string_length}
 use Rattle.pauli.specs.Questions.{ask}
 use Rattle.pauli.specs.Text.{is_space, is_sign, is_small_i, is_identity, letter_named, text_phase, ascii_question, body_start, dense_body, dense_letter, letter_questions, dense_questions, dense_string, from_dense_questions}
@@ -30,22 +29,23 @@ use Rattle.pauli_laws.proofs.Prefixes.{Prefixed, space-small, blank-phase, phase
 
 -- ---- the questions
 -- the byte c is known, and I where q is not below 128
+use Rattle.std.specs.Prelude.{Ok, true, false, Bool, ℕ}
 record LetterFits (c q : ℕ) : Type 0 where
   known : (is_identity c || ltb 0 (letter_named c)) ≡ true
   low : (is_identity c || ltb q 128) ≡ true
 
-letter_let_by : {c q : ℕ} (k : ℕ) → LetterFits c q → Done ≡ dense_letter c k q
+letter_let_by : {c q : ℕ} (k : ℕ) → LetterFits c q → Ok tt ≡ dense_letter c k q
 unfolding dense_letter qubits
 letter_let_by k f = passed (asked_yes (NotLetter k) f.known) refl (asked_yes (TextQubit k) f.low)
 
-letter-fits : (c k q : ℕ) → dense_letter c k q ≡ Done → LetterFits c q
+letter-fits : (c k q : ℕ) → dense_letter c k q ≡ Ok tt → LetterFits c q
 unfolding dense_letter qubits
 letter-fits c k q h = record {
   known = ask_done _ _ (done_first _ _ h);
   low = ask_done _ _ (done_second (ask (is_identity c || ltb 0 (letter_named c)) (NotLetter k)) _ h);
 }
 
-letters_let_by : (k q : ℕ) (b : List ℕ) → ((j : ℕ) → j < length b → LetterFits (get_or b j 0) (q + j)) → Done ≡ letter_questions k q b
+letters_let_by : (k q : ℕ) (b : List ℕ) → ((j : ℕ) → j < length b → LetterFits (get_or b j 0) (q + j)) → Ok tt ≡ letter_questions k q b
 unfolding letter_questions
 letters_let_by k q [] h = refl
 letters_let_by k q (c ∷ b) h =
@@ -58,7 +58,7 @@ letters_let_by k q (c ∷ b) h =
     next : (j : ℕ) → q + suc j ≡ suc q + j
     next j = omega arith
 
-letters_fit : (k q : ℕ) (b : List ℕ) → letter_questions k q b ≡ Done → (j : ℕ) → j < length b → LetterFits (get_or b j 0) (q + j)
+letters_fit : (k q : ℕ) (b : List ℕ) → letter_questions k q b ≡ Ok tt → (j : ℕ) → j < length b → LetterFits (get_or b j 0) (q + j)
 unfolding letter_questions
 letters_fit k q [] h j l = absurd (not-suc-le-zero l)
 letters_fit k q (c ∷ b) h zero l = let here : q ≡ q + 0 = omega arith in subst (LetterFits c) here (letter-fits c k q (done_first _ _ h))
@@ -184,10 +184,10 @@ module _ {s : PauliString} {t : List ℕ} (d : DenseText s t) where
     ];
   }
 
-  letters-asked : (k : ℕ) → Done ≡ letter_questions k 0 (dense_body t)
+  letters-asked : (k : ℕ) → Ok tt ≡ letter_questions k 0 (dense_body t)
   letters-asked k = rw body_read (letters_let_by k 0 d.body fits)
 
-  pub dense_admitted : (room : ℕ) → string_length ≤ room → from_dense_questions t room ≡ Done
+  pub dense_admitted : (room : ℕ) → string_length ≤ room → from_dense_questions t room ≡ Ok tt
   unfolding from_dense_questions dense_questions
   dense_admitted room h = sym (passed (passed (sym (ascii_asked t ascii_bytes)) refl (letters-asked (body_start t))) refl (has_room 129 room h))
 
@@ -196,8 +196,8 @@ identity_past : (a : Bool) {b : Bool} → (a || b) ≡ true → b ≡ false → 
 identity_past true h k = refl
 identity_past false h k = absurd (true≢false (sym h ∙ k))
 
-module _ (t : List ℕ) (room : ℕ) (h : from_dense_questions t room ≡ Done) where
-  asked : dense_questions t ≡ Done
+module _ (t : List ℕ) (room : ℕ) (h : from_dense_questions t room ≡ Ok tt) where
+  asked : dense_questions t ≡ Ok tt
   unfolding from_dense_questions
   asked = done_first _ _ h
 

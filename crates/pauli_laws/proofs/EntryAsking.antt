@@ -12,7 +12,6 @@ use Rattle.pauli_group.specs.Letter.{I}
 use Rattle.pauli_group.specs.PauliString.{qubits, count_to}
 use Rattle.pauli_group.proofs.Strings.{string_ext}
 use Rattle.pauli.specs.declared.refusal.Refusal.TheVariants.{Duplicate}
-use Rattle.pauli.specs.declared.refusal.Outcome.TheVariants.{Done}
 use Rattle.pauli.specs.Places.{first_place}
 use Rattle.pauli.specs.Layout.{phase_of, letter_byte, letter_of}
 use Rattle.pauli.specs.Entries.{entry_count, entry_letter, entry_qubit, occurrences, entry_of, entries_string}
@@ -24,6 +23,7 @@ use Rattle.pauli.proofs.Records.{letter-back, letter_there, letter-small}
 use Rattle.pauli_laws.specs.EntryLists.{Entry, entry_bytes, Unnamed, NamedOnce, EntriesGiven, letter_for, named_string}
 
 -- ---- one entry in front
+use Rattle.std.specs.Prelude.{Ok, None, true, false, Bool, ℕ}
 module _ (x y : ℕ) (b : List ℕ) where
   count_front : entry_count (x ∷ y ∷ b) ≡ suc (entry_count b)
   unfolding entry_count
@@ -78,10 +78,10 @@ no_entries : (q : ℕ) → occurrences [] q ≡ 0
 unfolding occurrences entry_count count_to
 no_entries q = refl
 
-unnamed_none : {q : ℕ} {es : List Entry} → Unnamed q es → occurrences (entry_bytes es) q ≡ 0
+unnamed_none : {q : ℕ} {es : List Entry} → (Ok None) q es → occurrences (entry_bytes es) q ≡ 0
 unfolding entry_bytes
-unnamed_none {q} Unnamed.none = no_entries q
-unnamed_none {q} (Unnamed.other {e} {es} h u) = named_there (letter_byte e.letter) e.qubit (entry_bytes es) q h ∙ unnamed_none u
+unnamed_none {q} (Ok None).none = no_entries q
+unnamed_none {q} ((Ok None).other {e} {es} h u) = named_there (letter_byte e.letter) e.qubit (entry_bytes es) q h ∙ unnamed_none u
 
 once-named : {es : List Entry} → NamedOnce es → (q : ℕ) → occurrences (entry_bytes es) q ≤ 1
 unfolding entry_bytes
@@ -96,17 +96,17 @@ once-named (NamedOnce.entry {e} {es} low u o) q = go (ℕ_discrete e.qubit q) (o
     go (no d) r = omega (arith, named_there (letter_byte e.letter) e.qubit (entry_bytes es) q d)
 
 -- ---- and the way back
-none_unnamed : (q : ℕ) (es : List Entry) → occurrences (entry_bytes es) q ≡ 0 → Unnamed q es
+none_unnamed : (q : ℕ) (es : List Entry) → occurrences (entry_bytes es) q ≡ 0 → (Ok None) q es
 unfolding entry_bytes
-none_unnamed q [] h = Unnamed.none
+none_unnamed q [] h = (Ok None).none
 none_unnamed q (e ∷ es) h = go (ℕ_discrete e.qubit q) (none_unnamed q es)
   where
     front : List ℕ
     front = letter_byte e.letter ∷ e.qubit ∷ entry_bytes es
 
-    go : Dec (e.qubit ≡ q) → (occurrences (entry_bytes es) q ≡ 0 → Unnamed q es) → Unnamed q (e ∷ es)
+    go : Dec (e.qubit ≡ q) → (occurrences (entry_bytes es) q ≡ 0 → (Ok None) q es) → (Ok None) q (e ∷ es)
     go (yes d) r = absurd (omega (arith, named_here (letter_byte e.letter) (entry_bytes es) e.qubit, ap (occurrences front) d))
-    go (no d) r = Unnamed.other d (r (sym (named_there (letter_byte e.letter) e.qubit (entry_bytes es) q d) ∙ h))
+    go (no d) r = (Ok None).other d (r (sym (named_there (letter_byte e.letter) e.qubit (entry_bytes es) q d) ∙ h))
 
 named-once : (es : List Entry) → ((j : ℕ) → j < entry_count (entry_bytes es) → entry_qubit (entry_bytes es) j < 128)
     → ((q : ℕ) → q < 128 → occurrences (entry_bytes es) q ≤ 1) → NamedOnce es
@@ -149,36 +149,36 @@ pub all_before : {n : ℕ} {f : ℕ → Bool} → ((k : ℕ) → k < n → f k �
 all_before h = none_left_lem (record { within = omega arith; none = h }) (omega arith)
 
 module _ (b : List ℕ) where
-  entry_letters_let_by : ((j : ℕ) → entry_letter b j ≤ 3) → Done ≡ entry_letters_question b
+  entry_letters_let_by : ((j : ℕ) → entry_letter b j ≤ 3) → Ok tt ≡ entry_letters_question b
   unfolding first_bad_entry entry_count
   entry_letters_let_by h = letters-good b (all_before (λ j l. le-ltb 3 (entry_letter b j) (h j))) (omega arith)
 
-  entry_qubits_let_by : ((j : ℕ) → entry_qubit b j < 128) → Done ≡ entry_qubits_question b
+  entry_qubits_let_by : ((j : ℕ) → entry_qubit b j < 128) → Ok tt ≡ entry_qubits_question b
   unfolding first_high_entry entry_count qubits
   entry_qubits_let_by h = qubits-good b (all_before (λ j l. lt-leb 128 (entry_qubit b j) (h j))) (omega arith)
 
-  once_let_by : ((q : ℕ) → occurrences b q ≤ 1) → Done ≡ duplicate_question b
+  once_let_by : ((q : ℕ) → occurrences b q ≤ 1) → Ok tt ≡ duplicate_question b
   unfolding duplicate_question smallest_duplicate
   once_let_by h = asked_yes (Duplicate _) (le-leb qubits _ (omega (arith, all_before {n = qubits} (λ q l. lt-leb 2 (occurrences b q) (omega (arith, h q))))))
 
-entries-asked : {es : List Entry} {p room : ℕ} → p ≤ 3 → NamedOnce es → 129 ≤ room → Done ≡ with_phase_questions p (entry_bytes es) room
+entries-asked : {es : List Entry} {p room : ℕ} → p ≤ 3 → NamedOnce es → 129 ≤ room → Ok tt ≡ with_phase_questions p (entry_bytes es) room
 unfolding with_phase_questions entry_questions
 entries-asked {es} {p} {room} small once enough =
     let b : List ℕ = entry_bytes es in
-    let pairs : Done ≡ entry_letters_question b and_then entry_qubits_question b =
+    let pairs : Ok tt ≡ entry_letters_question b and_then entry_qubits_question b =
     passed (entry_letters_let_by b (letter-bytes es)) refl (entry_qubits_let_by b (qubit-bytes once)) in
     passed (passed (byte-good small) refl (passed (entries-even b (even-bytes es)) refl pairs)) refl
     (passed (once_let_by b (once-named once)) refl (has_room 129 room enough))
 
-pub entries_admitted : {p : ℕ} {b : List ℕ} {room : ℕ} → EntriesGiven p b room → with_phase_questions p b room ≡ Done
+pub entries_admitted : {p : ℕ} {b : List ℕ} {room : ℕ} → EntriesGiven p b room → with_phase_questions p b room ≡ Ok tt
 entries_admitted {p} {b} {room} g = ap (λ (e : List ℕ). with_phase_questions p e room) g.bytes ∙ sym (entries-asked g.phase g.once g.enough)
 
-module _ (p : ℕ) (b : List ℕ) (room : ℕ) (h : with_phase_questions p b room ≡ Done) where
-  of_entries : entry_questions p b ≡ Done
+module _ (p : ℕ) (b : List ℕ) (room : ℕ) (h : with_phase_questions p b room ≡ Ok tt) where
+  of_entries : entry_questions p b ≡ Ok tt
   unfolding with_phase_questions
   of_entries = done_first _ _ h
 
-  of_all : duplicate_question b and_then room_question 129 room ≡ Done
+  of_all : duplicate_question b and_then room_question 129 room ≡ Ok tt
   unfolding with_phase_questions
   of_all = done_second (entry_questions p b) _ h
 

@@ -1,9 +1,7 @@
 -- The readings of text: those of the scope document, and those of the rulings on text in docs/DECISIONS.md.
-use Rattle.std.specs.Prelude.{ℕ, List, [], ◌∷◌, ◌++◌, replicate}
+use Rattle.std.specs.Prelude.{ℕ, List, [], ◌∷◌, ◌++◌, replicate, Ok, Err}
 use Prim.Native.String.{String}
-use Rattle.pauli.specs.declared.refusal.Outcome.{Outcome}
-use Rattle.pauli.specs.declared.refusal.Outcome.TheVariants.{Done, Refused}
-use Rattle.pauli.specs.Answers.{refusal_number, refusal_detail}
+use Rattle.pauli.specs.Answers.{refusal_number, refusal_detail, Outcome}
 use Rattle.pauli.specs.Layout.{string_length}
 use Rattle.pauli.specs.SparseText.{text_of_record}
 use Rattle.pauli.specs.Text.{from_sparse_questions, sparse_record, from_dense_questions, dense_record, from_str_questions, text_record}
@@ -21,8 +19,8 @@ pub data TextAnswer : Type 0 where
   string : List ℕ → TextAnswer
 
 unfoldable pub text_answer : Outcome → List ℕ → TextAnswer
-text_answer Done r = string (text_of_record r)
-text_answer (Refused x) r = refusal (refusal_number x) (refusal_detail x)
+text_answer (Ok tt) r = string (text_of_record r)
+text_answer (Err x) r = refusal (refusal_number x) (refusal_detail x)
 
 -- by the definitions that the contracts cite, with room for a record
 unfoldable pub read_by : Reader → List ℕ → TextAnswer

@@ -18,9 +18,7 @@ use Rattle.clifford_group.proofs.Apply.{apply_single, apply-within}
 use Rattle.clifford_group.proofs.Compose.{width-compose, row-compose, proper-compose}
 use Rattle.clifford_group.proofs.Rows.{same_row}
 use Rattle.pauli.specs.declared.refusal.Refusal.{Refusal}
-use Rattle.pauli.specs.declared.refusal.Outcome.{Outcome}
-use Rattle.pauli.specs.declared.refusal.Outcome.TheVariants.{Done, Refused}
-use Rattle.pauli.specs.Answers.{reply_to, written, Written}
+use Rattle.pauli.specs.Answers.{reply_to, written, Written, Outcome}
 use Rattle.pauli.specs.Layout.{phase_byte, letter_byte, letter_of, encode_string, string_length, string_of, string_record}
 use Rattle.pauli.specs.Questions.{◌and_then◌, string_questions, room_question}
 use Rattle.pauli.proofs.Answers.{written-not}
@@ -38,6 +36,7 @@ use Rattle.preview.specs.Previews.{preview_questions, preview_answer, composed_i
 use Rattle.preview.specs.Promises.{Previewed}
 
 -- ---- one letter
+use Rattle.std.specs.Prelude.{Ok, Err, ℕ}
 length-blank : length {A = ℕ} (replicate 129 0) ≡ string_length
 length-blank = length-replicate {A = ℕ} 129 0
 
@@ -97,27 +96,27 @@ larger_first {n} {m} a b q e en h em = e ∙ ap (slot_question q) (omega arith)
 pub ruleset larger_width_lem = (larger_second, larger_first, rules)
 
 -- a string of ours and room enough leave the tableau's own
-own-asked : (t s : List ℕ) (n : ℕ) → string_questions s ≡ Done → string_length ≤ n → apply_answer t s n ≡ tableau_questions t
+own-asked : (t s : List ℕ) (n : ℕ) → string_questions s ≡ Ok tt → string_length ≤ n → apply_answer t s n ≡ tableau_questions t
 unfolding apply_answer apply_questions
 own-asked t s n e h =
     ap₂ (λ x y. (tableau_questions t and_then x) and_then y) e (sym (has_room string_length n h))
-    ∙ sym (and_then_done (tableau_questions t) ∙ and_then_done (tableau_questions t and_then Done))
+    ∙ sym (and_then_done (tableau_questions t) ∙ and_then_done (tableau_questions t and_then Ok tt))
 
 -- after a refusal nothing is written
-then_not : {q r : Outcome} (p y : Outcome) {x : Refusal} (out d : List ℕ) → r ≡ q → r ≡ p and_then y → y ≡ Refused x → Written q out d d r
+then_not : {q r : Outcome} (p y : Outcome) {x : Refusal} (out d : List ℕ) → r ≡ q → r ≡ p and_then y → y ≡ Err x → Written q out d d r
 unfolding ◌and_then◌
-then_not Done y out d h e f = written-not out d h (e ∙ f)
-then_not (Refused z) y out d h e f = written-not out d h e
+then_not (Ok tt) y out d h e f = written-not out d h (e ∙ f)
+then_not (Err z) y out d h e f = written-not out d h e
 
 -- ---- a letter sent through b and then a
 module _ (a b : List ℕ) {s m : List ℕ} (l q : ℕ) {second : Outcome} (e : s ≡ letter_record l q) (w : Applied b s (replicate 129 0) m second) where
   second-asked : second ≡ tableau_questions b
   second-asked =
-      let string : string_questions s ≡ Done = ap string_questions e ∙ strings_admitted (single (letter_of l) q) in
+      let string : string_questions s ≡ Ok tt = ap string_questions e ∙ strings_admitted (single (letter_of l) q) in
       w.answer ∙ own-asked b s (length {A = ℕ} (replicate 129 0)) string (omega (arith, length-blank))
 
   -- the image takes the whole blank
-  image_is : second ≡ Done → m ≡ apply_record b (letter_record l q)
+  image_is : second ≡ Ok tt → m ≡ apply_record b (letter_record l q)
   unfolding apply_record written
   image_is h =
       let long : length (apply_record b s) ≡ string_length = record-length (apply (tableau_of b) (string_of s)) in
@@ -126,7 +125,7 @@ module _ (a b : List ℕ) {s m : List ℕ} (l q : ℕ) {second : Outcome} (e : s
       w.bytes ∙ ap (λ x. written x (apply_record b s) (replicate 129 0)) (sym w.answer ∙ h)
       ∙ ap (λ (r : List ℕ). apply_record b s ++ r) none ∙ append-nil (apply_record b s) ∙ ap (apply_record b) e
 
-  pub sent_done : {d f : List ℕ} {r : Outcome} → Sends l d → second ≡ Done → Applied a m d f r → LetterSent a b l q d f r
+  pub sent_done : {d f : List ℕ} {r : Outcome} → Sends l d → second ≡ Ok tt → Applied a m d f r → LetterSent a b l q d f r
   unfolding compose_questions sent_through
   sent_done {d} {f} {r} o h v = record {
     answer = v.answer ∙ asked;
@@ -134,14 +133,14 @@ module _ (a b : List ℕ) {s m : List ℕ} (l q : ℕ) {second : Outcome} (e : s
     bytes = v.bytes ∙ ap₂ (λ x i. written x (apply_record a i) d) asked (image_is h);
   }
     where
-      string : string_questions m ≡ Done
+      string : string_questions m ≡ Ok tt
       string = unfold apply_record in ap string_questions (image_is h) ∙ strings_admitted (apply (tableau_of b) (string_of (letter_record l q)))
 
       asked : apply_answer a m (length d) ≡ (tableau_questions a and_then tableau_questions b)
       asked = own-asked a m (length d) string o.room ∙ and_then_done (tableau_questions a)
           ∙ ap (λ x. tableau_questions a and_then x) (sym h ∙ second-asked)
 
-  pub sent-not : {first r : Outcome} {x : Refusal} (d : List ℕ) → second ≡ Refused x → first ≡ tableau_questions a → r ≡ first and_then second
+  pub sent-not : {first r : Outcome} {x : Refusal} (d : List ℕ) → second ≡ Err x → first ≡ tableau_questions a → r ≡ first and_then second
       → LetterSent a b l q d d r
   unfolding compose_questions
   sent-not {first} d h k p = then_not first second _ d (p ∙ ap₂ ◌and_then◌ k second-asked) p h
@@ -155,28 +154,28 @@ module _ (a b d : List ℕ) (q : ℕ) {inside room rest : Outcome} (i : inside �
   unfolding preview_answer preview_questions
   asked = ap (λ x. compose_questions a b and_then x) (e ∙ ap₂ ◌and_then◌ i n) ∙ sym (and_then_assoc (compose_questions a b) _ _)
 
-  pub preview_sends : {l : ℕ} → l ≤ 3 → rest ≡ Done → Sends l d
+  pub preview_sends : {l : ℕ} → l ≤ 3 → rest ≡ Ok tt → Sends l d
   preview_sends h f = record { letter = h; room = room-is string_length (length d) (sym n ∙ done_second inside room (sym e ∙ f)) }
 
-  pub preview_done : (l : ℕ) {f : List ℕ} {r : Outcome} → rest ≡ Done → LetterSent a b l q d f r → LetterPreviewed a b l q d f r
+  pub preview_done : (l : ℕ) {f : List ℕ} {r : Outcome} → rest ≡ Ok tt → LetterSent a b l q d f r → LetterPreviewed a b l q d f r
   preview_done l {f} {r} h w = subst (λ x. Written x (sent_through a b l q) d f r)
       (and_then_done (compose_questions a b) ∙ ap (λ x. compose_questions a b and_then x) (sym h) ∙ asked) w
 
-  pub preview_not : {both r : Outcome} {x : Refusal} (l : ℕ) → rest ≡ Refused x → both ≡ compose_questions a b → r ≡ both and_then rest
+  pub preview_not : {both r : Outcome} {x : Refusal} (l : ℕ) → rest ≡ Err x → both ≡ compose_questions a b → r ≡ both and_then rest
       → LetterPreviewed a b l q d d r
   preview_not {both} l h k p = then_not both rest _ d (p ∙ ap (λ x. x and_then rest) k ∙ asked) p h
 
 pub ruleset previewing = (preview_sends, preview_done, preview_not, rules)
 
 -- ---- what is sent is the row
-module _ (g : Generator) (a b : List ℕ) (q : ℕ) (e : preview_questions a b q ≡ Done) where
+module _ (g : Generator) (a b : List ℕ) (q : ℕ) (e : preview_questions a b q ≡ Ok tt) where
   abbrev A : Tableau
   A = tableau_of a
 
   abbrev B : Tableau
   B = tableau_of b
 
-  both : compose_questions a b ≡ Done
+  both : compose_questions a b ≡ Ok tt
   both = unfold preview_questions in done_first (compose_questions a b) _ e
 
   inside : q < max (width_of a) (width_of b)
@@ -216,9 +215,9 @@ as_row g a b q {d} w = record {
   bytes = w.bytes ∙ same (preview_answer a b q (length d)) (λ e. row-sent g a b q (done_first (preview_questions a b q) _ e));
 }
   where
-    same : (x : Outcome) {out new : List ℕ} → (x ≡ Done → out ≡ new) → written x out d ≡ written x new d
-    same Done h = ap (λ (o : List ℕ). written Done o d) (h refl)
-    same (Refused y) h = unfold written in refl
+    same : (x : Outcome) {out new : List ℕ} → (x ≡ Ok tt → out ≡ new) → written x out d ≡ written x new d
+    same (Ok tt) h = ap (λ (o : List ℕ). written (Ok tt) o d) (h refl)
+    same (Err y) h = unfold written in refl
 
 pub x-row : (a b : List ℕ) (q : ℕ) {d f : List ℕ} {r : Outcome} → LetterPreviewed a b 1 q d f r → Previewed of_x a b q d f r
 unfolding letter_byte

@@ -1,7 +1,6 @@
 -- The image of X or Z on one qubit after a composition, told before it (change requests, "Preview of one image").
 use Rattle.std.specs.Prelude.{ℕ, max, List}
 use Rattle.clifford_group.specs.Conjugation.{Generator, row}
-use Rattle.pauli.specs.declared.refusal.Outcome.{Outcome}
 use Rattle.pauli.specs.Layout.{string_length, string_record}
 use Rattle.pauli.specs.Questions.{◌and_then◌, room_question}
 use Rattle.clifford.specs.Layout.{width_of, tableau_of}
@@ -9,6 +8,7 @@ use Rattle.clifford.specs.Questions.{slot_question, compose_questions}
 use Rattle.clifford.specs.Tableaux.{compose_record}
 
 -- "those of composing other than 7, then 15 for a row's qubit outside the larger width"
+use Rattle.pauli.specs.Answers.{Outcome}
 unfoldable pub preview_questions : List ℕ → List ℕ → ℕ → Outcome
 preview_questions a b q = compose_questions a b and_then slot_question q (max (width_of a) (width_of b))
 

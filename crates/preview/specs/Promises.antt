@@ -2,8 +2,7 @@
 -- held d at entry and holds e at exit.
 use Rattle.std.specs.Prelude.{ℕ, List, length}
 use Rattle.clifford_group.specs.Conjugation.{Generator}
-use Rattle.pauli.specs.declared.refusal.Outcome.{Outcome}
-use Rattle.pauli.specs.Answers.{Written}
+use Rattle.pauli.specs.Answers.{Written, Outcome}
 use Rattle.preview.specs.Previews.{preview_answer, composed_image}
 
 abbrev pub Previewed : (g : Generator) (a b : List ℕ) (q : ℕ) (d e : List ℕ) (r : Outcome) → Type 0

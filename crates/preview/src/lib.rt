@@ -13,11 +13,11 @@ use clifford::clifford_rep::apply;
 use clifford::layout::width;
 use clifford::questions::{check_slot, check_tableau, check_tableaux};
 use pauli::questions::{and_then, check_room};
-use pauli::refusal::Outcome;
+use pauli::refusal::Refusal;
 use pauli::{QUBITS, STRING_LENGTH};
 
 // Question 15, by the larger width.
-fn check_row_qubit(a: &[u8], b: &[u8], qubit: usize) -> Outcome
+fn check_row_qubit(a: &[u8], b: &[u8], qubit: usize) -> Result<(), Refusal>
     ensures { result ≡ slot_question qubit (max (width_of a.now) (width_of b.now)) }
 {
     let n = width(a);
@@ -41,41 +41,41 @@ fn one_letter(letter: u8, qubit: usize) -> [u8; STRING_LENGTH]
 }
 
 // The letter sent through b and then a. The strings are right, so that the answers of `apply` are those to the tableaux' questions.
-fn send_letter(a: &[u8], b: &[u8], letter: u8, qubit: usize, dst: &mut [u8]) -> Outcome
+fn send_letter(a: &[u8], b: &[u8], letter: u8, qubit: usize, dst: &mut [u8]) -> Result<(), Refusal>
     requires { Sends letter dst.old }
     ensures { LetterSent a.now b.now letter qubit dst.old dst.new result }
 {
     let s = one_letter(letter, qubit);
     let mut image = [0u8; STRING_LENGTH];
     let second = apply(b, &s, &mut image);
-    if let Outcome::Done = second {
+    if let Ok(()) = second {
         return apply(a, &image, dst);
     }
     and_then(check_tableau(a), second)
 }
 
 // The same, after the questions to the qubit and the destination. A tableau's refusal comes before theirs.
-fn preview(a: &[u8], b: &[u8], letter: u8, qubit: usize, dst: &mut [u8]) -> Outcome
+fn preview(a: &[u8], b: &[u8], letter: u8, qubit: usize, dst: &mut [u8]) -> Result<(), Refusal>
     requires { letter ≤ 3 }
     ensures { LetterPreviewed a.now b.now letter qubit dst.old dst.new result }
 {
     let inside = check_row_qubit(a, b, qubit);
     let rest = and_then(inside, check_room(STRING_LENGTH, dst.len()));
-    if let Outcome::Done = rest {
+    if let Ok(()) = rest {
         return send_letter(a, b, letter, qubit, dst);
     }
     and_then(check_tableaux(a, b), rest)
 }
 
 // The image of X on this qubit under a composed with b: b acts first.
-pub fn composed_x_image(a: &[u8], b: &[u8], qubit: usize, dst: &mut [u8]) -> Outcome
+pub fn composed_x_image(a: &[u8], b: &[u8], qubit: usize, dst: &mut [u8]) -> Result<(), Refusal>
     ensures { Previewed of_x a.now b.now qubit dst.old dst.new result }
 {
     preview(a, b, 1, qubit, dst)
 }
 
 // The image of Z.
-pub fn composed_z_image(a: &[u8], b: &[u8], qubit: usize, dst: &mut [u8]) -> Outcome
+pub fn composed_z_image(a: &[u8], b: &[u8], qubit: usize, dst: &mut [u8]) -> Result<(), Refusal>
     ensures { Previewed of_z a.now b.now qubit dst.old dst.new result }
 {
     preview(a, b, 2, qubit, dst)

@@ -13,9 +13,7 @@ use Rattle.clifford_group.specs.Conjugation.{Generator, of_x, of_z, generator, r
 use Rattle.clifford_gates.specs.GateNumbers.{gate_tableau}
 use Rattle.pauli.specs.declared.refusal.Refusal.{Refusal}
 use Rattle.pauli.specs.declared.refusal.Refusal.TheVariants.{Room, Slot}
-use Rattle.pauli.specs.declared.refusal.Outcome.{Outcome}
-use Rattle.pauli.specs.declared.refusal.Outcome.TheVariants.{Done, Refused}
-use Rattle.pauli.specs.Answers.{written, Written}
+use Rattle.pauli.specs.Answers.{written, Written, Outcome}
 use Rattle.pauli.specs.Places.{listed}
 use Rattle.pauli.specs.Layout.{phase_byte, letter_byte, encode_string, string_length, string_record}
 use Rattle.pauli.specs.Questions.{◌and_then◌, room_question}
@@ -43,6 +41,7 @@ use Rattle.preview.proofs.Previews.{row-sent}
 use Rattle.preview_laws.specs.PreviewedRows.{row_index, row_as_string, ShowsRow, PreviewSentence}
 
 -- ---- a row as a string
+use Rattle.std.specs.Prelude.{Ok, Err, ℕ}
 listed_parts : (m n : ℕ) (f : ℕ → ℕ) → listed (m + n) f ≡ listed m f ++ listed n (λ k. f (m + k))
 unfolding listed
 listed_parts m zero f = let e : m + 0 ≡ m = omega arith in ap (λ (k : ℕ). listed k f) e ∙ sym (append-nil (listed m f))
@@ -101,15 +100,15 @@ module _ {c : List ℕ} (formed : FormedTableau c) where
         same = unfold row_as_string in ap₂ (λ (p : List ℕ) (w : ℕ). without_weight p ++ beyond w) (front_part (row_index g (width_of c) q) (own g)) front_width
 
 -- ---- what was written
-done_bytes : {q : Outcome} {out d e : List ℕ} → Written q out d e Done → e ≡ out ++ drop (length out) d
+done_bytes : {q : Outcome} {out d e : List ℕ} → Written q out d e (Ok tt) → e ≡ out ++ drop (length out) d
 unfolding written
 done_bytes {out = out} {d = d} w = w.bytes ∙ ap (λ x. written x out d) (sym w.answer)
 
-module _ (g : Generator) (a b : List ℕ) (q : ℕ) {f h : List ℕ} (p : Previewed g a b q f h Done) where
-  asked : preview_questions a b q ≡ Done
+module _ (g : Generator) (a b : List ℕ) (q : ℕ) {f h : List ℕ} (p : Previewed g a b q f h (Ok tt)) where
+  asked : preview_questions a b q ≡ Ok tt
   asked = unfold preview_answer in done_first (preview_questions a b q) _ (sym p.answer)
 
-  both : compose_questions a b ≡ Done
+  both : compose_questions a b ≡ Ok tt
   both = unfold preview_questions in done_first (compose_questions a b) _ asked
 
   inside : q < larger_width a b
@@ -141,7 +140,7 @@ module _ (g : Generator) (a b : List ℕ) (q : ℕ) {f h : List ℕ} (p : Previe
       own = subst (λ (w : ℕ). q < w) (sym (compose-width a b)) inside
 
 -- ---- the request's sentences
-preview_sent : (g : Generator) (a b : List ℕ) (q : ℕ) → compose_questions a b ≡ Done → q < larger_width a b
+preview_sent : (g : Generator) (a b : List ℕ) (q : ℕ) → compose_questions a b ≡ Ok tt → q < larger_width a b
     → composed_image g a b q ≡ apply_record a (apply_record b (generator_record g q))
 unfolding preview_questions sent_through
 preview_sent g a b q e h =
@@ -149,11 +148,11 @@ preview_sent g a b q e h =
     ∙ ap (λ l. apply_record a (apply_record b (string_record (single l q)))) (letter-back (generator g))
 
 -- the gate's own tableau passes its questions, and t is no narrower
-preview_plays : (gate q₀ q₁ : ℕ) (t : List ℕ) (q room : ℕ) → play_questions t gate q₀ q₁ ≡ Done → q < width_of t → string_length ≤ room
-    → preview_answer (gate_record gate q₀ q₁) t q room ≡ Done
+preview_plays : (gate q₀ q₁ : ℕ) (t : List ℕ) (q room : ℕ) → play_questions t gate q₀ q₁ ≡ Ok tt → q < width_of t → string_length ≤ room
+    → preview_answer (gate_record gate q₀ q₁) t q room ≡ Ok tt
 unfolding preview_answer preview_questions compose_questions play_questions gate_record qubits
 preview_plays gate q₀ q₁ t q room e h r =
-    let own : tableau_questions t ≡ Done = done_first (tableau_questions t) _ e in
+    let own : tableau_questions t ≡ Ok tt = done_first (tableau_questions t) _ e in
     let p : Playable gate q₀ q₁ t = playable-is gate q₀ q₁ t (asked-playable t gate q₀ q₁ e) in
     let narrow : width_of t ≤ 128 = p.laid.narrow in
     let c : Clifford (gate_tableau gate q₀ q₁) =
@@ -162,7 +161,7 @@ preview_plays gate q₀ q₁ t q room e h r =
     (done_both _ _ (done_both _ _ (tableaux_admitted (gate_tableau gate q₀ q₁) c.proper) own) (sym (slot_in (omega arith)))) r
 
 preview_accepted : (a b : List ℕ) (q room : ℕ)
-    → (preview_answer a b q room ≡ Done) ↔ ((compose_answer a b (record_length (larger_width a b)) ≡ Done) × (q < larger_width a b) × (string_length ≤ room))
+    → (preview_answer a b q room ≡ Ok tt) ↔ ((compose_answer a b (record_length (larger_width a b)) ≡ Ok tt) × (q < larger_width a b) × (string_length ≤ room))
 unfolding preview_answer preview_questions compose_answer
 preview_accepted a b q room = (
   (λ e. let asked = done_first (compose_questions a b and_then slot_question q (larger_width a b)) _ e in (
@@ -179,23 +178,23 @@ preview_accepted a b q room = (
 
 module _ (a b : List ℕ) (q room : ℕ) where
   -- where composing passes, and where it doesn't
-  after : compose_questions a b ≡ Done → preview_answer a b q room ≡ (slot_question q (larger_width a b) and_then room_question string_length room)
+  after : compose_questions a b ≡ Ok tt → preview_answer a b q room ≡ (slot_question q (larger_width a b) and_then room_question string_length room)
   unfolding preview_answer preview_questions ◌and_then◌
   after e = ap (λ x. (x and_then slot_question q (larger_width a b)) and_then room_question string_length room) e
 
-  preview_refused : (enough : ℕ) (why : Refusal) → record_length (larger_width a b) ≤ enough → compose_answer a b enough ≡ Refused why
-      → preview_answer a b q room ≡ Refused why
+  preview_refused : (enough : ℕ) (why : Refusal) → record_length (larger_width a b) ≤ enough → compose_answer a b enough ≡ Err why
+      → preview_answer a b q room ≡ Err why
   unfolding preview_answer preview_questions compose_answer ◌and_then◌
   preview_refused enough why h e =
-      let refused : compose_questions a b ≡ Refused why =
+      let refused : compose_questions a b ≡ Err why =
       and_then_done (compose_questions a b) ∙ ap (λ x. compose_questions a b and_then x) (has_room (record_length (larger_width a b)) enough h) ∙ e in
       ap (λ x. (x and_then slot_question q (larger_width a b)) and_then room_question string_length room) refused
 
-  preview_outside : compose_questions a b ≡ Done → larger_width a b ≤ q → preview_answer a b q room ≡ Refused (Slot q (larger_width a b))
+  preview_outside : compose_questions a b ≡ Ok tt → larger_width a b ≤ q → preview_answer a b q room ≡ Err (Slot q (larger_width a b))
   unfolding ◌and_then◌
   preview_outside e h = after e ∙ ap (λ x. x and_then room_question string_length room) (sym (slot-out h))
 
-  preview_short : compose_questions a b ≡ Done → q < larger_width a b → room < string_length → preview_answer a b q room ≡ Refused Room
+  preview_short : compose_questions a b ≡ Ok tt → q < larger_width a b → room < string_length → preview_answer a b q room ≡ Err Room
   unfolding ◌and_then◌
   preview_short e h s = after e ∙ ap₂ ◌and_then◌ (sym (slot_in h)) (sym (no_room string_length room s))
 

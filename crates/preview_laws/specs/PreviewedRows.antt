@@ -1,12 +1,11 @@
 -- What a preview shows, on the bytes that `compose` and `play` promise to write, and where it is refused (change requests, "Preview of
 -- one image").
-use Rattle.std.specs.Prelude.{ℕ, ◌+◌, ◌-◌, ◌≤◌, ◌<◌, ◌≡◌, List, ◌++◌, ◌↔◌, take, drop}
+use Rattle.std.specs.Prelude.{ℕ, ◌+◌, ◌-◌, ◌≤◌, ◌<◌, ◌≡◌, List, ◌++◌, ◌↔◌, take, drop, Ok, Err}
 use Rattle.pauli_group.specs.Letter.{I}
 use Rattle.pauli_group.specs.PauliString.{qubits}
 use Rattle.clifford_group.specs.Conjugation.{Generator, of_x, of_z}
 use Rattle.pauli.specs.declared.refusal.Refusal.{Refusal}
 use Rattle.pauli.specs.declared.refusal.Refusal.TheVariants.{Room, Slot}
-use Rattle.pauli.specs.declared.refusal.Outcome.TheVariants.{Done, Refused}
 use Rattle.pauli.specs.Places.{listed}
 use Rattle.pauli.specs.Layout.{letter_byte, string_length}
 use Rattle.pauli.specs.Questions.{string_questions}
@@ -40,24 +39,24 @@ pub record ShowsRow (g : Generator) (q : ℕ) (e f h : List ℕ) : Type 0 where
 -- The request's sentences, of all bytes a and b, valid tableaux or not.
 pub record PreviewSentence : Type 0 where
   -- "It equals that row of the composed copy", which stands in e
-  pub composed : (g : Generator) (a b : List ℕ) (q : ℕ) (d e f h : List ℕ) → Composed a b d e Done → Previewed g a b q f h Done
+  pub composed : (g : Generator) (a b : List ℕ) (q : ℕ) (d e f h : List ℕ) → Composed a b d e (Ok tt) → Previewed g a b q f h (Ok tt)
       → ShowsRow g q e f h
   -- "Before committing a gate": the row that the tableau t has after it, in e; each of them, where the gate can be played
-  pub played : (g : Generator) (gate q₀ q₁ : ℕ) (t e : List ℕ) (q : ℕ) (f h : List ℕ) → Played gate q₀ q₁ t e Done
-      → Previewed g (gate_record gate q₀ q₁) t q f h Done → ShowsRow g q e f h
-  pub plays : (gate q₀ q₁ : ℕ) (t : List ℕ) (q room : ℕ) → play_questions t gate q₀ q₁ ≡ Done → q < width_of t → string_length ≤ room
-      → preview_answer (gate_record gate q₀ q₁) t q room ≡ Done
+  pub played : (g : Generator) (gate q₀ q₁ : ℕ) (t e : List ℕ) (q : ℕ) (f h : List ℕ) → Played gate q₀ q₁ t e (Ok tt)
+      → Previewed g (gate_record gate q₀ q₁) t q f h (Ok tt) → ShowsRow g q e f h
+  pub plays : (gate q₀ q₁ : ℕ) (t : List ℕ) (q room : ℕ) → play_questions t gate q₀ q₁ ≡ Ok tt → q < width_of t → string_length ≤ room
+      → preview_answer (gate_record gate q₀ q₁) t q room ≡ Ok tt
   -- "composing a after b": X or Z on the qubit sent through b and then a, and a string again
-  pub sent : (g : Generator) (a b : List ℕ) (q : ℕ) → compose_questions a b ≡ Done → q < larger_width a b
+  pub sent : (g : Generator) (a b : List ℕ) (q : ℕ) → compose_questions a b ≡ Ok tt → q < larger_width a b
       → composed_image g a b q ≡ apply_record a (apply_record b (generator_record g q))
-  pub string : (g : Generator) (a b : List ℕ) (q : ℕ) → string_questions (composed_image g a b q) ≡ Done
+  pub string : (g : Generator) (a b : List ℕ) (q : ℕ) → string_questions (composed_image g a b q) ≡ Ok tt
   -- where it is accepted: where composing is that has room enough, and the qubit and the destination are right
   pub accepted : (a b : List ℕ) (q room : ℕ)
-      → (preview_answer a b q room ≡ Done) ↔ ((compose_answer a b (record_length (larger_width a b)) ≡ Done) × (q < larger_width a b) × (string_length ≤ room))
+      → (preview_answer a b q room ≡ Ok tt) ↔ ((compose_answer a b (record_length (larger_width a b)) ≡ Ok tt) × (q < larger_width a b) × (string_length ≤ room))
   -- "Refusals are those of composing other than 7, then 15 for a row's qubit outside the larger width, then 7"
   pub refused : (a b : List ℕ) (q room enough : ℕ) (why : Refusal) → record_length (larger_width a b) ≤ enough
-      → compose_answer a b enough ≡ Refused why → preview_answer a b q room ≡ Refused why
-  pub outside : (a b : List ℕ) (q room : ℕ) → compose_questions a b ≡ Done → larger_width a b ≤ q
-      → preview_answer a b q room ≡ Refused (Slot q (larger_width a b))
-  pub short : (a b : List ℕ) (q room : ℕ) → compose_questions a b ≡ Done → q < larger_width a b → room < string_length
-      → preview_answer a b q room ≡ Refused Room
+      → compose_answer a b enough ≡ Err why → preview_answer a b q room ≡ Err why
+  pub outside : (a b : List ℕ) (q room : ℕ) → compose_questions a b ≡ Ok tt → larger_width a b ≤ q
+      → preview_answer a b q room ≡ Err (Slot q (larger_width a b))
+  pub short : (a b : List ℕ) (q room : ℕ) → compose_questions a b ≡ Ok tt → q < larger_width a b → room < string_length
+      → preview_answer a b q room ≡ Err Room

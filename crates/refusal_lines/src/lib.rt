@@ -10,7 +10,7 @@ ghost use Rattle.refusal_lines.specs.Inside.Sentences.{sentence_from};
 ghost use Rattle.refusal_lines.specs.Promises.{LineWritten};
 
 use pauli::questions::check_room;
-use pauli::refusal::{CountAnswer, Outcome};
+use pauli::refusal::Refusal;
 use pauli::text_writer::{put_decimal, put_text};
 
 // The sentences stand in four functions, each with the rest of them behind it: the check of a function grows faster than its text.
@@ -159,12 +159,12 @@ fn line_length(number: u64, detail: u64, width: u64) -> usize
 
 // Writes the line of a refusal's number and detail, without a newline; the answer is its length. Any three numbers have a line: a
 // number without a meaning is unknown. The width is looked at for 14 and 15 alone: that of the tableau that was called with.
-pub fn refusal_line(number: u64, detail: u64, width: u64, dst: &mut [u8]) -> CountAnswer
+pub fn refusal_line(number: u64, detail: u64, width: u64, dst: &mut [u8]) -> Result<usize, Refusal>
     ensures { LineWritten number detail width dst.old dst.new result }
 {
     let answer = check_room(line_length(number, detail, width), dst.len());
     match answer {
-        Outcome::Done => CountAnswer::Count(write_line(number, detail, width, dst)),
-        Outcome::Refused(room) => CountAnswer::NoCount(room),
+        Ok(()) => Ok(write_line(number, detail, width, dst)),
+        Err(room) => Err(room),
     }
 }

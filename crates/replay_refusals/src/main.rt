@@ -1,7 +1,7 @@
 // Writes the lines of all refusals, as docs/REFUSALS.md lists them.
 #![tactic(auto)]
 
-use pauli::refusal::CountAnswer;
+
 use pauli::rows::smaller;
 use refusal_lines::refusal_line;
 
@@ -17,7 +17,7 @@ const FALSE_WEIGHT: u64 = 24;
 
 fn write_in(number: u64, room: &mut [u8]) {
     let answer = refusal_line(number, DETAIL, WIDTH, room);
-    if let CountAnswer::Count(length) = answer {
+    if let Ok(length) = answer {
         io::write_all(1, &room[..smaller(length, room.len())]);
     }
 }

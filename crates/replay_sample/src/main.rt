@@ -43,7 +43,7 @@ fn call(line: &[u8], case: Case, a: &[u8], _b: &[u8], d: &mut [u8]) -> Reply {
 }
 
 // Runs one line, with room for its bytes.
-fn run_in(line: &[u8], a: &mut [u8], b: &mut [u8], d: &mut [u8], e: &mut [u8]) -> Outcome {
+fn run_in(line: &[u8], a: &mut [u8], b: &mut [u8], d: &mut [u8], e: &mut [u8]) -> Result<(), Refusal> {
     let case = vectors::read_case(line, a, b, d, e);
     let a_len = case.a_len;
     let b_len = case.b_len;
@@ -53,7 +53,7 @@ fn run_in(line: &[u8], a: &mut [u8], b: &mut [u8], d: &mut [u8], e: &mut [u8]) -
     vectors::compared(case, reply, &d[0..d_len], &e[0..e_len])
 }
 
-fn run(line: &[u8]) -> Outcome {
+fn run(line: &[u8]) -> Result<(), Refusal> {
     let mut a = vectors::field_room();
     let mut b = vectors::field_room();
     let mut d = vectors::field_room();

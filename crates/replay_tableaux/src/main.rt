@@ -12,11 +12,11 @@ fn told(r: refusal::Reply) -> Reply {
     Reply::Of(r.number, r.value)
 }
 
-fn done(r: refusal::Outcome) -> Reply {
+fn done(r: Result<(), Refusal>) -> Reply {
     told(refusal::outcome_reply(r))
 }
 
-fn named(r: gates::GateAnswer) -> Reply {
+fn named(r: Result<Option<u8>, Refusal>) -> Reply {
     told(gates::gate_reply(r))
 }
 
@@ -85,8 +85,8 @@ fn is_row(t: &[u8], at: usize, part: &[u8]) -> bool {
 }
 
 // The value is the offset of the part handed out, so the part is compared with what stands there.
-fn image(case: Case, t: &[u8], answer: refusal::Outcome, part: &[u8]) -> Reply {
-    let refusal::Outcome::Done = answer else {
+fn image(case: Case, t: &[u8], answer: Result<(), Refusal>, part: &[u8]) -> Reply {
+    let Ok(()) = answer else {
         return done(answer);
     };
     let expected = case.expected;
@@ -123,7 +123,7 @@ fn call_image(line: &[u8], case: Case, t: &[u8], d: &mut [u8]) -> Reply {
 // A text that is written starts as every such text does.
 fn display(t: &[u8], d: &mut [u8]) -> Reply {
     let answer = clifford_rep::display(t, d);
-    if let refusal::CountAnswer::Count(_) = answer {
+    if let Ok(_) = answer {
         if !clifford_rep::starts_with_name(d) {
             return Reply::Unknown;
         }
@@ -209,7 +209,7 @@ fn number_of(record: &[u8]) -> Numbered {
 fn compose_one(a: &[u8], number: u8) -> Numbered {
     let mut out = [0u8; 7];
     let answer = clifford_rep::compose(a, &one_qubit(number), &mut out);
-    let refusal::Outcome::Done = answer else {
+    let Ok(()) = answer else {
         return Numbered::NoRecord;
     };
     number_of(&out)
@@ -250,7 +250,7 @@ fn call(line: &[u8], case: Case, a: &[u8], b: &[u8], d: &mut [u8]) -> Reply {
 }
 
 // Runs one line, with room for its bytes.
-fn run_in(line: &[u8], a: &mut [u8], b: &mut [u8], d: &mut [u8], e: &mut [u8]) -> Outcome {
+fn run_in(line: &[u8], a: &mut [u8], b: &mut [u8], d: &mut [u8], e: &mut [u8]) -> Result<(), Refusal> {
     let case = vectors::read_case(line, a, b, d, e);
     let a_len = case.a_len;
     let b_len = case.b_len;
@@ -260,7 +260,7 @@ fn run_in(line: &[u8], a: &mut [u8], b: &mut [u8], d: &mut [u8], e: &mut [u8]) -
     vectors::compared(case, reply, &d[0..d_len], &e[0..e_len])
 }
 
-fn run(line: &[u8]) -> Outcome {
+fn run(line: &[u8]) -> Result<(), Refusal> {
     let mut a = vectors::field_room();
     let mut b = vectors::field_room();
     let mut d = vectors::field_room();

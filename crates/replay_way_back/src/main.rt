@@ -9,13 +9,13 @@ use clifford::{clifford_rep, questions};
 use pauli::{refusal, rows};
 use vectors::{Case, Outcome, Reply, Tally};
 
-fn told(r: refusal::Outcome) -> Reply {
+fn told(r: Result<(), Refusal>) -> Reply {
     let reply = refusal::outcome_reply(r);
     Reply::Of(reply.number, reply.value)
 }
 
-fn is_done(r: refusal::Outcome) -> bool {
-    if let refusal::Outcome::Done = r {
+fn is_done(r: Result<(), Refusal>) -> bool {
+    if let Ok(()) = r {
         return true;
     }
     false
@@ -54,7 +54,7 @@ fn is_two_sided(back: &[u8], product: &[u8]) -> bool {
 
 fn is_valid(t: &[u8]) -> bool {
     let flag = clifford_rep::is_valid(t);
-    if let refusal::Flag::Yes = flag {
+    if let Ok(true) = flag {
         return true;
     }
     false
@@ -125,7 +125,7 @@ fn compose(a: &[u8], b: &[u8], d: &mut [u8], now: &mut [u8], product: &mut [u8])
         return Reply::Unknown;
     }
     let answer = clifford_rep::compose(a, record_in(now), d);
-    if let refusal::Outcome::Done = answer {
+    if let Ok(()) = answer {
         return step(a, d, now, product);
     }
     told(answer)
@@ -208,7 +208,7 @@ fn run_in(
     then: &mut [u8],
     now: &mut [u8],
     product: &mut [u8],
-) -> Outcome {
+) -> Result<(), Refusal> {
     let case = vectors::read_case(line, a, b, d, e);
     let a_len = case.a_len;
     let b_len = case.b_len;
@@ -228,7 +228,7 @@ fn run_in(
     vectors::compared(case, reply, &d[0..d_len], &e[0..e_len])
 }
 
-fn run(line: &[u8], then: &mut [u8], now: &mut [u8], product: &mut [u8]) -> Outcome {
+fn run(line: &[u8], then: &mut [u8], now: &mut [u8], product: &mut [u8]) -> Result<(), Refusal> {
     let mut a = vectors::field_room();
     let mut b = vectors::field_room();
     let mut d = vectors::field_room();

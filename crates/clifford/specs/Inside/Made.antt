@@ -2,8 +2,7 @@
 use Rattle.std.specs.Prelude.{◌≡◌, ℕ, ◌+◌, ◌*◌, ◌<◌, ◌≤◌, max, List, length}
 use Rattle.clifford_group.specs.Tableau.{Tableau, widen, compose, inverse}
 use Rattle.clifford_gates.specs.GateNumbers.{gate_tableau}
-use Rattle.pauli.specs.declared.refusal.Outcome.{Outcome}
-use Rattle.pauli.specs.Answers.{Written}
+use Rattle.pauli.specs.Answers.{Written, Outcome}
 use Rattle.pauli.specs.Questions.{room_question}
 use Rattle.pauli.specs.Layout.{string_of, WellFormed}
 use Rattle.clifford.specs.declared.writing.Made.{Made}

@@ -1,10 +1,10 @@
 -- What the functions that read a list may count on, and the parts of its questions that have functions of their own.
 use Rattle.std.specs.Prelude.{ℕ, ◌-◌, ◌<◌, ◌≤◌, ◌≡◌, List, [], Bool, not, ◌&&◌, ◌||◌, eqb, leb, length, get_or}
 use Rattle.pauli.specs.declared.refusal.Refusal.TheVariants.{StepSameQubit}
-use Rattle.pauli.specs.declared.refusal.Outcome.{Outcome}
 use Rattle.pauli.specs.Questions.{ask, ◌and_then◌}
 use Rattle.gate_list.specs.Lists.{record_size, most_records, record_count, byte_of, next_of}
 use Rattle.gate_list.specs.ListQuestions.{step_qubit_question, step_second_questions, link_question, chain_questions}
+use Rattle.pauli.specs.Answers.{Outcome}
 
 -- record i of the list, and its byte k
 pub record OwnRecord (l : List ℕ) (i : ℕ) : Type 0 where

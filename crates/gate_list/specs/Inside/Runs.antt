@@ -1,6 +1,5 @@
 -- What the functions that run an admitted list may count on, and what they promise.
-use Rattle.std.specs.Prelude.{ℕ, ◌≤◌, ◌≡◌, List, length}
-use Rattle.pauli.specs.declared.refusal.Outcome.TheVariants.{Done}
+use Rattle.std.specs.Prelude.{ℕ, ◌≤◌, ◌≡◌, List, length, Ok}
 use Rattle.pauli.specs.Answers.{written}
 use Rattle.clifford.specs.Layout.{record_length}
 use Rattle.clifford.specs.Playing.{played, letter_tables, pair_tables}
@@ -21,7 +20,7 @@ record_played l i t = played (byte_of l i 0) (byte_of l i 1) (byte_of l i 2) t
 
 -- an admitted list, the gates' own tables, and the identity
 pub record Begins (l : List ℕ) (ones twos : List (List (List ℕ))) (t : List ℕ) : Type 0 where
-  pub asked : list_questions l ≡ Done
+  pub asked : list_questions l ≡ Ok tt
   pub letters : ones ≡ letter_tables
   pub pairs : twos ≡ pair_tables
   pub bytes : t ≡ identity_record (list_width l)
@@ -31,9 +30,9 @@ pub record Ran (l e : List ℕ) (r : ℕ) : Type 0 where
   pub steps : r ≡ step_count l
 
 pub record RunRoom (l d : List ℕ) : Type 0 where
-  pub asked : list_questions l ≡ Done
+  pub asked : list_questions l ≡ Ok tt
   pub room : record_length (list_width l) ≤ length d
 
 pub record RunWritten (l d e : List ℕ) (r : ℕ) : Type 0 where
-  pub bytes : e ≡ written Done (run_record l) d
+  pub bytes : e ≡ written (Ok tt) (run_record l) d
   pub steps : r ≡ step_count l

@@ -1,16 +1,15 @@
 -- What the code keeps of the entries read so far: a mark for each qubit, 0 where no entry names it, 1 + its letter where one
 -- does, 5 where more do.
-use Rattle.std.specs.Prelude.{◌≡◌, ℕ, zero, suc, ◌<◌, ◌≤◌, Bool, cond, List, ◌++◌, length, drop, nat_eq, nat_le, slice_index}
+use Rattle.std.specs.Prelude.{◌≡◌, ℕ, zero, suc, ◌<◌, ◌≤◌, Bool, cond, List, ◌++◌, length, drop, nat_eq, nat_le, slice_index, Ok}
 use Rattle.pauli_group.specs.PauliString.{qubits}
 use Rattle.pauli.specs.declared.refusal.Refusal.TheVariants.{Duplicate}
-use Rattle.pauli.specs.declared.refusal.Outcome.{Outcome}
-use Rattle.pauli.specs.declared.refusal.Outcome.TheVariants.{Done}
 use Rattle.pauli.specs.Questions.{ask, with_phase_questions}
 use Rattle.pauli.specs.Places.{listed, first_place}
 use Rattle.pauli.specs.Rows.{shorter}
 use Rattle.pauli.specs.Entries.{entry_count, entry_letter, entry_qubit}
-
 -- a mark after one more entry with letter l
+use Rattle.pauli.specs.Answers.{Outcome}
+
 unfoldable pub mark_more : ℕ → ℕ → ℕ
 mark_more zero l = suc l
 mark_more (suc m) l = 5
@@ -54,7 +53,7 @@ pub record Blank (m : List ℕ) : Type 0 where
 -- the answer r to a phase and entries, and the marks m that are left where it is Done
 pub record EntriesRead (p : ℕ) (e : List ℕ) (room : ℕ) (m : List ℕ) (r : Outcome) : Type 0 where
   pub answer : r ≡ with_phase_questions p e room
-  pub marks : r ≡ Done → m ≡ marks_to e (entry_count e)
+  pub marks : r ≡ Ok tt → m ≡ marks_to e (entry_count e)
 
 -- the letters that the marks stand for
 unfoldable pub letters_marked : ℕ → List ℕ → List ℕ

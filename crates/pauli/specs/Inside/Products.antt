@@ -1,5 +1,5 @@
 -- The product of two strings place by place: what its functions may count on, and what they leave.
-use Rattle.std.specs.Prelude.{◌≡◌, ℕ, ◌+◌, ◌<◌, ◌≤◌, max, cond, List, ◌++◌, length, take, drop, replicate, ◌==◌}
+use Rattle.std.specs.Prelude.{◌≡◌, ℕ, ◌+◌, ◌<◌, ◌≤◌, max, cond, List, ◌++◌, length, take, drop, replicate, ◌==◌, Ok}
 use Rattle.pauli_group.specs.Phase.{Phase, ◌·◌}
 use Rattle.pauli_group.specs.Letter.{letter_phase}
 use Rattle.pauli_group.specs.PauliString.{product_to, phase_of_letters, mul}
@@ -8,7 +8,6 @@ use Rattle.pauli.specs.Places.{listed}
 use Rattle.pauli.specs.Layout.{letter_byte, string_length, string_of, WellFormed}
 use Rattle.pauli.specs.Questions.{strings_questions}
 use Rattle.pauli.specs.Strings.{places_taken_of_records}
-use Rattle.pauli.specs.declared.refusal.Outcome.TheVariants.{Done}
 use Rattle.pauli.specs.declared.algebra.Sight.{Sight}
 
 -- with the bytes x and y of one more place, q
@@ -17,8 +16,8 @@ seen_with r x y q = record { largest = max r.largest (max x y); places = cond (m
 
 -- what one pass over two byte sequences sees: no byte above 3 only where the questions let both by, and then the product's places
 pub record Looked (s t : List ℕ) (r : Sight) : Type 0 where
-  pub clean : r.largest < 4 → strings_questions s t ≡ Done
-  pub taken : strings_questions s t ≡ Done → r.places ≡ places_taken_of_records s t
+  pub clean : r.largest < 4 → strings_questions s t ≡ Ok tt
+  pub taken : strings_questions s t ≡ Ok tt → r.places ≡ places_taken_of_records s t
 
 -- two string records, and the places that their product takes
 pub record Factors (s t : List ℕ) (places : ℕ) : Type 0 where

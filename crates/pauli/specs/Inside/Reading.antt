@@ -1,5 +1,5 @@
 -- What the functions that read text promise one another.
-use Rattle.std.specs.Prelude.{◌≡◌, ℕ, ◌+◌, ◌-◌, ◌^◌, ◌<◌, ◌≤◌, Bool, true, false, cond, ◌&&◌, List, ◌∷◌, length, drop, nat_lt, slice_index}
+use Rattle.std.specs.Prelude.{◌≡◌, ℕ, ◌+◌, ◌-◌, ◌^◌, ◌<◌, ◌≤◌, Bool, true, false, cond, ◌&&◌, List, ◌∷◌, length, drop, nat_lt, slice_index, Ok, Err}
 use Rattle.pauli.specs.declared.text.Prefix.{Prefix}
 use Rattle.pauli.specs.declared.text.Head.{Head}
 use Rattle.pauli.specs.declared.text.Numeral.{Numeral}
@@ -11,15 +11,14 @@ use Rattle.pauli.specs.declared.sparse_reader.EntryAnswer.TheVariants.{Entry, Hi
 use Rattle.pauli_group.specs.PauliString.{qubits}
 use Rattle.pauli.specs.declared.refusal.Refusal.{Refusal}
 use Rattle.pauli.specs.declared.refusal.Refusal.TheVariants.{NotNumeral, TextQubit}
-use Rattle.pauli.specs.declared.refusal.Outcome.{Outcome}
-use Rattle.pauli.specs.declared.refusal.Outcome.TheVariants.{Done, Refused}
 use Rattle.pauli.specs.Entries.{entry_count, entry_letter, entry_qubit}
 use Rattle.pauli.specs.Inside.Marks.{marks_to, Blank}
 use Rattle.pauli.specs.Places.{listed, first_place}
 use Rattle.pauli.specs.Layout.{phase_byte}
 use Rattle.pauli.specs.Text.{text_end, dense_body, sparse_entries, from_sparse_questions, is_space, letter_named, Token, tokens, token_questions, token_entries, is_digit, prefix_phase, prefix_length, text_phase, body_start, all_digits, digits_value, is_index, index_value}
-
 -- the bytes before the first space
+use Rattle.pauli.specs.Answers.{Outcome}
+
 unfoldable pub leading_word : List ℕ → ℕ
 leading_word t = first_place (length t) (λ k. is_space (slice_index t k))
 
@@ -92,7 +91,7 @@ pub record OneEntry (ws : List Token) (t : List ℕ) (k l q n : ℕ) : Type 0 wh
 
 -- the first entry of the tokens ws of t, which begin at k, has an index too high at o, and the rest is from n on
 pub record HighEntry (ws : List Token) (t : List ℕ) (k o n : ℕ) : Type 0 where
-  pub questions : token_questions ws ≡ Refused (TextQubit o)
+  pub questions : token_questions ws ≡ Err (TextQubit o)
   pub after : k < o
   pub place : o < length t
   pub onward : o ≤ n
@@ -101,7 +100,7 @@ pub record HighEntry (ws : List Token) (t : List ℕ) (k o n : ℕ) : Type 0 whe
 pub record EntryRead (ws : List Token) (t : List ℕ) (k : ℕ) (r : EntryAnswer) : Type 0 where
   pub one : (l q n : ℕ) → r ≡ Entry l q n → OneEntry ws t k l q n
   pub high : (o n : ℕ) → r ≡ High o n → HighEntry ws t k o n
-  pub refused : (x : Refusal) → r ≡ NoEntry x → token_questions ws ≡ Refused x
+  pub refused : (x : Refusal) → r ≡ NoEntry x → token_questions ws ≡ Err x
 
 -- a place from which tokens are read, and no marks yet
 pub record BodyAt (t : List ℕ) (k : ℕ) (m : List ℕ) : Type 0 where
@@ -117,8 +116,8 @@ pub record GoodEntries (e : List ℕ) : Type 0 where
 -- the answer r to the tokens ws, and the marks m that are left where it is Done
 pub record TokensRead (ws : List Token) (m : List ℕ) (r : Outcome) : Type 0 where
   pub answer : r ≡ token_questions ws
-  pub marks : r ≡ Done → m ≡ marks_to (token_entries ws) (entry_count (token_entries ws))
-  pub good : r ≡ Done → GoodEntries (token_entries ws)
+  pub marks : r ≡ Ok tt → m ≡ marks_to (token_entries ws) (entry_count (token_entries ws))
+  pub good : r ≡ Ok tt → GoodEntries (token_entries ws)
 
 -- the body of the text begins at k, and there are no marks yet
 pub record SparseAt (t : List ℕ) (k : ℕ) (m : List ℕ) : Type 0 where
@@ -129,8 +128,8 @@ pub record SparseAt (t : List ℕ) (k : ℕ) (m : List ℕ) : Type 0 where
 -- the answer r to a sparse text, and the marks m that are left where it is Done
 pub record SparseRead (t : List ℕ) (room : ℕ) (m : List ℕ) (r : Outcome) : Type 0 where
   pub answer : r ≡ from_sparse_questions t room
-  pub marks : r ≡ Done → m ≡ marks_to (sparse_entries t) (entry_count (sparse_entries t))
-  pub good : r ≡ Done → GoodEntries (sparse_entries t)
+  pub marks : r ≡ Ok tt → m ≡ marks_to (sparse_entries t) (entry_count (sparse_entries t))
+  pub good : r ≡ Ok tt → GoodEntries (sparse_entries t)
 
 -- ---- dense text
 

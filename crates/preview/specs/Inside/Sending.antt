@@ -1,8 +1,7 @@
 -- What the private functions promise and may count on.
 use Rattle.std.specs.Prelude.{ℕ, ◌≤◌, List, length}
 use Rattle.pauli_group.specs.PauliString.{single}
-use Rattle.pauli.specs.declared.refusal.Outcome.{Outcome}
-use Rattle.pauli.specs.Answers.{Written}
+use Rattle.pauli.specs.Answers.{Written, Outcome}
 use Rattle.pauli.specs.Layout.{letter_of, string_length, string_record}
 use Rattle.clifford.specs.Questions.{compose_questions}
 use Rattle.clifford.specs.Tableaux.{apply_record}
