@@ -10,7 +10,7 @@ use Rattle.pauli.specs.declared.refusal.Refusal.{Refusal}
 use Rattle.pauli.specs.Answers.{written, Written, Outcome}
 use Rattle.pauli.specs.Layout.{encode_string, decode_string, string_of, string_record, WellFormed}
 use Rattle.pauli.specs.Questions.{◌and_then◌, string_questions, room_question}
-use Rattle.pauli.proofs.Answers.{written-not, answers}
+use Rattle.pauli.proofs.Answers.{written-by_not, answers_by}
 use Rattle.pauli.proofs.Asking.{refused, then_second, done_first, done_second, string-formed, room-is, record-bytes}
 use Rattle.clifford.specs.Layout.{record_length, row_length, width_of, tableau_of, tableau_record, FormedTableau}
 use Rattle.clifford.specs.Questions.{width_question, tableau_questions, identity_answer, apply_questions, apply_answer, compose_questions, compose_answer, extend_questions, extend_answer, inverse_answer, pauli_answer}
@@ -35,7 +35,7 @@ module _ {q r : Outcome} {d e : List ℕ} where
       (subst (λ (l : List ℕ). Written (room_question (record_length w) (length d)) l d e r) (same-record t u same) o)
 
 pub refused-answer : {q r : Outcome} {x : Refusal} (y : Outcome) (out d : List ℕ) → r ≡ q → r ≡ Err x → Written (q and_then y) out d d r
-refused-answer y out d p h = written-not out d (refused y p h) h
+refused-answer y out d p h = written-by_not out d (refused y p h) h
 
 -- ---- identity
 none-formed : FormedTableau (0 ∷ [])
@@ -112,7 +112,7 @@ apply-written {t} {s} {d} {ys} o e =
     (e ∙ ap₂ (λ (w : ℕ) (v : ℕ). encode_string w (apply (tableau_of t) (decode_string v s))) long (string-here o))
     ∙ record-bytes (apply (tableau_of t) (decode_string 128 s)) d
 
-pub ruleset applying = (apply-asked, applies, apply-room, apply-string, apply-written, answers, rules)
+pub ruleset applying = (apply-asked, applies, apply-room, apply-string, apply-written, answers_by, rules)
 
 -- ---- compose
 pub both_first : (a b : List ℕ) {x : Outcome} → x ≡ compose_questions a b → x ≡ Ok tt → FormedTableau a

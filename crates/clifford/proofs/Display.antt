@@ -18,7 +18,7 @@ use Rattle.pauli.specs.Rows.{letter_at}
 use Rattle.pauli.specs.SparseText.{digits_to, decimal, prefix_text, letter_text, entry_word, words_at, body_text, entry_words, sparse_text_to, sparse_text, row_string, row_text, spaced}
 use Rattle.pauli.specs.TextWriting.{Stored}
 use Rattle.pauli.specs.Inside.TextWriting.{TextWritten}
-use Rattle.pauli.proofs.Answers.{answers, count-done}
+use Rattle.pauli.proofs.Answers.{answers_by, number-by}
 use Rattle.pauli.proofs.Asking.{refused, passed, done_first, done_second, room-is}
 use Rattle.pauli.proofs.Decimals.{decimal-most}
 use Rattle.pauli.proofs.SparseTexts.{text-length}
@@ -272,9 +272,9 @@ module _ (t d : List ℕ) {r : Outcome} (p : r ≡ display_answer t (length d)) 
   room = room-is _ (length d) (done_second (tableau_questions t) _ (sym p ∙ h))
 
   pub display_done : {e : List ℕ} {n : ℕ} → TextWritten (text_of_tableau t) d e n → CountWritten (display_answer t (length d)) (text_of_tableau t) d e (Ok n)
-  display_done a = count-done p h a.count (a.bytes ∙ copied-whole (text_of_tableau t) d room)
+  display_done a = number-by p h a.count (a.bytes ∙ copied-whole (text_of_tableau t) d room)
 
-pub ruleset displays = (checked, display_refused, display_asked, display_formed, display_done, text_same, answers, rules)
+pub ruleset displays = (checked, display_refused, display_asked, display_formed, display_done, text_same, answers_by, rules)
 
 -- ---- whether a text starts with another: what is known once i bytes were alike
 pub record Alike (p s : List ℕ) (i : ℕ) : Type 0 where

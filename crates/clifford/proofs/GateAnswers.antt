@@ -16,7 +16,8 @@ use Rattle.clifford_group.proofs.Same.{same_sym, same_trans}
 use Rattle.clifford.specs.declared.writing.Made.TheVariants.{OfGate}
 use Rattle.clifford.specs.Inside.Made.{made_tableau, MadeFrom, Makes}
 use Rattle.clifford.specs.GateQuestions.{gate_question, on_qubit_questions, on_qubit_answer, compose_gate_questions}
-use Rattle.clifford.specs.GateAnswers.{gate_reply, gate_answer, name_answer, GateAnswered, NameAnswered, one_qubit_record, single_qubit_clifford_record}
+use Rattle.pauli.proofs.Answers.{answers_by, answered-by}
+use Rattle.clifford.specs.GateAnswers.{named, GateAnswered, NameAnswered, one_qubit_record, single_qubit_clifford_record}
 use Rattle.clifford.specs.Inside.GateRows.{BothSmall, NameIs}
 use Rattle.clifford.proofs.Asking.{checked}
 use Rattle.clifford.proofs.GateAsking.{gate-below}
@@ -95,51 +96,22 @@ module _ (g q : ℕ) {u v x : Outcome} {y : Refusal} (d : List ℕ) (eu : u ≡ 
 pub ruleset one_qubit_answers = (one-small, one-fits, one-makes, product-makes, one_written, product_written, one-refused, product-refused, rules)
 
 -- ---- names
-name_told : (q : Outcome) (n : ℕ) → gate_reply (name_answer q n) ≡ reply_to q (cond (ltb n 24) n 255)
-unfolding gate_reply name_answer reply_to
-name_told (Ok tt) n = by (ltb n 24)
-  where
-    by : (b : Bool) → gate_reply (cond b (Ok (Some n)) (Ok None)) ≡ reply_to (Ok tt) (cond b n 255)
-    by true = refl
-    by false = refl
-name_told (Err r) n = refl
-
-name_answered : {q : Outcome} {n : ℕ} {r : Answer (Option ℕ)} → r ≡ name_answer q n → NameAnswered q n r
-name_answered {q} {n} e = record { answer = e; told = ap gate_reply e ∙ name_told q n }
-
 module _ {q a : Outcome} {n m : ℕ} (e : a ≡ q) (f : a ≡ Ok tt) (h : NameIs n m) where
-  name_is : (b : Bool) → ltb m 24 ≡ b → NameAnswered q n (cond b (Ok (Some m)) (Ok None))
-  unfolding name_answer
-  name_is b l = name_answered (ap (λ c. cond c (Ok (Some m)) (Ok None)) (sym l) ∙ ap₂ name_answer (sym f ∙ e) h.is)
+  named-is : (b : Bool) → ltb m 24 ≡ b → NameAnswered q n (Ok (cond b (Some m) None))
+  unfolding named
+  named-is b l = answered-by e f (ap (λ c. cond c (Some m) None) (sym l) ∙ ap named h.is)
 
   pub name_some : m < 24 → NameAnswered q n (Ok (Some m))
-  name_some l = name_is true (lt-ltb m 24 l)
+  name_some l = named-is true (lt-ltb m 24 l)
 
   pub name_none : 24 ≤ m → NameAnswered q n (Ok None)
-  name_none l = name_is false (le-ltb m 24 l)
+  name_none l = named-is false (le-ltb m 24 l)
 
-pub name_refused : {q a : Outcome} {x : Refusal} (n : ℕ) → a ≡ q → a ≡ Err x → NameAnswered q n (Err x)
-unfolding name_answer
-name_refused n e f = name_answered (ap (λ y. name_answer y n) (sym f ∙ e))
-
-pub ruleset name_answers = (checked, name_some, name_none, name_refused, rules)
+pub ruleset name_answers = (checked, name_some, name_none, answers_by, rules)
 
 -- ---- gates by number
-gate-told : (q : Outcome) (g : ℕ) → gate_reply (gate_answer q g) ≡ reply_to q g
-unfolding gate_reply gate_answer reply_to
-gate-told (Ok tt) g = refl
-gate-told (Err r) g = refl
-
-gate-answered : {q : Outcome} {g : ℕ} {r : Answer (Option ℕ)} → r ≡ gate_answer q g → GateAnswered q g r
-gate-answered {q} {g} e = record { answer = e; told = ap gate_reply e ∙ gate-told q g }
-
 pub gate_done : {q a : Outcome} {g n : ℕ} → a ≡ q → a ≡ Ok tt → n ≡ g → GateAnswered q g (Ok (Some n))
-unfolding gate_answer
-gate_done {q} {a} {g} e f h = gate-answered (ap Ok (Some h) ∙ ap (λ y. gate_answer y g) (sym f ∙ e))
-
-pub gate-not : {q a : Outcome} {x : Refusal} (g : ℕ) → a ≡ q → a ≡ Err x → GateAnswered q g (Err x)
-unfolding gate_answer
-gate-not g e f = gate-answered (ap (λ y. gate_answer y g) (sym f ∙ e))
+gate_done e f h = answered-by e f (ap Some h)
 
 pub gates_asked : (g h : ℕ) {a b x : Outcome} → x ≡ (a and_then b) → a ≡ gate_question 24 g → b ≡ gate_question 24 h → x ≡ compose_gate_questions g h
 unfolding compose_gate_questions
@@ -160,6 +132,6 @@ name_of-gate h = h.is
 pub name_narrow : {n r : ℕ} → NameIs n r → r ≤ 24
 name_narrow h = h.small
 
-pub ruleset gate-products = (gate_done, gate-not, gates_asked, gates_small, name_of-gate, name_narrow, rules)
+pub ruleset gate-products = (gate_done, answers_by, gates_asked, gates_small, name_of-gate, name_narrow, rules)
 
-pub ruleset gate_numbers = (gate_done, gate-not, gate-number, inverse-is, rules)
+pub ruleset gate_numbers = (gate_done, answers_by, gate-number, inverse-is, rules)

@@ -5,8 +5,8 @@ use Rattle.pauli.specs.Questions.{◌and_then◌}
 use Rattle.pauli.proofs.Asking.{done_first, done_second}
 use Rattle.clifford.specs.Answers.{part_answer}
 use Rattle.clifford.specs.Layout.{row_offset, encode_row, row_of, width_of, row_part, tableau_of}
-use Rattle.pauli.specs.Answers.{CountAnswered, Outcome}
-use Rattle.pauli.proofs.Answers.{counted-done, counted-not}
+use Rattle.pauli.specs.Answers.{Answered, number_value, Outcome}
+use Rattle.pauli.proofs.Answers.{answered-by, answers_by}
 use Rattle.clifford.specs.Questions.{tableau_questions, slot_question, image_questions}
 use Rattle.clifford.specs.Inside.Rows.{OwnRow, RowIndex, Sized}
 use Rattle.clifford.specs.Tableaux.{x_image_part, z_image_part}
@@ -86,14 +86,14 @@ module _ (t : List ℕ) (slot : ℕ) {r : Outcome} (p : r ≡ image_questions t 
   z_index {n} h e = record { narrow = omega (arith, e, (own-z t slot p h e).tableau.narrow); own = omega (arith, e, (own-z t slot p h e).own) }
 
   pub x-offset : {n at : ℕ} → r ≡ Ok tt → n ≡ width_of t → Sized (row_offset n slot) at
-      → CountAnswered (image_questions t slot) (row_offset (width_of t) slot) (Ok at)
-  x-offset h e s = counted-done p h (s.is ∙ ap (λ (j : ℕ). row_offset j slot) e)
+      → Answered number_value (image_questions t slot) (row_offset (width_of t) slot) (Ok at)
+  x-offset h e s = answered-by p h (s.is ∙ ap (λ (j : ℕ). row_offset j slot) e)
 
   pub z-offset : {n at : ℕ} → r ≡ Ok tt → n ≡ width_of t → Sized (row_offset n (n + slot)) at
-      → CountAnswered (image_questions t slot) (row_offset (width_of t) (width_of t + slot)) (Ok at)
-  z-offset h e s = counted-done p h (s.is ∙ ap (λ (j : ℕ). row_offset j (j + slot)) e)
+      → Answered number_value (image_questions t slot) (row_offset (width_of t) (width_of t + slot)) (Ok at)
+  z-offset h e s = answered-by p h (s.is ∙ ap (λ (j : ℕ). row_offset j (j + slot)) e)
 
-pub ruleset image_offsets = (x_index, z_index, image_fits, x-offset, z-offset, counted-not, rules)
+pub ruleset image_offsets = (x_index, z_index, image_fits, x-offset, z-offset, answers_by, rules)
 
 pub x_empty : (t : List ℕ) (slot : ℕ) → x_image_part t slot ≡ [] → image_questions t slot ≡ Ok tt → ⊥
 x_empty t slot e h = part_some (own_x t slot refl h) (x_handed t slot refl h refl ∙ e)

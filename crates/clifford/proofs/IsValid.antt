@@ -5,10 +5,10 @@ use native.Mathlib.Decide.{ℕ_discrete}
 use Rattle.pauli_group.specs.Phase.{is_real}
 use Rattle.pauli_group.specs.PauliString.{PauliString, qubits, anticommuting_places, commute}
 use Rattle.clifford_group.specs.Tableau.{Tableau, all_to, valid_qubit, valid_pair, is_valid}
-use Rattle.pauli.specs.Answers.{yes_or_no}
 use Rattle.pauli.specs.Layout.{phase_byte, phase_of}
 use Rattle.pauli.specs.Rows.{letter_at, places_of, shorter}
 use Rattle.pauli.proofs.Answers.{answers}
+use Rattle.pauli.proofs.Asking.{in_order}
 use Rattle.pauli.proofs.RowProducts.{places_of-rows}
 use Rattle.clifford.specs.Layout.{row_of, read_row, width_of, tableau_of, FormedTableau}
 use Rattle.clifford.specs.Inside.Rows.{OwnRow, OwnRows, OwnQubit, OwnQubits, row_letters}
@@ -226,13 +226,9 @@ unfolding is_valid valid_row
 rows-valid t e m h = all_done m h ∙ ap (λ (j : ℕ). all_to j (valid_row (tableau_of t))) (e ∙ sym (width_of_lem t))
 
 -- ---- the answer
-pub valid_yes : (t : List ℕ) {b : Bool} → b ≡ is_valid (tableau_of t) → b ≡ true → (Ok true) ≡ yes_or_no (record_valid t)
+pub valid-told : (t : List ℕ) {b : Bool} → b ≡ is_valid (tableau_of t) → b ≡ record_valid t
 unfolding record_valid
-valid_yes t e h = sym (ap yes_or_no (sym e ∙ h))
-
-pub valid_no : (t : List ℕ) {b : Bool} → b ≡ is_valid (tableau_of t) → b ≡ false → (Ok false) ≡ yes_or_no (record_valid t)
-unfolding record_valid
-valid_no t e h = sym (ap yes_or_no (sym e ∙ h))
+valid-told t e = e
 
 pub ruleset qubit_validity = (qubit-x, qubit-z, qubit-rows, not_real_x, not_real_z, qubit-whole, rules)
 
@@ -242,4 +238,4 @@ pub ruleset before_validity = (all_start, all_more, all_not, all_done, pair_own,
 
 pub ruleset rows_validity = (all_start, own-qubit, row-not, before-not, row_more, rows-valid, rules)
 
-pub ruleset validity = (checked, valid_yes, valid_no, answers, rules)
+pub ruleset validity = (checked, valid-told, answers, in_order, rules)

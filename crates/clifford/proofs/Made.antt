@@ -10,7 +10,7 @@ use Rattle.clifford_gates.specs.GateNumbers.{gate_tableau}
 use Rattle.pauli.specs.Answers.{written, Outcome}
 use Rattle.pauli.specs.Layout.{letter_byte, letter_of, encode_string, string_of}
 use Rattle.pauli.specs.Questions.{room_question}
-use Rattle.pauli.proofs.Answers.{answers}
+use Rattle.pauli.proofs.Answers.{answers_by}
 use Rattle.pauli.proofs.Asking.{room-is}
 use Rattle.pauli.proofs.Places.{from}
 use Rattle.pauli.proofs.Records.{length_encode}
@@ -270,4 +270,4 @@ pub made_let : {m : Made} {a b : List ℕ} {w : ℕ} (d : List ℕ) {r : Outcome
     → r ≡ room_question n (length d) → r ≡ Ok tt → MakesAll m a b w d
 made_let {w = w} d o s e h = record { makes = o; room = room-is (record_length w) (length d) (sym (made_asked w (length d) s e) ∙ h) }
 
-pub ruleset made_answers = (makes-narrow, made_asked, made_let, answers, rules)
+pub ruleset made_answers = (makes-narrow, made_asked, made_let, answers_by, rules)

@@ -13,7 +13,7 @@ use Rattle.pauli.specs.declared.refusal.Refusal.TheVariants.{ImageWidth}
 use Rattle.pauli.specs.Answers.{written, Outcome}
 use Rattle.pauli.specs.Layout.{phase_of, letter_of, string_of}
 use Rattle.pauli.specs.Questions.{◌and_then◌, string_questions}
-use Rattle.pauli.proofs.Answers.{answers}
+use Rattle.pauli.proofs.Answers.{answers_by}
 use Rattle.pauli.proofs.Asking.{asked_yes, asked_no, ask_done, refused, passed, done_first, done_second, string-formed}
 use Rattle.pauli.proofs.Places.{NoneBefore, none_more, none_found, none_left_lem, first-before, from, length_from}
 use Rattle.pauli.proofs.Records.{decode_within, decode_letter, decode_phase, letter_of_lem, has_none, has_one}
@@ -293,4 +293,4 @@ pub ruleset insides = (inside_no, inside_yes, rules)
 
 pub ruleset image_questions_lem = (set_asked, set_first, set_beside, set_then, rules)
 
-pub ruleset image_setting = (sets, set_x_row, set_z_row, set_fits, set_length, x_written, z_written, answers, rules)
+pub ruleset image_setting = (sets, set_x_row, set_z_row, set_fits, set_length, x_written, z_written, answers_by, rules)

@@ -9,7 +9,7 @@ use Rattle.pauli.specs.declared.refusal.Refusal.{Refusal}
 use Rattle.pauli.specs.Answers.{written, CountWritten, Outcome}
 use Rattle.pauli.specs.Questions.{room_question}
 use Rattle.pauli.proofs.Asking.{refused, passed, done_first, done_second, room-is}
-use Rattle.pauli.proofs.Answers.{count-done, count-not}
+use Rattle.pauli.proofs.Answers.{number-by, answers_by}
 use Rattle.clifford.specs.Questions.{tableau_questions, support_answer}
 use Rattle.clifford.specs.Tableaux.{support_bytes}
 use Rattle.clifford.proofs.Asking.{tableau-formed, checked}
@@ -444,6 +444,6 @@ support_formed {t} room p h = tableau-formed t (done_first _ _ (sym p ∙ h))
 pub support_done : (t d : List ℕ) {e : List ℕ} {q r : Outcome} {c : ℕ} → r ≡ q → r ≡ Ok tt → e ≡ written (Ok tt) (support_qubits (tableau_of t)) d → SupportCount t c
     → CountWritten q (support_bytes t) d e (Ok c)
 unfolding support_bytes
-support_done t d p h w k = count-done p h k.is w
+support_done t d p h w k = number-by p h k.is w
 
-pub ruleset support_answers = (checked, support_room, support_refused, support_fits, support_formed, support_done, count-not, rules)
+pub ruleset support_answers = (checked, support_room, support_refused, support_fits, support_formed, support_done, answers_by, rules)

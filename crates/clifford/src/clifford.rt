@@ -4,7 +4,7 @@ ghost use Rattle.std.specs.Prelude.{◌≡◌};
 ghost use Rattle.clifford_gates.specs.GateNumbers.{compose_gate};
 ghost use Rattle.clifford.specs.Layout.{FormedTableau};
 ghost use Rattle.clifford.specs.GateQuestions.{own_qubit_question, qubits_questions};
-ghost use Rattle.clifford.specs.GateAnswers.{gate_reply, record_name};
+ghost use Rattle.clifford.specs.GateAnswers.{record_name};
 ghost use Rattle.clifford.specs.Inside.GateRows.{GateOn, GateSpan, BothSmall, NameIs};
 ghost use Rattle.clifford.specs.Promises.{GateWritten, WidthGateWritten, OneQubitGateWritten, SingleQubitCliffordWritten, GateNamed, GatesComposed, GateInverted};
 
@@ -14,31 +14,7 @@ use crate::questions::{check_different, check_gate, check_tableau, check_width};
 use crate::writing::{Made, write_made};
 use pauli::QUBITS;
 use pauli::questions::{and_then, check_qubit};
-use pauli::refusal::{Refusal, Reply, refusal_reply};
-
-// A gate, no gate, or the refusal.
-#[derive(Clone, Copy)]
-pub enum GateAnswer {
-    Named(u8),
-    Unnamed,
-    GateRefused(Refusal),
-}
-
-pub fn gate_reply(r: Result<Option<u8>, Refusal>) -> Reply
-    ensures { result ≡ gate_reply r }
-{
-    match r {
-        Ok(Some(g)) => Reply {
-            number: 0,
-            value: g as u64,
-        },
-        Ok(None) => Reply {
-            number: 0,
-            value: 255,
-        },
-        Err(why) => refusal_reply(why),
-    }
-}
+use pauli::refusal::Refusal;
 
 // ---- questions
 
@@ -176,11 +152,7 @@ pub fn from_clifford_rep(t: &[u8]) -> Result<Option<u8>, Refusal>
     match answer {
         Ok(()) => {
             let n = name_of(t);
-            if n < 24 {
-                Ok(Some(n as u8))
-            } else {
-                Ok(None)
-            }
+            if n < 24 { Ok(Some(n as u8)) } else { Ok(None) }
         }
         Err(why) => Err(why),
     }

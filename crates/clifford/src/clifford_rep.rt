@@ -201,11 +201,8 @@ pub fn inverse(t: &[u8], dst: &mut [u8]) -> Result<(), Refusal>
 pub fn is_valid(t: &[u8]) -> Result<bool, Refusal>
     ensures { ValidityTold t.now result }
 {
-    let answer = check_tableau(t);
-    match answer {
-        Ok(()) => if valid_rows(t) { Ok(true) } else { Ok(false) },
-        Err(why) => Err(why),
-    }
+    check_tableau(t)?;
+    Ok(valid_rows(t))
 }
 
 // ---- the tableau of a Pauli string

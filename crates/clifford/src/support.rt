@@ -129,7 +129,7 @@ fn write_qubit(t: &[u8], k: usize, place: usize, dst: &mut [u8]) -> usize
 // The qubits of the support, rising.
 pub(crate) fn write_support(t: &[u8], dst: &mut [u8])
     requires { SupportFits t.now dst.old }
-    ensures { dst.new ≡ written Done (support_qubits (tableau_of t.now)) dst.old }
+    ensures { dst.new ≡ written (Ok tt) (support_qubits (tableau_of t.now)) dst.old }
 {
     let n = width(t);
     let mut place = 0;

@@ -104,7 +104,7 @@ fn write_made_row(made: Made, a: &[u8], b: &[u8], width: usize, r: usize, dst: &
 // All rows, each at its own offset.
 fn write_rows(made: Made, a: &[u8], b: &[u8], width: usize, dst: &mut [u8])
     requires { MakesAll made a.now b.now width dst.old }
-    ensures { dst.new ≡ written Done (tableau_record (made_tableau made a.now b.now width)) dst.old }
+    ensures { dst.new ≡ written (Ok tt) (tableau_record (made_tableau made a.now b.now width)) dst.old }
 {
     dst[0] = width as u8;
     let mut r = 0;
@@ -116,7 +116,13 @@ fn write_rows(made: Made, a: &[u8], b: &[u8], width: usize, dst: &mut [u8])
 }
 
 // The record of the tableau, where there is room for it.
-pub(crate) fn write_made(made: Made, a: &[u8], b: &[u8], width: usize, dst: &mut [u8]) -> Result<(), Refusal>
+pub(crate) fn write_made(
+    made: Made,
+    a: &[u8],
+    b: &[u8],
+    width: usize,
+    dst: &mut [u8],
+) -> Result<(), Refusal>
     requires { Makes made a.now b.now width }
     ensures { MadeWritten made a.now b.now width dst.old dst.new result }
 {

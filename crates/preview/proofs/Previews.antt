@@ -21,7 +21,7 @@ use Rattle.pauli.specs.declared.refusal.Refusal.{Refusal}
 use Rattle.pauli.specs.Answers.{reply_to, written, Written, Outcome}
 use Rattle.pauli.specs.Layout.{phase_byte, letter_byte, letter_of, encode_string, string_length, string_of, string_record}
 use Rattle.pauli.specs.Questions.{◌and_then◌, string_questions, room_question}
-use Rattle.pauli.proofs.Answers.{written-not}
+use Rattle.pauli.proofs.Answers.{written-by_not}
 use Rattle.pauli.proofs.Asking.{and_then_assoc, and_then_done, done_first, done_second, has_room, room-is, strings_admitted, record-length}
 use Rattle.pauli.proofs.Records.{letter-back, letter_there, length_encode, encode_letter, encode_phase, string-back}
 use Rattle.clifford.specs.Layout.{width_of, tableau_of}
@@ -105,8 +105,8 @@ own-asked t s n e h =
 -- after a refusal nothing is written
 then_not : {q r : Outcome} (p y : Outcome) {x : Refusal} (out d : List ℕ) → r ≡ q → r ≡ p and_then y → y ≡ Err x → Written q out d d r
 unfolding ◌and_then◌
-then_not (Ok tt) y out d h e f = written-not out d h (e ∙ f)
-then_not (Err z) y out d h e f = written-not out d h e
+then_not (Ok tt) y out d h e f = written-by_not out d h (e ∙ f)
+then_not (Err z) y out d h e f = written-by_not out d h e
 
 -- ---- a letter sent through b and then a
 module _ (a b : List ℕ) {s m : List ℕ} (l q : ℕ) {second : Outcome} (e : s ≡ letter_record l q) (w : Applied b s (replicate 129 0) m second) where

@@ -1,0 +1,12 @@
+-- `clifford_rep::is_valid` meets its contract: the questions, and whether the rows are valid where they let it by.
+use Rattle.clifford.proofs.IsValid.{validity}
+use Rattle.clifford.proofs.clifford_rep.is_valid.Goals as goal
+
+pub returns-in_err-check_tableau : goal.returns-in_err-check_tableau
+returns-in_err-check_tableau c = search (validity, c.in_err-check_tableau.ensures)
+
+pub valid_rows-requires : goal.valid_rows-requires
+valid_rows-requires c = search (validity, c.in_ok-check_tableau.was)
+
+pub returns : goal.returns
+returns c = search (validity, c.in_ok-check_tableau.ensures)
