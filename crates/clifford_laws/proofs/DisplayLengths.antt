@@ -25,7 +25,7 @@ use Rattle.clifford.proofs.Display.{decimal-short, order_even, order_odd, order_
 use Rattle.clifford.proofs.Asking.{tableau-formed, tableaux_admitted}
 use Rattle.clifford.proofs.Rows.{row-x, row-z, rows_same, width_of_lem}
 use Rattle.clifford.proofs.Records.{record-back}
-use Rattle.std.specs.Prelude.{Ok, true, false, Bool, ℕ}
+use Rattle.std.specs.Prelude.{Ok}
 
 -- ---- a line: nine bytes, the digits of its qubit, and the image
 qubit_of : (w i : ℕ) → i < 2 * w → row_qubit w (display_row w i) ≡ i / 2

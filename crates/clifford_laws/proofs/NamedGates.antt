@@ -12,13 +12,14 @@ use Rattle.clifford_gates.proofs.OneQubitUpdates.{width-on_qubit}
 use Rattle.clifford_gates.proofs.GateNames.{some-qubit, name_same, on_qubit_names, named-valid, named-same}
 use Rattle.clifford.specs.Layout.{width_of, tableau_of, FormedTableau}
 use Rattle.clifford.specs.Tableaux.{record_valid}
-use Rattle.clifford.specs.GateAnswers.{name_answer, one_qubit_record, record_name}
+use Rattle.clifford.specs.GateAnswers.{named, one_qubit_record, record_name}
 use Rattle.clifford.proofs.Rows.{width_of_lem}
 use Rattle.clifford.proofs.Asking.{tableau-formed}
 use Rattle.clifford.proofs.Records.{record-back, record_there, proper_of, same-record}
 use Rattle.clifford_laws.specs.NamedGates.{NameTheorem}
 use Rattle.clifford_laws.proofs.GateRecords.{one_clifford}
-use Rattle.std.specs.Prelude.{Ok, Some, None, true, false, Bool, ℕ}
+use Rattle.std.specs.Prelude.{Ok, Some, None, Option}
+use Rattle.pauli.specs.Answers.{Answer, answer_to}
 
 -- ---- the name
 name_valid : {t : List ℕ} → FormedTableau t → ltb (record_name t) 24 ≡ eqb (width_of t) 1 && record_valid t
@@ -36,7 +37,11 @@ name_only g h =
     name_same _ _ back (omega (arith, back.width, width-on_qubit (one_qubit_gate g) 0)) ∙ on_qubit_names g h
 
 -- ---- the answer
-is-named : (b : Bool) {n g : ℕ} → cond b (Ok (Some n)) (Ok None) ≡ Ok (Some g) → (b ≡ true) × (n ≡ g)
+by-cases : (b : Bool) (n : ℕ) → ◌≡◌ {A = Answer (Option ℕ)} (Ok (cond b (Some n) None)) (cond b (Ok (Some n)) (Ok None))
+by-cases true n = refl
+by-cases false n = refl
+
+is-named : (b : Bool) {n g : ℕ} → ◌≡◌ {A = Answer (Option ℕ)} (cond b (Ok (Some n)) (Ok None)) (Ok (Some g)) → (b ≡ true) × (n ≡ g)
 is-named true e = (refl, cc)
 is-named false e = (cc, cc)
 
@@ -47,7 +52,7 @@ names_exactly t q r p = record {
       let small : n < 24 = ltb-true n 24 found.0 in
       subst (λ k. (k < 24) × (one_qubit_record k 0 ≡ t)) found.1 (small, name_own f small);
   only = λ g h e. let same : n ≡ g = sym (ap record_name e) ∙ name_only g h in
-      answer ∙ ap (λ b. cond b (Ok (Some n)) (Ok None)) (lt-ltb n 24 (omega arith)) ∙ ap Ok (Some same);
+      answer ∙ ap (λ b. cond b (Ok (Some n)) (Ok None)) (lt-ltb n 24 (omega arith)) ∙ ap (λ k. Ok (Some k)) same;
 }
   where
     n : ℕ
@@ -57,4 +62,4 @@ names_exactly t q r p = record {
     f = tableau-formed t q
 
     answer : r ≡ cond (ltb n 24) (Ok (Some n)) (Ok None)
-    answer = unfold name_answer in p.answer ∙ ap (λ o. name_answer o n) q
+    answer = unfold answer_to named in p.answer ∙ ap (λ o. answer_to o (named n)) q ∙ by-cases (ltb n 24) n

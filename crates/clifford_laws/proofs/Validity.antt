@@ -15,7 +15,7 @@ use Rattle.clifford_group.proofs.Images.{alike-widen, same_alike, proper-widen}
 use Rattle.clifford_group.proofs.Apply.{apply-widen, apply-within}
 use Rattle.clifford_group.proofs.Homomorphism.{generators_valid, is_valid_iff_multiplicative, is_valid-widen, alike_iff_same}
 use Rattle.clifford_group.proofs.Same.{apply-same, is_valid-same}
-use Rattle.pauli.specs.Answers.{flag_answer, Outcome}
+use Rattle.pauli.specs.Answers.{answer_to, Outcome}
 use Rattle.pauli.specs.Layout.{string_record, string_of}
 use Rattle.pauli.specs.Questions.{strings_questions, mul_questions}
 use Rattle.pauli.specs.Strings.{product_record}
@@ -27,7 +27,7 @@ use Rattle.clifford.specs.Tableaux.{record_valid, apply_record, extend_record}
 use Rattle.clifford.proofs.Asking.{width_narrow, admitted_tableaux, admitted_proper}
 use Rattle.clifford.proofs.Records.{record-back, same-record, record_same}
 use Rattle.clifford_laws.specs.Validity.{ProductSent, RecordMultiplicative, generator_record, GeneratorsSent, RecordsSendAlike, larger_width, SameBytesWidened, ValiditySentence}
-use Rattle.std.specs.Prelude.{Ok, Err, true, false, Bool, ℕ}
+use Rattle.std.specs.Prelude.{Ok, Err}
 
 -- two strings with one record are the same
 string_equal : (s u : PauliString) → Within qubits s → Within qubits u → string_record s ≡ string_record u → s ≡ u
@@ -168,20 +168,19 @@ widening : (b : List ℕ) (n room : ℕ) → tableau_questions b ≡ Ok tt → n
 unfolding extend_answer extend_questions
 widening b n room e h w l = done_room _ _ room (done_both _ _ e (sym (width_narrow h))) (subst (λ (m : ℕ). record_length m ≤ room) w l)
 
-yes_told : (q : Outcome) (b : Bool) → flag_answer q b ≡ (Ok true) → (q ≡ Ok tt) × (b ≡ true)
-unfolding flag_answer
-yes_told (Ok tt) true e = (refl, refl)
-yes_told (Ok tt) false e = (refl, cc)
+yes_told : (q : Outcome) (b : Bool) → answer_to q b ≡ Ok true → (q ≡ Ok tt) × (b ≡ true)
+unfolding answer_to
+yes_told (Ok tt) b e = (refl, cc)
 yes_told (Err x) b e = (cc, cc)
 
 pub validity_sentence : ValiditySentence
-unfolding flag_answer apply_record product_record apply_answer apply_questions mul_questions strings_questions
+unfolding answer_to apply_record product_record apply_answer apply_questions mul_questions strings_questions
 validity_sentence = record {
   products = valid_iff_multiplicative;
   alike = λ t u et eu vt vu. alike_iff_same_bytes t u et eu;
   told = λ t r p. (
     (λ e. let yes = yes_told (tableau_questions t) (record_valid t) (sym p.answer ∙ e) in (yes.0, (valid_iff_multiplicative t yes.0).0 yes.1)),
-    (λ m. p.answer ∙ ap₂ flag_answer m.0 ((valid_iff_multiplicative t m.0).1 m.1)),
+    (λ m. p.answer ∙ ap₂ answer_to m.0 ((valid_iff_multiplicative t m.0).1 m.1)),
   );
   sent = λ t s. strings_admitted _;
   multiplied = λ p q. strings_admitted _;

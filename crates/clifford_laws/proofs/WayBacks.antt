@@ -17,7 +17,7 @@ use Rattle.clifford.specs.Tableaux.{Good, identity_record, apply_record, compose
 use Rattle.clifford_laws.specs.WayBack.{Call, is_done, call_answer, accepts, destination_after, next_record, record_after, steps_of, Step, Steps, step, product_from, product_of, sent_by, EachApplied, none_left, applied, WayBack}
 use Rattle.clifford.proofs.RecordLaws.{compose-formed, compose-width, compose-length, compose-good, records_assoc, identity-width, identity-good, identity-left, inverse-width, inverse-good, inverse_left, inverse-right, send_compose, send_identity}
 use Rattle.clifford.proofs.Asking.{tableau-formed, formed-good}
-use Rattle.std.specs.Prelude.{Ok, Err, true, false, Bool, ℕ}
+use Rattle.std.specs.Prelude.{Ok, Err}
 
 -- ---- one call
 is_done_lem : (q : Outcome) → is_done q ≡ true → q ≡ Ok tt

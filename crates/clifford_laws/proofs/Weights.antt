@@ -17,7 +17,7 @@ use Rattle.clifford.proofs.Rows.{row-some, same_rows, rows-within, row_part_lem,
 use Rattle.clifford.proofs.Records.{part_record, width-record, same-record}
 use Rattle.clifford.proofs.Asking.{tableau-formed, tableaux_admitted, admitted_tableaux, admitted_proper}
 use Rattle.clifford_laws.specs.Weights.{Encodes, without_weight, without_weights, plain_record}
-use Rattle.std.specs.Prelude.{Ok, ℕ}
+use Rattle.std.specs.Prelude.{Ok}
 
 -- ---- what is let by
 pub admitted_exactly : (b : List ℕ) → (tableau_questions b ≡ Ok tt) ↔ Encodes b

@@ -27,7 +27,7 @@ use Rattle.clifford_laws.specs.Witnesses.{first_letter, first_weight, Witness, h
 use Rattle.clifford_laws.proofs.WayBacks.{after-steps, steps-more, steps_kept, steps_nil, next-is, next_kept}
 use Rattle.clifford_laws.proofs.WayBackSteps.{way_back, record_then_lem}
 use Rattle.clifford_laws.proofs.Readings.{same-is}
-use Rattle.std.specs.Prelude.{Ok, Err, true, false, ℕ}
+use Rattle.std.specs.Prelude.{Ok, Err}
 
 -- what the calls of a list do to the record r, up to the record now
 data Trace : List ℕ → List Call → List (List ℕ) → List ℕ → Type 0 where

@@ -9,7 +9,7 @@ use lib.Seq.{take_all, take_at}
 use borrow.Author.Rules.{rules}
 use Rattle.pauli.specs.declared.refusal.Refusal.{Refusal}
 use Rattle.pauli.specs.declared.refusal.Refusal.TheVariants.{ListLength}
-use Rattle.pauli.specs.Answers.{count_answer, written, CountWritten, Answer}
+use Rattle.pauli.specs.Answers.{answer_to, written, CountWritten, Answer}
 use Rattle.pauli.proofs.Asking.{refused}
 use Rattle.clifford.specs.Display.{text_of_tableau}
 use Rattle.gate_list.specs.ListQuestions.{size_question, list_questions}
@@ -21,7 +21,7 @@ use Rattle.clifford_run.specs.declared.Input.{Input}
 use Rattle.clifford_run.specs.declared.Input.TheVariants.{Read, Failed}
 use Rattle.clifford_run.specs.Program.{input_most}
 use Rattle.clifford_run.specs.Inside.Program.{Owed, ReportRoom, Buffers, InputRead, ReportWritten}
-use Rattle.std.specs.Prelude.{Ok, Err, ℕ}
+use Rattle.std.specs.Prelude.{Ok, Err}
 
 -- ---- a longer input than the longest list is 16, whatever follows
 size_over : (l : List ℕ) → input_most ≤ length l → Err ListLength ≡ size_question l
@@ -63,8 +63,8 @@ module _ (l : List ℕ) {d e : List ℕ} {r : Answer ℕ} (o : ReportRoom d) (w 
   done = report_done l (length d) o.room
 
   counted : r ≡ Ok (length (report_text l))
-  unfolding count_answer
-  counted = w.answer ∙ ap (λ q. count_answer q (length (report_text l))) done
+  unfolding answer_to
+  counted = w.answer ∙ ap (λ q. answer_to q (length (report_text l))) done
 
   bytes : e ≡ written (Ok tt) (report_text l) d
   bytes = w.bytes ∙ ap (λ q. written q (report_text l) d) done

@@ -20,7 +20,7 @@ use Rattle.gate_list.specs.OrderedLists.{PlayFits, PlaysFit, none, more, Chain, 
 use Rattle.gate_list.specs.Runs.{step_count}
 use Rattle.gate_list.proofs.Chains.{chain_met, chain_more, link_done, record-link}
 use Rattle.gate_list.proofs.ListAdmitted.{Sized, size_done, sized_few}
-use Rattle.std.specs.Prelude.{Ok, true, false, Bool, ℕ}
+use Rattle.std.specs.Prelude.{Ok}
 
 -- ---- one record
 module _ (l : List ℕ) (i : ℕ) (e : record_questions l i ≡ Ok tt) where

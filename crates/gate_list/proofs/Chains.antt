@@ -20,7 +20,7 @@ use Rattle.gate_list.specs.Lists.{record_count, byte_of, next_of}
 use Rattle.gate_list.specs.ListQuestions.{link_question, zeros_question, step_gate_question, step_qubit_question, step_second_questions, record_questions, is_met, chain_questions}
 use Rattle.gate_list.specs.Inside.Reading.{OwnRecord, BeforeChain, links_question}
 use Rattle.pauli.specs.Answers.{Outcome}
-use Rattle.std.specs.Prelude.{Ok, Err, true, false, Bool, ℕ}
+use Rattle.std.specs.Prelude.{Ok, Err}
 
 -- ---- one place fewer
 pub count_fewer : (n : ℕ) (f g : ℕ → Bool) (p : ℕ) → p < n → f p ≡ true → g p ≡ false → ((q : ℕ) → (q ≡ p → ⊥) → f q ≡ g q) → count_to n f ≡ suc (count_to n g)

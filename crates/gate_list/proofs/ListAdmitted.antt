@@ -18,7 +18,7 @@ use Rattle.gate_list.specs.Lists.{record_count, list_width}
 use Rattle.gate_list.specs.ListQuestions.{size_question, head_question, list_questions}
 use Rattle.gate_list.specs.Inside.Reading.{OwnRecord, ByteSized, NoneMet, BeforeChain, links_question}
 use Rattle.pauli.specs.Answers.{Outcome}
-use Rattle.std.specs.Prelude.{Ok, Err, true, ℕ}
+use Rattle.std.specs.Prelude.{Ok, Err, true}
 
 -- ---- a list of records: at least the head, and at most 4,096
 pub record Sized (l : List ℕ) : Type 0 where

@@ -15,7 +15,7 @@ use Rattle.gate_list.specs.Lists.{record_size, record_count, byte_of, list_width
 use Rattle.gate_list.specs.ListQuestions.{size_question, head_question, link_question, zeros_question, step_gate_question, step_qubit_question, step_second_questions, record_questions}
 use Rattle.gate_list.specs.Inside.Reading.{OwnRecord, OwnByte, ByteSized, zeros_right, step_different_question, two_questions, step_qubits_questions}
 use Rattle.pauli.specs.Answers.{Outcome}
-use Rattle.std.specs.Prelude.{Ok, Err, true, false, Bool, ℕ}
+use Rattle.std.specs.Prelude.{Ok, Err}
 
 -- ---- the bytes of a list
 pub count-is : (l : List ℕ) → length l / 6 ≡ record_count l

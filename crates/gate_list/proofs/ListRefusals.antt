@@ -14,7 +14,7 @@ use Rattle.gate_list.specs.Lists.{record_count, byte_of, list_width, next_of}
 use Rattle.gate_list.specs.ListQuestions.{size_question, head_question, link_question, zeros_question, step_gate_question, step_qubit_question, step_second_questions, record_questions, is_met, chain_questions, list_questions}
 use Rattle.gate_list.proofs.Chains.{link_done, record-link}
 use Rattle.gate_list.proofs.ListAdmitted.{size_done, sized_few}
-use Rattle.std.specs.Prelude.{Ok, Err, true, false, Bool, ℕ}
+use Rattle.std.specs.Prelude.{Ok, Err}
 
 -- ---- outcomes whose refusal, if there is one, is of a kind P
 pub data Refusing (P : Refusal → Type 0) : Outcome → Type 0 where

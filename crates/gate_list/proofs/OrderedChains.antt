@@ -20,7 +20,7 @@ use Rattle.gate_list.specs.Runs.{tableaux_of, run_record}
 use Rattle.gate_list.proofs.AdmittedChains.{chain_none, chain_one}
 use Rattle.gate_list.proofs.Chains.{chain_end, chain_more}
 use Rattle.gate_list.proofs.ListAsking.{size_good, head-good, link-good, zeros_good, right-two, right-one, two_in, different-good, second_none, second-two}
-use Rattle.std.specs.Prelude.{Ok, false, ℕ}
+use Rattle.std.specs.Prelude.{Ok}
 
 -- ---- the bytes of record i
 pub record RecordIs (l : List ℕ) (i : ℕ) (p : Play) (next : ℕ) : Type 0 where

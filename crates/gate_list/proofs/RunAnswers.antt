@@ -9,10 +9,10 @@ use borrow.Author.Rules.{rules}
 use borrow.Rule.Slice.PartMut.{put_mid}
 use Rattle.pauli.specs.declared.refusal.Refusal.{Refusal}
 use Rattle.pauli_group.specs.PauliString.{qubits}
-use Rattle.pauli.specs.Answers.{written, Written, count_answer, count_reply, Outcome}
+use Rattle.pauli.specs.Answers.{written, Written, NumberWritten, Outcome}
 use Rattle.pauli.specs.Questions.{◌and_then◌, room_question}
 use Rattle.pauli.proofs.Asking.{refused, passed, has_room, done_first, done_second, room-is}
-use Rattle.pauli.proofs.Answers.{count-told}
+use Rattle.pauli.proofs.Answers.{answers_by, number-by}
 use Rattle.clifford.specs.Layout.{record_length}
 use Rattle.clifford.specs.Playing.{letter_tables, pair_tables}
 use Rattle.clifford.specs.Questions.{identity_answer}
@@ -22,11 +22,11 @@ use Rattle.clifford.proofs.Asking.{width_narrow}
 use Rattle.gate_list.specs.Lists.{list_width}
 use Rattle.gate_list.specs.ListQuestions.{list_questions}
 use Rattle.gate_list.specs.Inside.Reading.{ByteSized}
-use Rattle.gate_list.specs.Runs.{run_record, step_count, run_answer, RunAnswered}
+use Rattle.gate_list.specs.Runs.{run_record, step_count, run_answer}
 use Rattle.gate_list.specs.Inside.Runs.{Begins, Ran, RunRoom, RunWritten}
 use Rattle.gate_list.proofs.AdmittedChains.{admitted_narrow}
 use Rattle.gate_list.proofs.RunTableaux.{run_length}
-use Rattle.std.specs.Prelude.{Ok, Err, ℕ}
+use Rattle.std.specs.Prelude.{Ok, Err}
 
 -- ---- the questions
 -- an admitted list's record has the size that its width has
@@ -110,17 +110,8 @@ run_admits {l} {d} e h =
     let all = sym e ∙ h in
     record { asked = done_first _ _ all; room = room-is _ (length d) (done_second (list_questions l) _ all) }
 
-pub run_done : {l d e : List ℕ} {q r : Outcome} {n : ℕ} → r ≡ q → r ≡ Ok tt → RunWritten l d e n → RunAnswered q (step_count l) (run_record l) d e (Ok n)
-unfolding count_answer
-run_done {l} {d} {q = q} p h w =
-    let answer = ap Ok w.steps ∙ ap (λ x. count_answer x (step_count l)) (sym h ∙ p) in
-    record { answer = answer; told = ap count_reply answer ∙ count-told q (step_count l); bytes = w.bytes ∙ ap (λ x. written x (run_record l) d) (sym h ∙ p) }
-
-pub run_not : {q r : Outcome} {x : Refusal} (n : ℕ) (out d : List ℕ) → r ≡ q → r ≡ Err x → RunAnswered q n out d d (Err x)
-unfolding count_answer written
-run_not {q} n out d p h =
-    let answer = ap (λ x. count_answer x n) (sym h ∙ p) in
-    record { answer = answer; told = ap count_reply answer ∙ count-told q n; bytes = ap (λ x. written x out d) (sym h ∙ p) }
+pub run_done : {l d e : List ℕ} {q r : Outcome} {n : ℕ} → r ≡ q → r ≡ Ok tt → RunWritten l d e n → NumberWritten q (step_count l) (run_record l) d e (Ok n)
+run_done p h w = number-by p h w.steps w.bytes
 
 pub run_same : {l d e : List ℕ} {n : ℕ} → RunRoom l d → RunWritten l d e n → length e ≡ length d
 unfolding written
@@ -128,4 +119,4 @@ run_same {l} {d} o w =
     ap length w.bytes ∙ length-append (run_record l) (drop (length (run_record l)) d)
     ∙ omega (arith, run_length l o.asked, o.room, length-drop (length (run_record l)) d)
 
-pub ruleset run_answers = (run_admits, run_done, run_not, run_same, rules)
+pub ruleset run_answers = (run_admits, run_done, answers_by, run_same, rules)

@@ -28,7 +28,7 @@ use Rattle.gate_list.proofs.ListRefusals.{Listed, refusal-listed}
 use Rattle.gate_list.proofs.RefusalTexts.{number_short, refusal-length}
 use Rattle.gate_list.proofs.RunTableaux.{run_good, run_valid, run_length}
 use Rattle.gate_list.proofs.RunAnswers.{own_size, run_same}
-use Rattle.std.specs.Prelude.{Ok, Err, ℕ}
+use Rattle.std.specs.Prelude.{Ok, Err}
 
 -- ---- the run shown
 pub show_runs : {l t : List ℕ} → ShowRoom l t → RunRoom l t

@@ -22,7 +22,7 @@ use Rattle.gate_list.specs.OrderedLists.{PlayFits, PlaysFit, none, more}
 use Rattle.gate_list.specs.Runs.{tableaux_of, run_record}
 use Rattle.gate_list.proofs.GateOrder.{product-first}
 use Rattle.gate_list.proofs.AdmittedChains.{admitted_plays, admitted_narrow}
-use Rattle.std.specs.Prelude.{Ok, true, ℕ}
+use Rattle.std.specs.Prelude.{Ok}
 
 -- ---- one gate
 module _ {w : ℕ} {p : Play} (small : w ≤ qubits) (f : PlayFits w p) where

@@ -1,7 +1,7 @@
 -- The run of a gate list: "The run starts at the identity of that width and composes each gate on the left. It reports its steps: the
 -- gates on the chain."
-use Rattle.std.specs.Prelude.{ℕ, ◌≡◌, List, [], ◌∷◌, length}
-use Rattle.pauli.specs.Answers.{count_answer, count_reply, reply_to, written, Outcome, Answer}
+use Rattle.std.specs.Prelude.{ℕ, List, [], ◌∷◌, length}
+use Rattle.pauli.specs.Answers.{Outcome}
 use Rattle.pauli.specs.Questions.{◌and_then◌, room_question}
 use Rattle.clifford.specs.Layout.{record_length}
 use Rattle.clifford.specs.GateAnswers.{gate_record}
@@ -23,10 +23,3 @@ step_count l = length (gates_of l)
 
 unfoldable pub run_answer : List ℕ → ℕ → Outcome
 run_answer l room = list_questions l and_then room_question (record_length (list_width l)) room
-
--- what `run` promises of its answer r: the case, its number and value, and the destination, which held d at entry and holds e at
--- exit. The value is the number n of steps.
-pub record RunAnswered (q : Outcome) (n : ℕ) (out d e : List ℕ) (r : Answer ℕ) : Type 0 where
-  pub answer : r ≡ count_answer q n
-  pub told : count_reply r ≡ reply_to q n
-  pub bytes : e ≡ written q out d

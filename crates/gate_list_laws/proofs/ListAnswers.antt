@@ -24,7 +24,7 @@ use Rattle.gate_list.proofs.ListRefusals.{Refusing, one, refusing_ask, record_re
 use Rattle.gate_list_laws.specs.GateLists.{RightHead, GateList, Walk, starts, meets, ComesBack, list_numbers}
 use Rattle.gate_list_laws.proofs.RightLists.{passed_right, passed_head}
 use Rattle.gate_list_laws.proofs.Walks.{left, left_all, left_fewer, walk-own, met_some, walk-asked, none_left_lem, chain_only, chain_walked, Forward, walk_forward}
-use Rattle.std.specs.Prelude.{Ok, Err, true, false, Bool, ℕ}
+use Rattle.std.specs.Prelude.{Ok, Err}
 
 -- ---- from the list to its answer
 -- a right head leaves the chain to be asked

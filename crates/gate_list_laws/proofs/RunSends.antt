@@ -1,5 +1,5 @@
 -- A string sent through the record of a run goes as by the gates' own tableaux, one after another.
-use Rattle.std.specs.Prelude.{Ok, ℕ}
+use Rattle.std.specs.Prelude.{Ok}
 use mathlib.Core.Path.{◌≡◌, ap, ◌∙◌}
 use mathlib.Core.List.{List}
 use Prim.Native.Nat.{ℕ, ◌≤◌}

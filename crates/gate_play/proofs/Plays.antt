@@ -23,7 +23,7 @@ use Rattle.clifford.proofs.GateAsking.{gate_in, gate-below, own_in, own_below, q
 use Rattle.clifford.proofs.Play.{playable-is, playable_yes}
 use Rattle.clifford_laws.proofs.PlayedGates.{played-is, length-played, played-same}
 use Rattle.gate_play.specs.PlayQuestions.{play_questions}
-use Rattle.std.specs.Prelude.{Ok, true, Bool, ℕ}
+use Rattle.std.specs.Prelude.{Ok}
 
 -- ---- all of them
 pub play-asked : (t : List ℕ) (g q r : ℕ) {n : ℕ} {a b c d o : Outcome} → a ≡ tableau_questions t → b ≡ gate_question 38 g → n ≡ width_of t

@@ -29,7 +29,7 @@ use Rattle.pauli_laws.proofs.Prefixes.{Prefixed, space-small, blank-phase, phase
 
 -- ---- the questions
 -- the byte c is known, and I where q is not below 128
-use Rattle.std.specs.Prelude.{Ok, true, false, Bool, ℕ}
+use Rattle.std.specs.Prelude.{Ok}
 record LetterFits (c q : ℕ) : Type 0 where
   known : (is_identity c || ltb 0 (letter_named c)) ≡ true
   low : (is_identity c || ltb q 128) ≡ true

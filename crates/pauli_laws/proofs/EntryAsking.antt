@@ -23,7 +23,7 @@ use Rattle.pauli.proofs.Records.{letter-back, letter_there, letter-small}
 use Rattle.pauli_laws.specs.EntryLists.{Entry, entry_bytes, Unnamed, NamedOnce, EntriesGiven, letter_for, named_string}
 
 -- ---- one entry in front
-use Rattle.std.specs.Prelude.{Ok, None, true, false, Bool, ℕ}
+use Rattle.std.specs.Prelude.{Ok, None}
 module _ (x y : ℕ) (b : List ℕ) where
   count_front : entry_count (x ∷ y ∷ b) ≡ suc (entry_count b)
   unfolding entry_count

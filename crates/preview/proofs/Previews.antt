@@ -36,7 +36,7 @@ use Rattle.preview.specs.Previews.{preview_questions, preview_answer, composed_i
 use Rattle.preview.specs.Promises.{Previewed}
 
 -- ---- one letter
-use Rattle.std.specs.Prelude.{Ok, Err, ℕ}
+use Rattle.std.specs.Prelude.{Ok, Err}
 length-blank : length {A = ℕ} (replicate 129 0) ≡ string_length
 length-blank = length-replicate {A = ℕ} 129 0
 

@@ -11,7 +11,7 @@ use Rattle.gate_list.specs.Runs.{RunAnswered}
 use Rattle.renetcleat.specs.Replies.{Replied}
 
 -- an answer x that is promised, and its two numbers
-use Rattle.std.specs.Prelude.{Option, Bool, ℕ}
+use Rattle.std.specs.Prelude.{Option}
 told : {A : Type 0} {tell : A → Reply} {P : A → Type 0} {r : Reply} (x : A) → P x → r ≡ tell x → Replied tell P r
 told x h e = record { answer = x; promised = h; told = e }
 
