@@ -11,10 +11,7 @@ pub(crate) fn check_chain(list: &[u8], met: &mut [u8]) -> Result<(), Refusal>
     requires { BeforeChain list.now met.old }
     ensures { result ≡ links_question list.now }
 {
-    let link = check_link(list, 0);
-    let Ok(()) = link else {
-        return link;
-    };
+    check_link(list, 0)?;
     // The record whose link is followed.
     let mut at = 0;
     loop {
@@ -25,10 +22,7 @@ pub(crate) fn check_chain(list: &[u8], met: &mut [u8]) -> Result<(), Refusal>
         if met[i] != 0 {
             return Err(Refusal::Loop { record: i });
         }
-        let answer = check_record(list, i);
-        let Ok(()) = answer else {
-            return answer;
-        };
+        check_record(list, i)?;
         met[i] = 1;
         at = i;
     }

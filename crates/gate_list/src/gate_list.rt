@@ -13,7 +13,7 @@ use crate::reporting::{report_refusal, report_run};
 use crate::running::write_run;
 use clifford::layout::LONGEST_RECORD;
 use clifford::questions::{check_width, record_size};
-use pauli::questions::{and_then, check_room};
+use pauli::questions::check_room;
 use pauli::refusal::Refusal;
 
 // All questions in their order, with a mark for each record, none of them set.
@@ -21,15 +21,13 @@ fn check_list_with(list: &[u8], met: &mut [u8]) -> Result<(), Refusal>
     requires { NoneMet met.old }
     ensures { result ≡ list_questions list.now }
 {
-    let size = check_size(list);
-    let Ok(()) = size else {
-        return size;
-    };
-    let from_head = and_then(check_head(list), check_chain(list, met));
-    and_then(check_width(width(list)), from_head)
+    check_size(list)?;
+    check_width(width(list))?;
+    check_head(list)?;
+    check_chain(list, met)
 }
 
-// Whether a list can be run: Done, or the refusal.
+// Whether a list can be run.
 pub fn check_list(list: &[u8]) -> Result<(), Refusal>
     ensures { result ≡ list_questions list.now }
 {
@@ -41,31 +39,23 @@ pub fn check_list(list: &[u8]) -> Result<(), Refusal>
 fn run_answer(list: &[u8], room: usize) -> Result<(), Refusal>
     ensures { result ≡ run_answer list.now room }
 {
-    let admitted = check_list(list);
-    let enough = check_room(record_size(width(list)), room);
-    and_then(admitted, enough)
+    check_list(list)?;
+    check_room(record_size(width(list)), room)
 }
 
 // The tableau of all gates on the chain, each composed on the left; the answer is their number.
 pub fn run(list: &[u8], dst: &mut [u8]) -> Result<usize, Refusal>
     ensures { ListRun list.now dst.old dst.new result }
 {
-    let answer = run_answer(list, dst.len());
-    match answer {
-        Ok(()) => {
-            let steps = write_run(list, dst);
-            Ok(steps)
-        }
-        Err(why) => Err(why),
-    }
+    run_answer(list, dst.len())?;
+    Ok(write_run(list, dst))
 }
 
 fn report_with(list: &[u8], work: &mut [u8], out: &mut [u8]) -> Result<usize, Refusal>
     requires { WorkRoom work.old }
     ensures { Reported list.now out.old out.new result }
 {
-    let answer = check_list(list);
-    match answer {
+    match check_list(list) {
         Ok(()) => report_run(list, work, out),
         Err(why) => report_refusal(why, out),
     }

@@ -1,4 +1,4 @@
-// The questions put to a list and to its records. Each answers Done, or the refusal.
+// The questions put to a list and to its records. Each lets by, or refuses.
 ghost use Rattle.std.specs.Prelude.{◌≡◌};
 ghost use Rattle.gate_list.specs.ListQuestions.{size_question, head_question, link_question, zeros_question, step_gate_question, step_qubit_question, step_second_questions, record_questions};
 ghost use Rattle.gate_list.specs.Inside.Reading.{OwnRecord, zeros_right, step_different_question, two_questions, step_qubits_questions};
@@ -9,13 +9,7 @@ use pauli::refusal::Refusal;
 pub(crate) fn check_size(list: &[u8]) -> Result<(), Refusal>
     ensures { result ≡ size_question list.now }
 {
-    if list.len() % RECORD_SIZE != 0 {
-        return Err(Refusal::ListLength);
-    }
-    if list.len() < RECORD_SIZE {
-        return Err(Refusal::ListLength);
-    }
-    if LONGEST_LIST < list.len() {
+    if list.len() % RECORD_SIZE != 0 || list.len() < RECORD_SIZE || LONGEST_LIST < list.len() {
         return Err(Refusal::ListLength);
     }
     Ok(())
@@ -25,13 +19,7 @@ pub(crate) fn check_head(list: &[u8]) -> Result<(), Refusal>
     requires { OwnRecord list.now 0 }
     ensures { result ≡ head_question list.now }
 {
-    if byte(list, 0, 0) != 0 {
-        return Err(Refusal::ListRecord { record: 0 });
-    }
-    if byte(list, 0, 2) != 0 {
-        return Err(Refusal::ListRecord { record: 0 });
-    }
-    if byte(list, 0, 3) != 0 {
+    if byte(list, 0, 0) != 0 || byte(list, 0, 2) != 0 || byte(list, 0, 3) != 0 {
         return Err(Refusal::ListRecord { record: 0 });
     }
     Ok(())
@@ -51,13 +39,7 @@ pub(crate) fn check_link(list: &[u8], i: usize) -> Result<(), Refusal>
 fn zeros_right(gate: u8, second: u8, fixed: u8) -> bool
     ensures { result ≡ zeros_right gate second fixed }
 {
-    if fixed != 0 {
-        return false;
-    }
-    if 24 <= gate {
-        return true;
-    }
-    second == 0
+    fixed == 0 && (24 <= gate || second == 0)
 }
 
 fn check_zeros(list: &[u8], i: usize) -> Result<(), Refusal>
@@ -105,10 +87,7 @@ fn check_two(list: &[u8], i: usize) -> Result<(), Refusal>
     ensures { result ≡ two_questions list.now i }
 {
     let second = byte(list, i, 2);
-    let inside = check_qubit(list, i, second);
-    let Ok(()) = inside else {
-        return inside;
-    };
+    check_qubit(list, i, second)?;
     check_different(i, byte(list, i, 1), second)
 }
 
@@ -128,14 +107,8 @@ fn check_qubits(list: &[u8], i: usize) -> Result<(), Refusal>
     requires { OwnRecord list.now i }
     ensures { result ≡ step_qubits_questions list.now i }
 {
-    let first = check_qubit(list, i, byte(list, i, 1));
-    let Ok(()) = first else {
-        return first;
-    };
-    let second = check_second(list, i);
-    let Ok(()) = second else {
-        return second;
-    };
+    check_qubit(list, i, byte(list, i, 1))?;
+    check_second(list, i)?;
     check_link(list, i)
 }
 
@@ -144,13 +117,7 @@ pub(crate) fn check_record(list: &[u8], i: usize) -> Result<(), Refusal>
     requires { OwnRecord list.now i }
     ensures { result ≡ record_questions list.now i }
 {
-    let zeros = check_zeros(list, i);
-    let Ok(()) = zeros else {
-        return zeros;
-    };
-    let gate = check_gate(list, i);
-    let Ok(()) = gate else {
-        return gate;
-    };
+    check_zeros(list, i)?;
+    check_gate(list, i)?;
     check_qubits(list, i)
 }

@@ -11,7 +11,7 @@ use crate::running::write_run;
 use clifford::clifford_rep::display;
 use clifford::questions::record_size;
 use pauli::questions::check_room;
-use pauli::refusal::{Refusal, detail, number};
+use pauli::refusal::Refusal;
 use pauli::text_writer::{put_decimal, put_text};
 
 // The text of a refusal; the answer is its length.
@@ -19,9 +19,9 @@ fn write_refusal(why: Refusal, dst: &mut [u8]) -> usize
     ensures { TextWritten (refusal_text why) dst.old dst.new result }
 {
     let word = put_text(dst, 0, b"refused ");
-    let at = put_decimal(dst, word, number(why));
+    let at = put_decimal(dst, word, why.number());
     let place = put_text(dst, at, b" at ");
-    let end = put_decimal(dst, place, detail(why));
+    let end = put_decimal(dst, place, why.detail());
     put_text(dst, end, b"\n")
 }
 
@@ -37,11 +37,8 @@ fn refusal_length(why: Refusal) -> usize
 pub(crate) fn report_refusal(why: Refusal, out: &mut [u8]) -> Result<usize, Refusal>
     ensures { TextReported (refusal_text why) out.old out.new result }
 {
-    let answer = check_room(refusal_length(why), out.len());
-    match answer {
-        Ok(()) => Ok(write_refusal(why, out)),
-        Err(room) => Err(room),
-    }
+    check_room(refusal_length(why), out.len())?;
+    Ok(write_refusal(why, out))
 }
 
 // The display text of the run of an admitted list, where there is room for it. The work is room for the run's record.

@@ -10,7 +10,6 @@ use lib.ListN.{length, drop_of_length-le}
 use borrow.Author.Rules.{rules}
 use Rattle.pauli.specs.Answers.{written, Outcome}
 use Rattle.pauli.specs.Questions.{◌and_then◌}
-use Rattle.pauli.proofs.Answers.{answers}
 use Rattle.pauli.proofs.Asking.{passed, done_first, done_second}
 use Rattle.clifford.specs.Layout.{width_of, FormedTableau}
 use Rattle.clifford.specs.Questions.{tableau_questions}
@@ -24,15 +23,6 @@ use Rattle.clifford.proofs.Play.{playable-is, playable_yes}
 use Rattle.clifford_laws.proofs.PlayedGates.{played-is, length-played, played-same}
 use Rattle.gate_play.specs.PlayQuestions.{play_questions}
 use Rattle.std.specs.Prelude.{Ok}
-
--- ---- all of them
-pub play-asked : (t : List ℕ) (g q r : ℕ) {n : ℕ} {a b c d o : Outcome} → a ≡ tableau_questions t → b ≡ gate_question 38 g → n ≡ width_of t
-    → c ≡ qubits_questions n g q r → d ≡ (b and_then c) → o ≡ (a and_then d) → o ≡ play_questions t g q r
-unfolding play_questions
-play-asked t g q r ea eb en ec ed eo =
-    eo ∙ ap₂ ◌and_then◌ ea (ed ∙ ap₂ ◌and_then◌ eb (ec ∙ ap (λ (w : ℕ). qubits_questions w g q r) en))
-
-pub ruleset play-questions = (play-asked, rules)
 
 -- ---- what they let by: a tableau, and a gate that has a place in it
 module _ (t : List ℕ) (g q r : ℕ) (e : play_questions t g q r ≡ Ok tt) where
@@ -85,4 +75,4 @@ pub play_done : (t : List ℕ) (g q r : ℕ) {o : Outcome} {d : List ℕ} {b : B
     → d ≡ written (Ok tt) (compose_record (gate_record g q r) t) t
 play_done t g q r e f p = play_written t g q r (sym e ∙ f) p
 
-pub ruleset play_answers = (play_done, played-same, answers, rules)
+pub ruleset play_answers = (play_done, played-same, rules)

@@ -1,5 +1,5 @@
 -- Laws of answers: what each says in numbers, and what an answer made from questions is.
-use Rattle.std.proofs.Common.{◌≡◌, ℕ, List, ◌++◌, length, drop, sym, refl, ap, ◌∙◌, Ok, Err, IsErrAnd}
+use Rattle.std.proofs.Common.{◌≡◌, ℕ, List, ◌++◌, length, drop, sym, refl, ap, ◌∙◌, Ok, Err, IsErrAnd, Bool, true, is_err}
 use Rattle.pauli.specs.declared.refusal.Refusal.{Refusal}
 use Rattle.pauli.specs.Answers.{Answer, Outcome, refusal_number, refusal_detail, reply, refusal_reply, reply_to, reply_of, no_value, number_value, answer_to, written, Answered, Written, NumberWritten}
 
@@ -85,6 +85,17 @@ unfolding written
 number-exit n out d h e =
     let told = answered-exit {value = number_value} n h e in
     record { answer = told.answer; told = told.told; bytes = ap (λ z. written z out d) h }
+
+-- ---- the same, for `grind`: every argument stands in the conclusion
+pub written_given : {q : Outcome} {out d e : List ℕ} {r : Outcome} → r ≡ q → e ≡ written r out d → Written q out d e r
+written_given {q} {out} {d} p w = record { answer = p; told = ap (reply_of no_value) p ∙ outcome-told q; bytes = w ∙ ap (λ z. written z out d) p }
+
+pub none_written : (r : Outcome) (out d : List ℕ) → is_err r ≡ true → written r out d ≡ d
+unfolding written
+none_written (Ok tt) out d h = cc
+none_written (Err x) out d h = refl
+
+pub ruleset by_answers = (written_given, none_written)
 
 -- the two ways in which a function that matches on what its questions came to ends
 pub answered-by : {T : Type 0} {value : T → ℕ} {q r : Outcome} {x y : T} → r ≡ q → r ≡ Ok tt → y ≡ x → Answered value q x (Ok y)

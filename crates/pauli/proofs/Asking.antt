@@ -5,7 +5,7 @@ use Rattle.pauli_group.specs.PauliString.{PauliString, qubits}
 use Rattle.pauli.specs.declared.refusal.Refusal.{Refusal}
 use Rattle.pauli.specs.declared.refusal.Refusal.TheVariants.{Length, BadByte, Qubit, Room}
 use Rattle.std.specs.Result.{result_from_control_flow}
-use Rattle.pauli.proofs.Answers.{exit-is}
+use Rattle.pauli.proofs.Answers.{exit-is, by_answers}
 use Rattle.pauli.specs.Answers.{written, Outcome}
 use Rattle.pauli.specs.Layout.{WellFormed, string_record, string_of}
 use Rattle.pauli.specs.Questions.{ask, ◌and_then◌, first_bad, bytes_question, byte_question, string_questions, qubit_question, room_question}
@@ -53,6 +53,17 @@ first_not y h = ap (λ z. z and_then y) h
 pub first_done : {q y z : Outcome} → Ok tt ≡ q → z ≡ y → z ≡ q and_then y
 unfolding ◌and_then◌
 first_done {y = y} h e = e ∙ ap (λ z. z and_then y) h
+
+-- the same as equations
+pub then_ok : {q : Outcome} (y : Outcome) → q ≡ Ok tt → q and_then y ≡ y
+unfolding ◌and_then◌
+then_ok y h = ap (λ z. z and_then y) h
+
+pub then_err : {q : Outcome} {x : Refusal} (y : Outcome) → q ≡ Err x → q and_then y ≡ Err x
+unfolding ◌and_then◌
+then_err y h = ap (λ z. z and_then y) h
+
+pub ruleset by_questions = (then_ok, then_err, by_answers)
 
 pub ruleset in_order = (branch_done, exit_not, first_not, first_done)
 

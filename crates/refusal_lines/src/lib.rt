@@ -162,9 +162,6 @@ fn line_length(number: u64, detail: u64, width: u64) -> usize
 pub fn refusal_line(number: u64, detail: u64, width: u64, dst: &mut [u8]) -> Result<usize, Refusal>
     ensures { LineWritten number detail width dst.old dst.new result }
 {
-    let answer = check_room(line_length(number, detail, width), dst.len());
-    match answer {
-        Ok(()) => Ok(write_line(number, detail, width, dst)),
-        Err(room) => Err(room),
-    }
+    check_room(line_length(number, detail, width), dst.len())?;
+    Ok(write_line(number, detail, width, dst))
 }
