@@ -15,7 +15,7 @@ use Rattle.pauli_group.proofs.Products.{count_changed}
 use Rattle.pauli.specs.declared.refusal.Refusal.{Refusal}
 use Rattle.pauli.specs.declared.refusal.Refusal.TheVariants.{Link, Loop}
 use Rattle.pauli.specs.Questions.{◌and_then◌}
-use Rattle.pauli.proofs.Asking.{asked_yes, asked_no, ask_done, refused, passed, done_second}
+use Rattle.pauli.proofs.Asking.{first_not, asked_yes, asked_no, ask_done, refused, passed, done_second}
 use Rattle.gate_list.specs.Lists.{record_count, byte_of, next_of}
 use Rattle.gate_list.specs.ListQuestions.{link_question, zeros_question, step_gate_question, step_qubit_question, step_second_questions, record_questions, is_met, chain_questions}
 use Rattle.gate_list.specs.Inside.Reading.{OwnRecord, BeforeChain, links_question}
@@ -154,8 +154,8 @@ module _ {l m : List ℕ} {q : Outcome} {k i : ℕ} (w : Walking l q m k) (ei : 
         at-link ∙ ap (λ (n : ℕ). chain_questions l w.met n i) fewer
         ∙ chain_more l w.met then_left i h (w.marks i ∙ ap not (eq-eqb (get_or m i 0) 0 e))
 
-    pub walking_refused : {r : Outcome} {x : Refusal} → r ≡ record_questions l i → r ≡ Err x → r ≡ q
-    walking_refused er ex = refused (chain_questions l (i ∷ w.met) then_left (next_of l i)) er ex ∙ sym asked-next
+    pub walking_refused : {x : Refusal} → Err x ≡ record_questions l i → Err x ≡ q
+    walking_refused er = first_not (chain_questions l (i ∷ w.met) then_left (next_of l i)) er ∙ sym asked-next
 
     pub walking_step : {r : Outcome} → r ≡ record_questions l i → r ≡ Ok tt → Walking l q (set m i 1) i
     unfolding is_met

@@ -11,7 +11,7 @@ use borrow.Author.Tests.{eqb-true, leb-true}
 use Rattle.pauli.specs.declared.refusal.Refusal.{Refusal}
 use Rattle.pauli.specs.declared.refusal.Refusal.TheVariants.{ListLength}
 use Rattle.pauli.specs.Questions.{◌and_then◌}
-use Rattle.pauli.proofs.Asking.{ask_done, refused, passed}
+use Rattle.pauli.proofs.Asking.{first_done, ask_done, refused, passed}
 use Rattle.clifford_group.proofs.Valid.{and_both}
 use Rattle.clifford.specs.Questions.{width_question}
 use Rattle.gate_list.specs.Lists.{record_count, list_width}
@@ -65,9 +65,9 @@ pub list_short : (l : List ℕ) {q : Outcome} {x : Refusal} → q ≡ size_quest
 unfolding list_questions
 list_short l e h = refused _ e h
 
-pub list_asked : (l : List ℕ) {n : ℕ} {q a b c x y : Outcome} → q ≡ size_question l → q ≡ Ok tt → ByteSized (list_width l) n → a ≡ width_question n
-    → b ≡ head_question l → c ≡ links_question l → x ≡ b and_then c → y ≡ a and_then x → y ≡ list_questions l
+pub list_asked : (l : List ℕ) {n : ℕ} {q : Outcome} → Ok tt ≡ size_question l → ByteSized (list_width l) n → Ok tt ≡ width_question n
+    → Ok tt ≡ head_question l → q ≡ links_question l → q ≡ list_questions l
 unfolding list_questions links_question
-list_asked l e h o ea eb ec ex ey = passed e h (ey ∙ ap₂ ◌and_then◌ (ea ∙ ap width_question o.is) (ex ∙ ap₂ ◌and_then◌ eb ec))
+list_asked l h o hw hh e = first_done h (first_done (hw ∙ ap width_question o.is) (first_done hh e))
 
 pub ruleset list_asks = (head-own, list_unmarked, list_short, list_asked, rules)

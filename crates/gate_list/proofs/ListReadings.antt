@@ -9,7 +9,7 @@ use Rattle.pauli_group.proofs.PaperForms.{both}
 use Rattle.clifford_gates.specs.Gates.{All}
 use Rattle.clifford_gates.proofs.GateTables.{all_of}
 use Rattle.pauli.specs.declared.refusal.Reply.{Reply}
-use Rattle.pauli.specs.Answers.{refusal_number, refusal_detail, reply, refusal_reply, outcome_reply}
+use Rattle.pauli.specs.Answers.{refusal_number, refusal_detail, reply, refusal_reply, reply_of, no_value}
 use Rattle.pauli.specs.Questions.{ask, ◌and_then◌, room_question}
 use Rattle.clifford.specs.Layout.{row_length, record_length, letter_place}
 use Rattle.clifford.specs.Questions.{width_question}
@@ -60,7 +60,7 @@ readings =
     ∷ []
 
 abbrev told : Reading → Reply
-told r = outcome_reply (run_answer r.list r.room)
+told r = reply_of no_value (run_answer r.list r.room)
 
 abbrev test : Reading → Bool
 test r = eqb (told r).number r.number && eqb (told r).value r.detail
@@ -74,7 +74,7 @@ reads r t =
     ap₂ reply (eqb→eq (told r).number r.number parts.0) (eqb→eq (told r).value r.detail parts.1)
 
 pub readings_hold : All Reads readings
-unfolding outcome_reply refusal_reply refusal_number refusal_detail ask ◌and_then◌ room_question row_length record_length width_question qubits record_count byte_of list_width next_of size_question head_question link_question zeros_question step_gate_question step_qubit_question step_second_questions record_questions is_met chain_questions list_questions run_answer letter_place
+unfolding reply_of refusal_reply refusal_number refusal_detail ask ◌and_then◌ room_question row_length record_length width_question qubits record_count byte_of list_width next_of size_question head_question link_question zeros_question step_gate_question step_qubit_question step_second_questions record_questions is_met chain_questions list_questions run_answer letter_place
 readings_hold = all_of test reads readings tt
 
 -- the gates of the example

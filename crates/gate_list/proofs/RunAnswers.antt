@@ -11,8 +11,8 @@ use Rattle.pauli.specs.declared.refusal.Refusal.{Refusal}
 use Rattle.pauli_group.specs.PauliString.{qubits}
 use Rattle.pauli.specs.Answers.{written, Written, NumberWritten, Outcome}
 use Rattle.pauli.specs.Questions.{◌and_then◌, room_question}
-use Rattle.pauli.proofs.Asking.{refused, passed, has_room, done_first, done_second, room-is}
-use Rattle.pauli.proofs.Answers.{answers_by, number-by}
+use Rattle.pauli.proofs.Asking.{first_done, refused, passed, has_room, done_first, done_second, room-is}
+use Rattle.pauli.proofs.Answers.{number-done}
 use Rattle.clifford.specs.Layout.{record_length}
 use Rattle.clifford.specs.Playing.{letter_tables, pair_tables}
 use Rattle.clifford.specs.Questions.{identity_answer}
@@ -36,15 +36,10 @@ own_size l {n} done en ek =
     ek ∙ ap record_length same
 
 -- so the room is asked for after the list alone
-pub run_asked : (l : List ℕ) (room : ℕ) {n k : ℕ} {q r a : Outcome} → q ≡ list_questions l → ByteSized (list_width l) n
-    → k ≡ record_length (min n 128) → r ≡ room_question k room → a ≡ q and_then r
-    → a ≡ run_answer l room
+pub run_asked : (l : List ℕ) (room : ℕ) {n k : ℕ} {r : Outcome} → Ok tt ≡ list_questions l → ByteSized (list_width l) n
+    → k ≡ record_length (min n 128) → r ≡ room_question k room → r ≡ run_answer l room
 unfolding run_answer
-run_asked l room {n} {k} {q} {r} eq en ek er ea = ea ∙ ap (λ x. x and_then r) eq ∙ by (list_questions l) refl
-  where
-    by : (x : Outcome) → list_questions l ≡ x → list_questions l and_then r ≡ list_questions l and_then room_question (record_length (list_width l)) room
-    by (Ok tt) h = ap (λ y. list_questions l and_then y) (er ∙ ap (λ (j : ℕ). room_question j room) (own_size l h en ek))
-    by (Err y) h = sym (refused r refl h) ∙ refused _ refl h
+run_asked l room eq en ek er = first_done eq (er ∙ ap (λ (j : ℕ). room_question j room) (own_size l (sym eq) en ek))
 
 pub ruleset run_asks = (run_asked, rules)
 
@@ -110,8 +105,8 @@ run_admits {l} {d} e h =
     let all = sym e ∙ h in
     record { asked = done_first _ _ all; room = room-is _ (length d) (done_second (list_questions l) _ all) }
 
-pub run_done : {l d e : List ℕ} {q r : Outcome} {n : ℕ} → r ≡ q → r ≡ Ok tt → RunWritten l d e n → NumberWritten q (step_count l) (run_record l) d e (Ok n)
-run_done p h w = number-by p h w.steps w.bytes
+pub run_done : {l d e : List ℕ} {q : Outcome} {n : ℕ} → Ok tt ≡ q → RunWritten l d e n → NumberWritten q (step_count l) (run_record l) d e (Ok n)
+run_done h w = number-done h w.steps w.bytes
 
 pub run_same : {l d e : List ℕ} {n : ℕ} → RunRoom l d → RunWritten l d e n → length e ≡ length d
 unfolding written
@@ -119,4 +114,4 @@ run_same {l} {d} o w =
     ap length w.bytes ∙ length-append (run_record l) (drop (length (run_record l)) d)
     ∙ omega (arith, run_length l o.asked, o.room, length-drop (length (run_record l)) d)
 
-pub ruleset run_answers = (run_admits, run_done, answers_by, run_same, rules)
+pub ruleset run_answers = (run_admits, run_done, run_same, rules)

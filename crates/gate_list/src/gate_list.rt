@@ -17,6 +17,7 @@ use pauli::questions::check_room;
 use pauli::refusal::Refusal;
 
 // All questions in their order, with a mark for each record, none of them set.
+#[tactic(auto, using(pauli::proofs::Asking::by_questions), unfolding(crate::specs::ListQuestions::list_questions))]
 fn check_list_with(list: &[u8], met: &mut [u8]) -> Result<(), Refusal>
     requires { NoneMet met.old }
     ensures { result ≡ list_questions list.now }
@@ -36,6 +37,7 @@ pub fn check_list(list: &[u8]) -> Result<(), Refusal>
 }
 
 // The questions of a run: those of the list, and room for the record last.
+#[tactic(auto, using(pauli::proofs::Asking::by_questions), unfolding(crate::specs::Runs::run_answer))]
 fn run_answer(list: &[u8], room: usize) -> Result<(), Refusal>
     ensures { result ≡ run_answer list.now room }
 {

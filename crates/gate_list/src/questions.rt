@@ -82,6 +82,7 @@ fn check_different(i: usize, first: u8, second: u8) -> Result<(), Refusal>
 }
 
 // The second qubit of a gate on two.
+#[tactic(auto, using(pauli::proofs::Asking::by_questions), unfolding(crate::specs::Inside::Reading::two_questions))]
 fn check_two(list: &[u8], i: usize) -> Result<(), Refusal>
     requires { OwnRecord list.now i }
     ensures { result ≡ two_questions list.now i }
@@ -103,6 +104,7 @@ fn check_second(list: &[u8], i: usize) -> Result<(), Refusal>
 }
 
 // The qubits of record i, and then its link.
+#[tactic(auto, using(pauli::proofs::Asking::by_questions), unfolding(crate::specs::Inside::Reading::step_qubits_questions))]
 fn check_qubits(list: &[u8], i: usize) -> Result<(), Refusal>
     requires { OwnRecord list.now i }
     ensures { result ≡ step_qubits_questions list.now i }
@@ -113,6 +115,7 @@ fn check_qubits(list: &[u8], i: usize) -> Result<(), Refusal>
 }
 
 // All of record i, in the order of the questions. A list asks this of each record: no question is worked out after a refusal.
+#[tactic(auto, using(pauli::proofs::Asking::by_questions), unfolding(crate::specs::ListQuestions::record_questions))]
 pub(crate) fn check_record(list: &[u8], i: usize) -> Result<(), Refusal>
     requires { OwnRecord list.now i }
     ensures { result ≡ record_questions list.now i }

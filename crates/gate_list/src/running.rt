@@ -51,7 +51,8 @@ pub(crate) fn write_run(list: &[u8], dst: &mut [u8]) -> usize
     ensures { RunWritten list.now dst.old dst.new result }
 {
     let n = width(list);
-    identity(n, dst);
+    // An admitted list has an identity of its width, and room for it.
+    let _ = identity(n, dst);
     let ones = letter_tables();
     let twos = pair_tables();
     let length = record_size(n);

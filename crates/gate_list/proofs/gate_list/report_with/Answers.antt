@@ -1,0 +1,9 @@
+-- `gate_list::report_with` meets its contract.
+use Rattle.gate_list.proofs.RunReports.{reports}
+use Rattle.gate_list.proofs.gate_list.report_with.Goals as goal
+
+pub returns-in-Ok : goal.returns-in-Ok
+returns-in-Ok c = search reports
+
+pub returns-in-Err : goal.returns-in-Err
+returns-in-Err c = search reports

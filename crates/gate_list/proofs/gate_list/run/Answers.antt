@@ -1,0 +1,13 @@
+-- `gate_list::run` meets its contract: the questions, and the run where they let it by.
+use Rattle.pauli.proofs.Answers.{number-exit}
+use Rattle.gate_list.proofs.RunAnswers.{run_done, run_answers}
+use Rattle.gate_list.proofs.gate_list.run.Goals as goal
+
+pub returns-in_err-run_answer : goal.returns-in_err-run_answer
+returns-in_err-run_answer c = number-exit _ _ _ c.in_err-run_answer.ensures c.from_residual.ensures.1
+
+pub write_run-requires : goal.write_run-requires
+write_run-requires c = search (run_answers, c.in_ok-run_answer.was)
+
+pub returns : goal.returns
+returns c = run_done c.in_ok-run_answer.ensures c.write_run.ensures
