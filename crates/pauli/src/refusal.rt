@@ -1,6 +1,8 @@
 // Refusals, and what C is told of an answer. specs/Answers.antt gives the number and the value of each case.
 ghost use Rattle.std.specs.Prelude.{◌≡◌, ℕ, ◌<◌, ◌^◌};
-ghost use Rattle.pauli.specs.Answers.{refusal_number, refusal_detail, no_value, number_value, one_or_zero, refusal_reply, reply_of};
+ghost use Rattle.pauli.specs.Answers.{refusal_number, refusal_detail, no_value, number_value, one_or_zero, letter_value, gate_value, refusal_reply, reply_of};
+
+use crate::algebra::PhasedLetter;
 
 // A question that was answered no, with the values that its answer names: of a list's step its record, with the number of the gate's
 // own question.
@@ -144,6 +146,27 @@ impl Told for bool {
 
     fn told(self) -> u64 {
         u64::from(self)
+    }
+}
+
+// A product of letters.
+impl Told for PhasedLetter {
+    ghost value = { letter_value };
+
+    fn told(self) -> u64 {
+        4 * u64::from(self.0) + u64::from(self.1)
+    }
+}
+
+// A gate, where there is one.
+impl Told for Option<u8> {
+    ghost value = { gate_value };
+
+    fn told(self) -> u64 {
+        match self {
+            Some(gate) => u64::from(gate),
+            None => 255,
+        }
     }
 }
 

@@ -20,12 +20,7 @@ use pauli::{QUBITS, STRING_LENGTH};
 fn check_row_qubit(a: &[u8], b: &[u8], qubit: usize) -> Result<(), Refusal>
     ensures { result ≡ slot_question qubit (max (width_of a.now) (width_of b.now)) }
 {
-    let n = width(a);
-    let m = width(b);
-    if n < m {
-        return check_slot(qubit, m);
-    }
-    check_slot(qubit, n)
+    check_slot(qubit, width(a).max(width(b)))
 }
 
 // The letter on this qubit and I on the others; I alone where a string has no such qubit.

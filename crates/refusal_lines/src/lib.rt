@@ -123,10 +123,7 @@ fn put_width_error(dst: &mut [u8], at: usize, detail: u64, width: u64) -> usize
 fn is_width_error(number: u64) -> bool
     ensures { result ≡ is_width_error number }
 {
-    match number {
-        14..=15 => true,
-        _ => false,
-    }
+    matches!(number, 14 | 15)
 }
 
 // What follows the number.

@@ -3,9 +3,8 @@
 // other buffer.
 #![tactic(auto)]
 
-ghost use Rattle.pauli.specs.Answers.{outcome_reply, product_reply, byte_reply, flag_reply, count_reply, letter_reply};
+ghost use Rattle.pauli.specs.Answers.{no_value, number_value, one_or_zero, letter_value, gate_value};
 ghost use Rattle.pauli.specs.Promises.{PhasesMultiplied, PhaseConjugated, PhaseIsReal, LettersMultiplied, PhaseOfString, LetterOfString, PlacesCounted, StringsMultiplied, FromEntries, FromSparseText, FromDenseText, FromText, SparseTextWritten};
-ghost use Rattle.clifford.specs.GateAnswers.{gate_reply};
 ghost use Rattle.clifford.specs.Promises.{IdentityWritten, XImageAt, ZImageAt, XImageSet, ZImageSet, Applied, Composed, Extended, Inverted, ValidityTold, SupportWritten, FromPauliString, Displayed, SingleQubitCliffordWritten, GateWritten, OneQubitGateWritten, GatesComposed, GateInverted, GateNamed};
 ghost use Rattle.clifford_group.specs.Conjugation.{of_x, of_z};
 ghost use Rattle.preview.specs.Promises.{Previewed};
@@ -17,282 +16,282 @@ ghost use Rattle.renetcleat.specs.Replies.{Replied};
 use clifford::{clifford as gates, clifford_rep};
 use gate_list::gate_list as lists;
 use pauli::refusal::Reply;
-use pauli::{algebra, pauli_string, quarter_phase, refusal};
+use pauli::{algebra, pauli_string, quarter_phase};
 
 // ---- phases and letters
 
 #[unsafe(no_mangle)]
 pub extern "C" fn rc_phase_product(a: u8, b: u8) -> Reply
-    ensures { Replied byte_reply (PhasesMultiplied a b) result }
+    ensures { Replied number_value (PhasesMultiplied a b) result }
 {
-    refusal::byte_reply(quarter_phase::multiply(a, b))
+    Reply::from(quarter_phase::multiply(a, b))
 }
 
 #[unsafe(no_mangle)]
 pub extern "C" fn rc_phase_conjugate(phase: u8) -> Reply
-    ensures { Replied byte_reply (PhaseConjugated phase) result }
+    ensures { Replied number_value (PhaseConjugated phase) result }
 {
-    refusal::byte_reply(quarter_phase::conjugate(phase))
+    Reply::from(quarter_phase::conjugate(phase))
 }
 
 #[unsafe(no_mangle)]
 pub extern "C" fn rc_phase_is_real(phase: u8) -> Reply
-    ensures { Replied flag_reply (PhaseIsReal phase) result }
+    ensures { Replied one_or_zero (PhaseIsReal phase) result }
 {
-    refusal::flag_reply(quarter_phase::is_real(phase))
+    Reply::from(quarter_phase::is_real(phase))
 }
 
 #[unsafe(no_mangle)]
 pub extern "C" fn rc_letter_product(a: u8, b: u8) -> Reply
-    ensures { Replied letter_reply (LettersMultiplied a b) result }
+    ensures { Replied letter_value (LettersMultiplied a b) result }
 {
-    refusal::letter_reply(algebra::letter_product(a, b))
+    Reply::from(algebra::letter_product(a, b))
 }
 
 // ---- strings
 
 #[unsafe(no_mangle)]
 pub extern "C" fn rc_phase(s: &[u8]) -> Reply
-    ensures { Replied byte_reply (PhaseOfString s.now) result }
+    ensures { Replied number_value (PhaseOfString s.now) result }
 {
-    refusal::byte_reply(pauli_string::phase(s))
+    Reply::from(pauli_string::phase(s))
 }
 
 #[unsafe(no_mangle)]
 pub extern "C" fn rc_get(s: &[u8], qubit: usize) -> Reply
-    ensures { Replied byte_reply (LetterOfString s.now qubit) result }
+    ensures { Replied number_value (LetterOfString s.now qubit) result }
 {
-    refusal::byte_reply(pauli_string::get(s, qubit))
+    Reply::from(pauli_string::get(s, qubit))
 }
 
 #[unsafe(no_mangle)]
 pub extern "C" fn rc_anticommuting_places(s: &[u8], t: &[u8]) -> Reply
-    ensures { Replied count_reply (PlacesCounted s.now t.now) result }
+    ensures { Replied number_value (PlacesCounted s.now t.now) result }
 {
-    refusal::count_reply(pauli_string::anticommuting_places(s, t))
+    Reply::from(pauli_string::anticommuting_places(s, t))
 }
 
 #[unsafe(no_mangle)]
 pub extern "C" fn rc_mul(s: &[u8], t: &[u8], dst: &mut [u8]) -> Reply
-    ensures { Replied product_reply (StringsMultiplied s.now t.now dst.old dst.new) result }
+    ensures { Replied number_value (StringsMultiplied s.now t.now dst.old dst.new) result }
 {
-    refusal::product_reply(algebra::mul(s, t, dst))
+    Reply::from(algebra::mul(s, t, dst))
 }
 
 #[unsafe(no_mangle)]
 pub extern "C" fn rc_with_phase_and_paulis(phase: u8, entries: &[u8], dst: &mut [u8]) -> Reply
-    ensures { Replied outcome_reply (FromEntries phase entries.now dst.old dst.new) result }
+    ensures { Replied no_value (FromEntries phase entries.now dst.old dst.new) result }
 {
-    refusal::outcome_reply(pauli_string::with_phase_and_paulis(phase, entries, dst))
+    Reply::from(pauli_string::with_phase_and_paulis(phase, entries, dst))
 }
 
 #[unsafe(no_mangle)]
 pub extern "C" fn rc_from_sparse_str(text: &[u8], dst: &mut [u8]) -> Reply
-    ensures { Replied outcome_reply (FromSparseText text.now dst.old dst.new) result }
+    ensures { Replied no_value (FromSparseText text.now dst.old dst.new) result }
 {
-    refusal::outcome_reply(pauli_string::from_sparse_str(text, dst))
+    Reply::from(pauli_string::from_sparse_str(text, dst))
 }
 
 #[unsafe(no_mangle)]
 pub extern "C" fn rc_from_dense_str(text: &[u8], dst: &mut [u8]) -> Reply
-    ensures { Replied outcome_reply (FromDenseText text.now dst.old dst.new) result }
+    ensures { Replied no_value (FromDenseText text.now dst.old dst.new) result }
 {
-    refusal::outcome_reply(pauli_string::from_dense_str(text, dst))
+    Reply::from(pauli_string::from_dense_str(text, dst))
 }
 
 #[unsafe(no_mangle)]
 pub extern "C" fn rc_from_str(text: &[u8], dst: &mut [u8]) -> Reply
-    ensures { Replied outcome_reply (FromText text.now dst.old dst.new) result }
+    ensures { Replied no_value (FromText text.now dst.old dst.new) result }
 {
-    refusal::outcome_reply(pauli_string::from_str(text, dst))
+    Reply::from(pauli_string::from_str(text, dst))
 }
 
 #[unsafe(no_mangle)]
 pub extern "C" fn rc_to_sparse_str(s: &[u8], dst: &mut [u8]) -> Reply
-    ensures { Replied count_reply (SparseTextWritten s.now dst.old dst.new) result }
+    ensures { Replied number_value (SparseTextWritten s.now dst.old dst.new) result }
 {
-    refusal::count_reply(pauli_string::to_sparse_str(s, dst))
+    Reply::from(pauli_string::to_sparse_str(s, dst))
 }
 
 // ---- tableaux
 
 #[unsafe(no_mangle)]
 pub extern "C" fn rc_identity(n: usize, dst: &mut [u8]) -> Reply
-    ensures { Replied outcome_reply (IdentityWritten n dst.old dst.new) result }
+    ensures { Replied no_value (IdentityWritten n dst.old dst.new) result }
 {
-    refusal::outcome_reply(clifford_rep::identity(n, dst))
+    Reply::from(clifford_rep::identity(n, dst))
 }
 
 #[unsafe(no_mangle)]
 pub extern "C" fn rc_x_image(t: &[u8], slot: usize) -> Reply
-    ensures { Replied count_reply (XImageAt t.now slot) result }
+    ensures { Replied number_value (XImageAt t.now slot) result }
 {
-    refusal::count_reply(clifford_rep::x_image_offset(t, slot))
+    Reply::from(clifford_rep::x_image_offset(t, slot))
 }
 
 #[unsafe(no_mangle)]
 pub extern "C" fn rc_z_image(t: &[u8], slot: usize) -> Reply
-    ensures { Replied count_reply (ZImageAt t.now slot) result }
+    ensures { Replied number_value (ZImageAt t.now slot) result }
 {
-    refusal::count_reply(clifford_rep::z_image_offset(t, slot))
+    Reply::from(clifford_rep::z_image_offset(t, slot))
 }
 
 #[unsafe(no_mangle)]
 pub extern "C" fn rc_set_x_image(t: &mut [u8], slot: usize, s: &[u8]) -> Reply
-    ensures { Replied outcome_reply (XImageSet slot s.now t.old t.new) result }
+    ensures { Replied no_value (XImageSet slot s.now t.old t.new) result }
 {
-    refusal::outcome_reply(clifford_rep::set_x_image(t, slot, s))
+    Reply::from(clifford_rep::set_x_image(t, slot, s))
 }
 
 #[unsafe(no_mangle)]
 pub extern "C" fn rc_set_z_image(t: &mut [u8], slot: usize, s: &[u8]) -> Reply
-    ensures { Replied outcome_reply (ZImageSet slot s.now t.old t.new) result }
+    ensures { Replied no_value (ZImageSet slot s.now t.old t.new) result }
 {
-    refusal::outcome_reply(clifford_rep::set_z_image(t, slot, s))
+    Reply::from(clifford_rep::set_z_image(t, slot, s))
 }
 
 #[unsafe(no_mangle)]
 pub extern "C" fn rc_apply(t: &[u8], s: &[u8], dst: &mut [u8]) -> Reply
-    ensures { Replied outcome_reply (Applied t.now s.now dst.old dst.new) result }
+    ensures { Replied no_value (Applied t.now s.now dst.old dst.new) result }
 {
-    refusal::outcome_reply(clifford_rep::apply(t, s, dst))
+    Reply::from(clifford_rep::apply(t, s, dst))
 }
 
 #[unsafe(no_mangle)]
 pub extern "C" fn rc_compose(a: &[u8], b: &[u8], dst: &mut [u8]) -> Reply
-    ensures { Replied outcome_reply (Composed a.now b.now dst.old dst.new) result }
+    ensures { Replied no_value (Composed a.now b.now dst.old dst.new) result }
 {
-    refusal::outcome_reply(clifford_rep::compose(a, b, dst))
+    Reply::from(clifford_rep::compose(a, b, dst))
 }
 
 #[unsafe(no_mangle)]
 pub extern "C" fn rc_composed_x_image(a: &[u8], b: &[u8], qubit: usize, dst: &mut [u8]) -> Reply
-    ensures { Replied outcome_reply (Previewed of_x a.now b.now qubit dst.old dst.new) result }
+    ensures { Replied no_value (Previewed of_x a.now b.now qubit dst.old dst.new) result }
 {
-    refusal::outcome_reply(preview::composed_x_image(a, b, qubit, dst))
+    Reply::from(preview::composed_x_image(a, b, qubit, dst))
 }
 
 #[unsafe(no_mangle)]
 pub extern "C" fn rc_composed_z_image(a: &[u8], b: &[u8], qubit: usize, dst: &mut [u8]) -> Reply
-    ensures { Replied outcome_reply (Previewed of_z a.now b.now qubit dst.old dst.new) result }
+    ensures { Replied no_value (Previewed of_z a.now b.now qubit dst.old dst.new) result }
 {
-    refusal::outcome_reply(preview::composed_z_image(a, b, qubit, dst))
+    Reply::from(preview::composed_z_image(a, b, qubit, dst))
 }
 
 #[unsafe(no_mangle)]
 pub extern "C" fn rc_extended_to(t: &[u8], n: usize, dst: &mut [u8]) -> Reply
-    ensures { Replied outcome_reply (Extended t.now n dst.old dst.new) result }
+    ensures { Replied no_value (Extended t.now n dst.old dst.new) result }
 {
-    refusal::outcome_reply(clifford_rep::extended_to(t, n, dst))
+    Reply::from(clifford_rep::extended_to(t, n, dst))
 }
 
 #[unsafe(no_mangle)]
 pub extern "C" fn rc_inverse(t: &[u8], dst: &mut [u8]) -> Reply
-    ensures { Replied outcome_reply (Inverted t.now dst.old dst.new) result }
+    ensures { Replied no_value (Inverted t.now dst.old dst.new) result }
 {
-    refusal::outcome_reply(clifford_rep::inverse(t, dst))
+    Reply::from(clifford_rep::inverse(t, dst))
 }
 
 #[unsafe(no_mangle)]
 pub extern "C" fn rc_is_valid(t: &[u8]) -> Reply
-    ensures { Replied flag_reply (ValidityTold t.now) result }
+    ensures { Replied one_or_zero (ValidityTold t.now) result }
 {
-    refusal::flag_reply(clifford_rep::is_valid(t))
+    Reply::from(clifford_rep::is_valid(t))
 }
 
 #[unsafe(no_mangle)]
 pub extern "C" fn rc_support_qubits(t: &[u8], dst: &mut [u8]) -> Reply
-    ensures { Replied count_reply (SupportWritten t.now dst.old dst.new) result }
+    ensures { Replied number_value (SupportWritten t.now dst.old dst.new) result }
 {
-    refusal::count_reply(clifford_rep::support_qubits(t, dst))
+    Reply::from(clifford_rep::support_qubits(t, dst))
 }
 
 #[unsafe(no_mangle)]
 pub extern "C" fn rc_from_pauli_string(s: &[u8], dst: &mut [u8]) -> Reply
-    ensures { Replied outcome_reply (FromPauliString s.now dst.old dst.new) result }
+    ensures { Replied no_value (FromPauliString s.now dst.old dst.new) result }
 {
-    refusal::outcome_reply(clifford_rep::from_pauli_string(s, dst))
+    Reply::from(clifford_rep::from_pauli_string(s, dst))
 }
 
 #[unsafe(no_mangle)]
 pub extern "C" fn rc_display(t: &[u8], dst: &mut [u8]) -> Reply
-    ensures { Replied count_reply (Displayed t.now dst.old dst.new) result }
+    ensures { Replied number_value (Displayed t.now dst.old dst.new) result }
 {
-    refusal::count_reply(clifford_rep::display(t, dst))
+    Reply::from(clifford_rep::display(t, dst))
 }
 
 // ---- gates
 
 #[unsafe(no_mangle)]
 pub extern "C" fn rc_single_qubit_clifford(index: usize, qubit: usize, dst: &mut [u8]) -> Reply
-    ensures { Replied outcome_reply (SingleQubitCliffordWritten index qubit dst.old dst.new) result }
+    ensures { Replied no_value (SingleQubitCliffordWritten index qubit dst.old dst.new) result }
 {
-    refusal::outcome_reply(gates::single_qubit_clifford(index, qubit, dst))
+    Reply::from(gates::single_qubit_clifford(index, qubit, dst))
 }
 
 #[unsafe(no_mangle)]
 pub extern "C" fn rc_on_qubits(gate: u8, q0: usize, q1: usize, dst: &mut [u8]) -> Reply
-    ensures { Replied outcome_reply (GateWritten gate q0 q1 dst.old dst.new) result }
+    ensures { Replied no_value (GateWritten gate q0 q1 dst.old dst.new) result }
 {
-    refusal::outcome_reply(gates::on_qubits(gate, q0, q1, dst))
+    Reply::from(gates::on_qubits(gate, q0, q1, dst))
 }
 
 #[unsafe(no_mangle)]
 pub extern "C" fn rc_on_qubit(gate: u8, q: usize, dst: &mut [u8]) -> Reply
-    ensures { Replied outcome_reply (OneQubitGateWritten gate q dst.old dst.new) result }
+    ensures { Replied no_value (OneQubitGateWritten gate q dst.old dst.new) result }
 {
-    refusal::outcome_reply(gates::on_qubit(gate, q, dst))
+    Reply::from(gates::on_qubit(gate, q, dst))
 }
 
 #[unsafe(no_mangle)]
 pub extern "C" fn rc_gate_compose(g: u8, h: u8) -> Reply
-    ensures { Replied gate_reply (GatesComposed g h) result }
+    ensures { Replied gate_value (GatesComposed g h) result }
 {
-    gates::gate_reply(gates::compose(g, h))
+    Reply::from(gates::compose(g, h))
 }
 
 #[unsafe(no_mangle)]
 pub extern "C" fn rc_gate_inverse(g: u8) -> Reply
-    ensures { Replied gate_reply (GateInverted g) result }
+    ensures { Replied gate_value (GateInverted g) result }
 {
-    gates::gate_reply(gates::inverse(g))
+    Reply::from(gates::inverse(g))
 }
 
 #[unsafe(no_mangle)]
 pub extern "C" fn rc_from_clifford_rep(t: &[u8]) -> Reply
-    ensures { Replied gate_reply (GateNamed t.now) result }
+    ensures { Replied gate_value (GateNamed t.now) result }
 {
-    gates::gate_reply(gates::from_clifford_rep(t))
+    Reply::from(gates::from_clifford_rep(t))
 }
 
 #[unsafe(no_mangle)]
 pub extern "C" fn rc_play(t: &mut [u8], gate: u8, q0: usize, q1: usize) -> Reply
-    ensures { Replied outcome_reply (Played gate q0 q1 t.old t.new) result }
+    ensures { Replied no_value (Played gate q0 q1 t.old t.new) result }
 {
-    refusal::outcome_reply(gate_play::play(t, gate, q0, q1))
+    Reply::from(gate_play::play(t, gate, q0, q1))
 }
 
 // ---- lists
 
 #[unsafe(no_mangle)]
 pub extern "C" fn rc_run(list: &[u8], dst: &mut [u8]) -> Reply
-    ensures { Replied count_reply (ListRun list.now dst.old dst.new) result }
+    ensures { Replied number_value (ListRun list.now dst.old dst.new) result }
 {
-    refusal::count_reply(lists::run(list, dst))
+    Reply::from(lists::run(list, dst))
 }
 
 #[unsafe(no_mangle)]
 pub extern "C" fn rc_report(list: &[u8], out: &mut [u8]) -> Reply
-    ensures { Replied count_reply (Reported list.now out.old out.new) result }
+    ensures { Replied number_value (Reported list.now out.old out.new) result }
 {
-    refusal::count_reply(lists::report(list, out))
+    Reply::from(lists::report(list, out))
 }
 
 // ---- refusals, for people
 
 #[unsafe(no_mangle)]
 pub extern "C" fn rc_refusal_line(number: u64, detail: u64, width: u64, dst: &mut [u8]) -> Reply
-    ensures { Replied count_reply (LineWritten number detail width dst.old dst.new) result }
+    ensures { Replied number_value (LineWritten number detail width dst.old dst.new) result }
 {
-    refusal::count_reply(refusal_lines::refusal_line(number, detail, width, dst))
+    Reply::from(refusal_lines::refusal_line(number, detail, width, dst))
 }

@@ -1,0 +1,9 @@
+-- `send_letter` meets its contract.
+use Rattle.preview.proofs.Previews.{sending}
+use Rattle.preview.proofs.send_letter.Goals as goal
+
+pub returns-in-Ok : goal.returns-in-Ok
+returns-in-Ok c = search sending
+
+pub returns : goal.returns
+returns c = search sending
