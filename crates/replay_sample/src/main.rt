@@ -14,7 +14,10 @@ fn copy(a: &[u8], d: &mut [u8]) {
 // Number 0 and the wrapped sum, with `a` at the front of `d`; number 7 where `d` has no room.
 fn sum(case: &mut Case) -> Reply {
     if case.d.len() < case.a.len() {
-        return Reply { number: 7, value: 0 };
+        return Reply {
+            number: 7,
+            value: 0,
+        };
     }
     copy(case.a, case.d);
     Reply {
@@ -35,8 +38,8 @@ fn say(case: &mut Case) -> Reply {
 // Calls the function that the case names.
 fn call(case: &mut Case) -> Option<Reply> {
     match case.name {
-        b"sum" => Some(sum(case)),
-        b"say" => Some(say(case)),
+        "sum" => Some(sum(case)),
+        "say" => Some(say(case)),
         _ => None,
     }
 }

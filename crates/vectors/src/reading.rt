@@ -36,7 +36,7 @@ impl Expected {
 // destination, the reply, and the bytes of the destination after the call.
 #[derive(Drop)]
 pub struct Case<'a, 'd> {
-    pub name: &'a [u8],
+    pub name: &'a str,
     pub a: &'a [u8],
     pub b: &'a [u8],
     pub n1: u64,
@@ -83,10 +83,10 @@ pub struct Room {
     after: [u8; FIELD_ROOM],
 }
 
-fn is_name(s: &[u8]) -> bool {
+fn is_name(s: &str) -> bool {
     !s.is_empty()
-        && s.iter()
-            .all(|c| matches!(*c, b'a'..=b'z' | b'0'..=b'9' | b'_'))
+        && s.bytes()
+            .all(|c| matches!(c, b'a'..=b'z' | b'0'..=b'9' | b'_'))
 }
 
 impl Room {
@@ -117,7 +117,7 @@ impl Room {
     {
         let Room { a, b, d, after } = self;
         let mut fields = line.split(|c| *c == b' ');
-        let name = fields.next()?;
+        let name = str::from_utf8(fields.next()?).ok()?;
         if !is_name(name) {
             return None;
         }
