@@ -1,4 +1,4 @@
 -- What the contracts of `vectors` cite. Assumes nothing.
-pub mod Fits
+pub mod Lines
 pub mod Verdicts
 pub mod Tallies

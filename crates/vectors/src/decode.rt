@@ -1,10 +1,21 @@
 // Numbers and bytes, as a field spells them.
-ghost use Rattle.std.specs.Prelude.{◌<◌, ◌≤◌, length, IfSome};
+ghost use Rattle.std.specs.Prelude.{◌^◌, ◌<◌, ◌≤◌, ◌↔◌, length, slice_index, EachIndex, IfSome, IsTrue};
+ghost use Rattle.std.specs.Char.{IsAsciiDigit};
+ghost use Rattle.std.specs.Option.{SomeIff};
+ghost use Rattle.std.specs.Str.Parse.{IsNumeral, digits_value};
+
+fn is_digits(s: &[u8]) -> bool
+    ensures { IsTrue result ↔ EachIndex s.now (λ k. IsAsciiDigit (slice_index s.now k)) }
+{
+    s.iter().all(|c| c.is_ascii_digit())
+}
 
 // What a decimal numeral says: some digits and nothing else, below 2^64.
-pub fn decimal(s: &[u8]) -> Option<u64> {
+pub fn decimal(s: &[u8]) -> Option<u64>
+    ensures { SomeIff result (IsNumeral 10 s.now × (digits_value 10 s.now < 2 ^ 64)) (digits_value 10 s.now) }
+{
     // `parse` takes a sign too.
-    if !s.iter().all(|c| c.is_ascii_digit()) {
+    if !is_digits(s) {
         return None;
     }
     str::from_utf8(s).ok()?.parse().ok()

@@ -1,6 +1,6 @@
 // One line as a case.
 ghost use Rattle.std.specs.Prelude.{◌≡◌, ◌↔◌, IsTrue, IfSome};
-ghost use Rattle.vectors.specs.Fits.{CaseFits, LineFits};
+ghost use Rattle.vectors.specs.Lines.{CaseFits, IsBlank, IsName, LineFits};
 ghost use Rattle.vectors.specs.Verdicts.{Expects, IsMatch};
 
 use crate::decode::{bytes, decimal};
@@ -83,7 +83,9 @@ pub struct Room {
     after: [u8; FIELD_ROOM],
 }
 
-fn is_name(s: &str) -> bool {
+fn is_name(s: &str) -> bool
+    ensures { IsTrue result ↔ IsName s.now }
+{
     !s.is_empty()
         && s.bytes()
             .all(|c| matches!(c, b'a'..=b'z' | b'0'..=b'9' | b'_'))
@@ -101,7 +103,8 @@ impl Room {
 
     // Reads a line. A case's bytes are then in this room.
     pub fn read<'a>(&'a mut self, line: &'a [u8]) -> Line<'a, 'a>
-        ensures { LineFits result }
+        ensures blank { (result ≡ Line.Blank) ↔ IsBlank line.now }
+        ensures case { LineFits result }
     {
         if matches!(line, [] | [b'#', ..]) {
             return Line::Blank;

@@ -1,17 +1,21 @@
 // A program that replays vectors.
+ghost use Rattle.std.specs.Prelude.{◌≡◌};
+ghost use Rattle.vectors.specs.Verdicts.{IsMatch};
+
 use crate::reading::{Case, Line, Reply, Room};
 use crate::tally::{Failure, Outcome, Tally};
 use std::io;
 use std::io::{BufRead, BufReader};
 
-// What comes of a line.
+// What comes of a line. It is a match only where a call of its case came to what the case expects.
 fn outcome<'a, F: FnMut(&mut Case<'_, '_>) -> Option<Reply>>(
     line: &'a [u8],
     room: &'a mut Room,
     call: &mut F,
 ) -> Outcome
     requires { F.IsAlwaysCallable call.old }
-    ensures { F.IsAlwaysCallable call.new }
+    ensures callable { F.IsAlwaysCallable call.new }
+    ensures matched { result ≡ Outcome.Match → (x : _) × (p : _) × (y : _) × F.step call.old x p y call.new × IsMatch y.now p }
 {
     match room.read(line) {
         Line::Blank => Outcome::Blank,
