@@ -106,12 +106,12 @@ impl Room {
         ensures blank { (result ≡ Line.Blank) ↔ IsBlank line.now }
         ensures case { LineFits result }
     {
-        if matches!(line, [] | [b'#', ..]) {
-            return Line::Blank;
-        }
-        match self.read_case(line) {
-            Some(case) => Line::Case(case),
-            None => Line::Malformed,
+        match line {
+            [] | [b'#', ..] => Line::Blank,
+            _ => match self.read_case(line) {
+                Some(case) => Line::Case(case),
+                None => Line::Malformed,
+            },
         }
     }
 
@@ -130,23 +130,22 @@ impl Room {
         let n2 = decimal(fields.next()?)?;
         let n3 = decimal(fields.next()?)?;
         let before = fields.next()?;
-        if fields.next()? != b"=".as_slice() {
+        let b"=" = fields.next()? else {
             return None;
-        }
-        let number = fields.next()?;
-        let mut due = before;
-        let expected = if number == b"!".as_slice() {
-            Expected::BadSyntax
-        } else {
-            let reply = Reply {
-                number: decimal(number)?,
-                value: decimal(fields.next()?)?,
-            };
-            let written = fields.next()?;
-            if written != b".".as_slice() {
-                due = written;
+        };
+        let (expected, due) = match fields.next()? {
+            b"!" => (Expected::BadSyntax, before),
+            number => {
+                let reply = Reply {
+                    number: decimal(number)?,
+                    value: decimal(fields.next()?)?,
+                };
+                let due = match fields.next()? {
+                    b"." => before,
+                    written => written,
+                };
+                (Expected::Exactly(reply), due)
             }
-            Expected::Exactly(reply)
         };
         if fields.next().is_some() {
             return None;
