@@ -6,31 +6,22 @@ ghost use Rattle.std.specs.Prelude.{length, take};
 ghost use Rattle.clifford_run.specs.Inside.Program.{Buffers, InputRead, ReportRoom, ReportWritten, Owed};
 
 use gate_list::gate_list::report;
-
+use std::io;
 use std::io::{Read, Write};
 
-// How many bytes were read.
-#[derive(Clone, Copy)]
-enum Input {
-    Read(usize),
-    Failed,
-}
-
-// Reads until the input ends or the buffer is full.
-fn read_input<R: Read>(from: &mut R, input: &mut [u8]) -> Input
+// Reads until the input ends or the buffer is full; the answer is how many bytes were read.
+fn read_input<R: Read>(from: &mut R, input: &mut [u8]) -> io::Result<usize>
     ensures { InputRead input.old input.new result }
 {
     let mut done = 0;
     while done < input.len() {
-        let Ok(more) = from.read(&mut input[done..]) else {
-            return Input::Failed;
-        };
+        let more = from.read(&mut input[done..])?;
         if more == 0 {
-            return Input::Read(done);
+            break;
         }
         done += more;
     }
-    Input::Read(done)
+    Ok(done)
 }
 
 // The report of a list at the front of the text; the answer is its length. There is room for any report, so none is refused.
@@ -38,11 +29,7 @@ fn make_report(list: &[u8], text: &mut [u8]) -> usize
     requires { ReportRoom text.old }
     ensures { ReportWritten list.now text.old text.new result }
 {
-    let answer = report(list, text);
-    match answer {
-        Ok(length) => length,
-        Err(_) => 0,
-    }
+    report(list, text).unwrap_or(0)
 }
 
 // Whether the whole text was written.
@@ -74,8 +61,7 @@ fn answer_input<R: Read, W: Write, E: Write>(
 )
     requires { Buffers input.old text.old }
 {
-    let read = read_input(from, input);
-    let Input::Read(n) = read else {
+    let Ok(n) = read_input(from, input) else {
         write_whole(errors, b"clifford_run: standard input cannot be read\n");
         return;
     };

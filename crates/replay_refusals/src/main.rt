@@ -1,9 +1,9 @@
 // Writes the lines of all refusals, as docs/REFUSALS.md lists them.
 #![tactic(auto)]
 
-
-use pauli::rows::smaller;
 use refusal_lines::refusal_line;
+use std::io;
+use std::io::Write;
 
 // The page's examples of a detail and of a width.
 const DETAIL: u64 = 5;
@@ -15,23 +15,19 @@ const LAST: u64 = 19;
 
 const FALSE_WEIGHT: u64 = 24;
 
-fn write_in(number: u64, room: &mut [u8]) {
-    let answer = refusal_line(number, DETAIL, WIDTH, room);
-    if let Ok(length) = answer {
-        io::write_all(1, &room[..smaller(length, room.len())]);
+fn write_line(rt: &impl Print, number: u64) -> io::Result<()> {
+    // Room for any line.
+    let mut room = [0; 140];
+    let mut out = io::writer(rt);
+    if let Ok(length) = refusal_line(number, DETAIL, WIDTH, &mut room) {
+        out.write_all(&room[..length.min(room.len())])?;
     }
+    out.write_all(b"\n")
 }
 
-// A line, with room for any.
-fn write_line(number: u64) {
-    let mut room = [0u8; 140];
-    write_in(number, &mut room);
-    io::write_all(1, b"\n");
-}
-
-fn main() {
-    for number in 0..=LAST {
-        write_line(number);
+fn main(rt: HostRuntime) -> io::Result<()> {
+    for number in (0..=LAST).chain([FALSE_WEIGHT]) {
+        write_line(&rt, number)?;
     }
-    write_line(FALSE_WEIGHT);
+    Ok(())
 }

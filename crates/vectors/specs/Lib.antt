@@ -1,6 +1,4 @@
 -- What the contracts of `vectors` cite. Assumes nothing.
-pub mod Bounds
-pub mod Cases
+pub mod Lines
 pub mod Verdicts
 pub mod Tallies
-pub mod Inside

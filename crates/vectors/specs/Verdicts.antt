@@ -1,33 +1,15 @@
--- What an outcome says of a case. Assumes nothing.
-use Rattle.std.specs.Prelude.{◌≡◌, ℕ, ◌≤◌, Bool, true, List}
+-- What a match says of a case. Assumes nothing.
+use Rattle.std.specs.Prelude.{◌≡◌, ◌≤◌, Option, IsSomeAnd}
 use Rattle.vectors.specs.declared.reading.Case.{Case}
-use Rattle.vectors.specs.declared.reading.Kind.TheVariants as kinds
 use Rattle.vectors.specs.declared.reading.Expected.{Expected}
 use Rattle.vectors.specs.declared.reading.Expected.TheVariants.{Exactly, BadSyntax}
-use Rattle.vectors.specs.declared.tally.Reply.{Reply}
-use Rattle.vectors.specs.declared.tally.Reply.TheVariants.{Of, Unknown}
-use Rattle.vectors.specs.declared.tally.Outcome.{Outcome}
-use Rattle.vectors.specs.declared.tally.Outcome.TheVariants.{Match}
+use Rattle.vectors.specs.declared.reading.Reply.{Reply}
 
--- a reply's number; 0, which no refusal has, for a function that is not known
-abbrev pub number_of : Reply → ℕ
-number_of (Of n v) = n
-number_of Unknown = 0
-
--- the reply p is one that x expects: of its own number and value, or for bad syntax a refusal numbered 9, 10 or 11
+-- the reply p is one that x expects: that very one, or for bad syntax a refusal numbered 9, 10 or 11
 abbrev pub Expects : Expected → Reply → Type 0
-Expects (Exactly n v) p = p ≡ Of n v
-Expects BadSyntax p = (9 ≤ number_of p) × (number_of p ≤ 11)
+Expects (Exactly due) p = p ≡ due
+Expects BadSyntax p = (9 ≤ p.number) × (p.number ≤ 11)
 
--- the answer r is yes only where a reply of this number and value is expected
-pub record Told (x : Expected) (number value : ℕ) (r : Bool) : Type 0 where
-  pub sound : r ≡ true → Expects x (Of number value)
-
--- the reply p and the destination d match only where they are those that the case k expects, d as e
-pub record Judged (k : Case) (p : Reply) (d e : List ℕ) (r : Outcome) : Type 0 where
-  pub sound : r ≡ Match → Expects k.expected p × (d ≡ e)
-
--- the same of a line read as k: it matches only where it is a case
-pub record Compared (k : Case) (p : Reply) (d e : List ℕ) (r : Outcome) : Type 0 where
-  pub judged : Judged k p d e r
-  pub of_case : r ≡ Match → k.kind ≡ kinds.Case
+-- the reply, none where no function is known, and the destination are those that the case k expects
+abbrev pub IsMatch : Case → Option Reply → Type 0
+IsMatch k p = IsSomeAnd p (Expects k.expected) × (k.d.now ≡ k.after.now)

@@ -18,16 +18,15 @@
 // a text refused as bad syntax, which is number 9, 10 or 11 whatever the value, with the destination
 // as before.
 //
-// No function has a `requires`: what is not a case is answered as malformed.
+// What is not a case is answered as malformed.
 #![tactic(auto)]
 
 mod decode;
 mod reading;
-mod scan;
+mod replaying;
 mod tally;
 
-pub use check::same;
-pub use decode::{Byte, Decoded, Number, bytes, decimal, narrow};
-pub use reading::{Case, Expected, Kind, read_case};
-pub use scan::{field, field_room, fields, is_named, line_at, next_line, stop, text_room};
-pub use tally::{Outcome, Reply, Tally, compared};
+pub use decode::{bytes, decimal};
+pub use reading::{Case, Expected, FIELD_ROOM, Line, Reply, Room};
+pub use replaying::replay;
+pub use tally::{Failure, Outcome, Tally};

@@ -1,85 +1,36 @@
-// What comes of each line, counted and printed.
-ghost use Rattle.std.specs.Prelude.{◌≡◌};
-ghost use Rattle.vectors.specs.Verdicts.{Told, Judged, Compared};
-ghost use Rattle.vectors.specs.Tallies.{next, Tallied};
+// What comes of each line, and how many lines come to it.
+ghost use Rattle.vectors.specs.Tallies.{Tallied};
 
-use crate::reading::{Case, Expected, Kind};
+use std::fmt;
 
-const STDOUT_FILENO: i32 = 1;
-
-// What a function under test answers, or that no function has the name and takes the arguments.
-#[derive(Clone, Copy)]
-pub enum Reply {
-    Of(u64, u64),
-    Unknown,
-}
-
-#[derive(Clone, Copy)]
-pub enum Outcome {
-    Blank,
-    Match,
+// Why a line that is not blank is no match. Unknown: no function has the name and takes the
+// arguments.
+#[derive(Clone, Copy, PartialEq, Eq, Debug)]
+pub enum Failure {
     Mismatch,
     Malformed,
     Unknown,
 }
 
-// Whether a reply of this number and value is one that is expected.
-fn is_expected(expected: Expected, number: u64, value: u64) -> bool
-    ensures { Told expected number value result }
-{
-    match expected {
-        Expected::Exactly(n, v) => {
-            if number != n {
-                return false;
-            }
-            value == v
-        }
-        Expected::BadSyntax => {
-            if number < 9 {
-                return false;
-            }
-            number <= 11
-        }
+impl fmt::Display for Failure {
+    fn fmt<W: fmt::Write>(&self, f: &mut fmt::Formatter<W>) -> fmt::Result {
+        f.write_str(match self {
+            Failure::Mismatch => "mismatch",
+            Failure::Malformed => "malformed",
+            Failure::Unknown => "unknown function",
+        })
     }
 }
 
-// Whether the reply and the destination are those that the case expects. `e` is what the
-// destination `d` should hold, whole, so that bytes that should be as before are compared too.
-fn judged(case: Case, reply: Reply, d: &[u8], e: &[u8]) -> Outcome
-    ensures { Judged case reply d.now e.now result }
-{
-    let Reply::Of(number, value) = reply else {
-        return Outcome::Unknown;
-    };
-    let expected = case.expected;
-    if is_expected(expected, number, value) {
-        if check::same(d, e) {
-            return Outcome::Match;
-        }
-    }
-    Outcome::Mismatch
-}
-
-// What comes of a line. Where it is no case the reply counts for nothing.
-pub fn compared(case: Case, reply: Reply, d: &[u8], e: &[u8]) -> Outcome
-    ensures { Compared case reply d.now e.now result }
-{
-    let kind = case.kind;
-    match kind {
-        Kind::Blank => Outcome::Blank,
-        Kind::Malformed => Outcome::Malformed,
-        Kind::Case => judged(case, reply, d, e),
-    }
-}
-
-fn more(n: u64) -> u64
-    ensures { result ≡ next n }
-{
-    std::num::wrapping_add_u64(n, 1)
+#[derive(Clone, Copy, PartialEq, Eq, Debug)]
+pub enum Outcome {
+    Blank,
+    Match,
+    Failed(Failure),
 }
 
 // Lines, cases and mismatches so far. Each line that is not blank is a case.
-#[derive(Clone, Copy)]
+#[derive(Clone, Copy, PartialEq, Eq, Default, Debug)]
 pub struct Tally {
     pub lines: u64,
     pub cases: u64,
@@ -87,68 +38,24 @@ pub struct Tally {
 }
 
 impl Tally {
-    pub fn new() -> Tally {
-        Tally {
-            lines: 0,
-            cases: 0,
-            mismatches: 0,
-        }
-    }
-
-    fn mismatched(self, why: &[u8]) -> Tally
-        ensures { Tallied Outcome.Mismatch self result }
-    {
-        let line = more(self.lines);
-        io::write_all(STDOUT_FILENO, b"line ");
-        io::print_decimal(STDOUT_FILENO, line);
-        io::write_all(STDOUT_FILENO, why);
-        Tally {
-            lines: line,
-            cases: more(self.cases),
-            mismatches: more(self.mismatches),
-        }
-    }
-
-    // Counts the next line, and prints its number where it fails.
+    // Counts the next line.
     pub fn with(self, outcome: Outcome) -> Tally
         ensures { Tallied outcome self result }
     {
-        match outcome {
-            Outcome::Blank => Tally {
-                lines: more(self.lines),
-                cases: self.cases,
-                mismatches: self.mismatches,
-            },
-            Outcome::Match => Tally {
-                lines: more(self.lines),
-                cases: more(self.cases),
-                mismatches: self.mismatches,
-            },
-            Outcome::Mismatch => self.mismatched(b": mismatch\n"),
-            Outcome::Malformed => self.mismatched(b": malformed\n"),
-            Outcome::Unknown => self.mismatched(b": unknown function\n"),
-        }
-    }
-
-    // An input that fills its buffer may be cut short: that is a mismatch.
-    fn cut(self, full: bool) -> Tally {
-        if !full {
-            return self;
-        }
-        io::write_all(STDOUT_FILENO, b"the input is too long\n");
+        let is_case = outcome != Outcome::Blank;
+        let failed = matches!(outcome, Outcome::Failed(_));
         Tally {
-            lines: self.lines,
-            cases: self.cases,
-            mismatches: more(self.mismatches),
+            lines: self.lines.wrapping_add(1),
+            cases: self.cases.wrapping_add(u64::from(is_case)),
+            mismatches: self.mismatches.wrapping_add(u64::from(failed)),
         }
     }
+}
 
-    // Prints the counts. `full` says that the input filled its buffer.
-    pub fn finish(self, full: bool) {
-        let all = self.cut(full);
-        io::print_decimal(STDOUT_FILENO, all.cases);
-        io::write_all(STDOUT_FILENO, b" cases, ");
-        io::print_decimal(STDOUT_FILENO, all.mismatches);
-        io::write_all(STDOUT_FILENO, b" mismatches\n");
+impl fmt::Display for Tally {
+    fn fmt<W: fmt::Write>(&self, f: &mut fmt::Formatter<W>) -> fmt::Result {
+        let cases = self.cases;
+        let mismatches = self.mismatches;
+        write!(f, "{cases} cases, {mismatches} mismatches")
     }
 }

@@ -1,8 +1,6 @@
 -- What the functions of the program may count on, and what they promise.
-use Rattle.std.specs.Prelude.{ℕ, ◌≤◌, ◌≡◌, List, length, take}
+use Rattle.std.specs.Prelude.{ℕ, ◌≤◌, ◌≡◌, List, length, take, Result, IfOk}
 use Rattle.gate_list.specs.Reports.{report_text}
-use Rattle.clifford_run.specs.declared.Input.{Input}
-use Rattle.clifford_run.specs.declared.Input.TheVariants.{Read}
 use Rattle.clifford_run.specs.Program.{input_most}
 
 -- The text that is owed to what was read into a buffer of some length: its report, which is the report of every input that begins so.
@@ -19,9 +17,9 @@ pub record Buffers (input text : List ℕ) : Type 0 where
   pub room : ReportRoom text
 
 -- the buffer held d before and holds e now; the bytes read are at its front
-pub record InputRead (d e : List ℕ) (r : Input) : Type 0 where
+pub record InputRead {E : Type 0} (d e : List ℕ) (r : Result ℕ E) : Type 0 where
   pub long : length e ≡ length d
-  pub count : (n : ℕ) → r ≡ Read n → n ≤ length e
+  pub count : IfOk r (λ n. n ≤ length e)
 
 -- the report of l at the front of what was d and is e, and its length r
 pub record ReportWritten (l d e : List ℕ) (r : ℕ) : Type 0 where

@@ -1,3 +1,0 @@
--- Laws that the proofs of `vectors` cite. Assumes nothing.
-pub mod Judging
-pub mod Tallying

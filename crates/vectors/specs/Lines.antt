@@ -1,0 +1,32 @@
+-- What a line is. Assumes nothing.
+use Rattle.std.specs.Prelude.{◌≡◌, ℕ, ◌<◌, ◌≤◌, ◌⊎◌, List, length, slice_index, EachIndex}
+use Rattle.std.specs.Char.{IsAsciiDigit, IsAsciiLowercase}
+use Rattle.vectors.specs.declared.reading.TheConstants.{FIELD_ROOM}
+use Rattle.vectors.specs.declared.reading.Case.{Case}
+use Rattle.vectors.specs.declared.reading.Line.{Line}
+use Rattle.vectors.specs.declared.reading.Line.TheVariants as lines
+
+-- empty, or a comment: it starts with `#`
+abbrev pub IsBlank : List ℕ → Type 0
+IsBlank s = (length s ≡ 0) ⊎ (slice_index s 0 ≡ 35)
+
+-- a lowercase letter, a digit or `_`
+abbrev pub IsNameByte : ℕ → Type 0
+IsNameByte c = IsAsciiLowercase c ⊎ IsAsciiDigit c ⊎ (c ≡ 95)
+
+abbrev pub IsName : List ℕ → Type 0
+IsName s = (0 < length s) × EachIndex s (λ k. IsNameByte (slice_index s k))
+
+-- the function has a name, and no field spells more bytes than there is room for
+pub record CaseFits (k : Case) : Type 0 where
+  pub name : IsName k.name.now
+  pub in_a : length k.a.now ≤ FIELD_ROOM
+  pub in_b : length k.b.now ≤ FIELD_ROOM
+  pub in_d : length k.d.now ≤ FIELD_ROOM
+  pub in_after : length k.after.now ≤ FIELD_ROOM
+
+-- the same of a line that is a case
+abbrev pub LineFits : Line → Type 0
+LineFits (lines.Case k) = CaseFits k
+LineFits lines.Blank = Unit {0}
+LineFits lines.Malformed = Unit {0}
