@@ -45,7 +45,7 @@ pub record ValiditySentence : Type 0 where
   pub alike : (t u : List ℕ) → tableau_questions t ≡ Ok tt → tableau_questions u ≡ Ok tt → record_valid t ≡ true → record_valid u ≡ true
       → RecordsSendAlike t u ↔ SameBytesWidened t u
   -- `is_valid` answers yes for these records alone, of any bytes
-  pub told : (t : List ℕ) (r : Answer Bool) → ValidityTold t r → (r ≡ (Ok true)) ↔ ((tableau_questions t ≡ Ok tt) × RecordMultiplicative t)
+  pub told : (t : List ℕ) (r : Answer Bool) → ValidityTold t r → (r ≡ Ok true) ↔ ((tableau_questions t ≡ Ok tt) × RecordMultiplicative t)
   -- what is sent or multiplied is a string again, and each call is accepted wherever the room suffices
   pub sent : (t s : List ℕ) → string_questions (apply_record t s) ≡ Ok tt
   pub multiplied : (p q : List ℕ) → string_questions (product_record p q) ≡ Ok tt

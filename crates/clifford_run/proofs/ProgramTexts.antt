@@ -17,11 +17,11 @@ use Rattle.gate_list.specs.Reports.{refusal_text, text_after, report_text, repor
 use Rattle.gate_list.specs.Runs.{run_record}
 use Rattle.gate_list.proofs.ListAsking.{size_odd, size_long}
 use Rattle.gate_list.proofs.RunReports.{report-most, report_done}
-use Rattle.clifford_run.specs.declared.Input.{Input}
-use Rattle.clifford_run.specs.declared.Input.TheVariants.{Read, Failed}
 use Rattle.clifford_run.specs.Program.{input_most}
 use Rattle.clifford_run.specs.Inside.Program.{Owed, ReportRoom, Buffers, InputRead, ReportWritten}
-use Rattle.std.specs.Prelude.{Ok, Err}
+use Rattle.std.proofs.lemmas.Result.{IfOk-at_ok}
+use Rattle.std.specs.Result.{result_unwrap_or}
+use Rattle.std.specs.Prelude.{Result, Ok, Err}
 
 -- ---- a longer input than the longest list is 16, whatever follows
 size_over : (l : List ℕ) → input_most ≤ length l → Err ListLength ≡ size_question l
@@ -42,21 +42,6 @@ pub record Reading (d e : List ℕ) (k : ℕ) : Type 0 where
   pub long : length e ≡ length d
   pub within : k ≤ length e
 
-module _ {d e f : List ℕ} {k : ℕ} (m : Reading d e k) (same : length f ≡ length e) where
-  pub input_ended : InputRead d f (Read k)
-  input_ended = record { long = same ∙ m.long; count = λ n h. omega (arith, m.within, all n h) }
-    where
-      all : (n : ℕ) → Read k ≡ Read n → k ≡ n
-      all n h = cc
-
-  pub input_failed : InputRead d f Failed
-  input_failed = record { long = same ∙ m.long; count = λ n h. absurd (never n h) }
-    where
-      never : (n : ℕ) → Failed ≡ Read n → ⊥
-      never n h = let z : ◌≡◌ {A = ℕ} 0 1 = cc in omega arith
-
-pub ruleset inputs = (input_ended, input_failed, rules)
-
 -- ---- the report of a list at the front of a text with room for any
 module _ (l : List ℕ) {d e : List ℕ} {r : Answer ℕ} (o : ReportRoom d) (w : CountWritten (report_answer l (length d)) (report_text l) d e r) where
   done : report_answer l (length d) ≡ Ok tt
@@ -69,10 +54,10 @@ module _ (l : List ℕ) {d e : List ℕ} {r : Answer ℕ} (o : ReportRoom d) (w 
   bytes : e ≡ written (Ok tt) (report_text l) d
   bytes = w.bytes ∙ ap (λ q. written q (report_text l) d) done
 
-  pub text_made : {n : ℕ} → r ≡ Ok n → ReportWritten l d e n
+  pub text_made : {n : ℕ} → n ≡ result_unwrap_or r 0 → ReportWritten l d e n
   unfolding written
   text_made {n} h =
-      let count : n ≡ length (report_text l) = cc counted in
+      let count : n ≡ length (report_text l) = h ∙ ap (λ x. result_unwrap_or x 0) counted in
       let long : length e ≡ length d = ap length bytes ∙ length-append (report_text l) (drop (length (report_text l)) d) ∙ omega (arith, length-drop (length (report_text l)) d, report-most l, o.room) in
       record {
         long = long;
@@ -80,15 +65,12 @@ module _ (l : List ℕ) {d e : List ℕ} {r : Answer ℕ} (o : ReportRoom d) (w 
         text = ap (take n) bytes ∙ take_at (report_text l) (drop (length (report_text l)) d) n (sym count);
       }
 
-  pub text_never : {x : Refusal} → r ≡ Err x → ReportWritten l d e 0
-  text_never h = let z : ◌≡◌ {A = ℕ} 0 1 = cc counted in absurd (omega arith)
-
-pub ruleset program_texts = (text_made, text_never, rules)
+pub ruleset program_texts = (text_made, rules)
 
 -- ---- what is handed on
-module _ {d e : List ℕ} {x : Input} {n : ℕ} (i : InputRead d e x) (h : x ≡ Read n) where
+module _ {E : Type 0} {d e : List ℕ} {x : Result ℕ E} {n : ℕ} (i : InputRead d e x) (h : x ≡ Ok n) where
   pub read_within : n ≤ length e
-  read_within = i.count n h
+  read_within = IfOk-at_ok _ h i.count
 
   pub read_owed : {t f : List ℕ} {k : ℕ} → Buffers d t → ReportWritten (take n e) t f k → Owed (length e) (take n e) (take k f)
   read_owed o w = record {

@@ -21,9 +21,9 @@ use Rattle.pauli.proofs.EntryMarks.{entries-even, letters-good, qubits-good, let
 use Rattle.pauli.proofs.Places.{none_left_lem, first-before}
 use Rattle.pauli.proofs.Records.{letter-back, letter_there, letter-small}
 use Rattle.pauli_laws.specs.EntryLists.{Entry, entry_bytes, Unnamed, NamedOnce, EntriesGiven, letter_for, named_string}
-
 -- ---- one entry in front
 use Rattle.std.specs.Prelude.{Ok, None}
+
 module _ (x y : ℕ) (b : List ℕ) where
   count_front : entry_count (x ∷ y ∷ b) ≡ suc (entry_count b)
   unfolding entry_count
@@ -78,10 +78,10 @@ no_entries : (q : ℕ) → occurrences [] q ≡ 0
 unfolding occurrences entry_count count_to
 no_entries q = refl
 
-unnamed_none : {q : ℕ} {es : List Entry} → (Ok None) q es → occurrences (entry_bytes es) q ≡ 0
+unnamed_none : {q : ℕ} {es : List Entry} → Unnamed q es → occurrences (entry_bytes es) q ≡ 0
 unfolding entry_bytes
-unnamed_none {q} (Ok None).none = no_entries q
-unnamed_none {q} ((Ok None).other {e} {es} h u) = named_there (letter_byte e.letter) e.qubit (entry_bytes es) q h ∙ unnamed_none u
+unnamed_none {q} Unnamed.none = no_entries q
+unnamed_none {q} (Unnamed.other {e} {es} h u) = named_there (letter_byte e.letter) e.qubit (entry_bytes es) q h ∙ unnamed_none u
 
 once-named : {es : List Entry} → NamedOnce es → (q : ℕ) → occurrences (entry_bytes es) q ≤ 1
 unfolding entry_bytes
@@ -96,17 +96,17 @@ once-named (NamedOnce.entry {e} {es} low u o) q = go (ℕ_discrete e.qubit q) (o
     go (no d) r = omega (arith, named_there (letter_byte e.letter) e.qubit (entry_bytes es) q d)
 
 -- ---- and the way back
-none_unnamed : (q : ℕ) (es : List Entry) → occurrences (entry_bytes es) q ≡ 0 → (Ok None) q es
+none_unnamed : (q : ℕ) (es : List Entry) → occurrences (entry_bytes es) q ≡ 0 → Unnamed q es
 unfolding entry_bytes
-none_unnamed q [] h = (Ok None).none
+none_unnamed q [] h = Unnamed.none
 none_unnamed q (e ∷ es) h = go (ℕ_discrete e.qubit q) (none_unnamed q es)
   where
     front : List ℕ
     front = letter_byte e.letter ∷ e.qubit ∷ entry_bytes es
 
-    go : Dec (e.qubit ≡ q) → (occurrences (entry_bytes es) q ≡ 0 → (Ok None) q es) → (Ok None) q (e ∷ es)
+    go : Dec (e.qubit ≡ q) → (occurrences (entry_bytes es) q ≡ 0 → Unnamed q es) → Unnamed q (e ∷ es)
     go (yes d) r = absurd (omega (arith, named_here (letter_byte e.letter) (entry_bytes es) e.qubit, ap (occurrences front) d))
-    go (no d) r = (Ok None).other d (r (sym (named_there (letter_byte e.letter) e.qubit (entry_bytes es) q d) ∙ h))
+    go (no d) r = Unnamed.other d (r (sym (named_there (letter_byte e.letter) e.qubit (entry_bytes es) q d) ∙ h))
 
 named-once : (es : List Entry) → ((j : ℕ) → j < entry_count (entry_bytes es) → entry_qubit (entry_bytes es) j < 128)
     → ((q : ℕ) → q < 128 → occurrences (entry_bytes es) q ≤ 1) → NamedOnce es
