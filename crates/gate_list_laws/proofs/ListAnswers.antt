@@ -8,7 +8,7 @@ use native.Mathlib.Decide.{ℕ_discrete}
 use native.Mathlib.Omega.{arith}
 use Rattle.pauli.specs.declared.refusal.Refusal.{Refusal}
 use Rattle.pauli.specs.declared.refusal.Refusal.TheVariants.{Width, ListLength, ListRecord, Link, Loop}
-use Rattle.pauli.specs.Answers.{refusal_number, Outcome, Answer}
+use Rattle.pauli.specs.Answers.{refusal_number, Outcome}
 use Rattle.pauli.specs.Questions.{◌and_then◌}
 use Rattle.pauli.proofs.Asking.{passed}
 use Rattle.clifford.specs.Questions.{width_question}
