@@ -1,12 +1,17 @@
 -- Laws of lists by place, of the first place that has a property, and of a destination that is filled from its front.
-use Rattle.std.proofs.Common.{◌≡◌, ℕ, zero, suc, ◌+◌, ◌-◌, ◌<◌, ◌≤◌, max, Bool, true, false, cond, ltb, List, [], ◌∷◌, ◌++◌, length, get_or, take, drop, set, sym, refl, ap, ◌∙◌, subst, ap₂, le_refl, le_of_suc-le-suc, not-suc-le-zero, add-one, arith, length-append, length-drop, length-take, get_or-drop, take_all, ext_get_or, rules, le-ltb, lt-ltb, le-leb}
+use Rattle.std.proofs.Common.{◌≡◌, ℕ, zero, suc, not, inl, inr, Option, Some, None, ◌+◌, ◌-◌, ◌<◌, ◌≤◌, max, min, Bool, true, false, cond, ltb, List, [], ◌∷◌, ◌++◌, length, get_or, take, drop, set, sym, refl, ap, ◌∙◌, subst, ap₂, le_refl, le_of_suc-le-suc, not-suc-le-zero, add-one, arith, length-append, length-drop, length-take, get_or-drop, take_all, ext_get_or, rules, le-ltb, lt-ltb, le-leb}
+use Rattle.std.specs.List.{position, position_or_len}
+use Rattle.std.specs.Option.{unwrap_or}
+use Rattle.std.proofs.lemmas.Bool.{cases_lt}
+use Rattle.std.proofs.lemmas.List.Recursion.{is_position_or_len}
+use Rattle.std.proofs.lemmas.List.Sums.{prefix_len-le-length}
 use native.Mathlib.Decide.{ℕ_discrete}
 use lib.ListN.{get_or-append}
 use lib.Seq.{get_or_at, take-length}
 use borrow.Author.Tests.{lt-leb}
 use Rattle.pauli.specs.Places.{listed, first_place}
 use Rattle.pauli.specs.Questions.{first_bad}
-use Rattle.pauli.specs.Rows.{largest_to}
+use Rattle.pauli.specs.Rows.{largest_to, copied}
 
 -- ---- lists by place
 module _ {A : Type 0} where
@@ -69,6 +74,25 @@ first_has (suc n) f h = step (f zero) refl (first_has n (λ i. f (suc i))) h
     step : {m : ℕ} (b : Bool) → f zero ≡ b → (m < n → f (suc m) ≡ true) → cond b zero (suc m) < suc n → f (cond b zero (suc m)) ≡ true
     step true e rest h = e
     step false e rest h = rest (le_of_suc-le-suc h)
+
+-- std's first index at which a test passes
+pub position-is : (p : ℕ → Bool) (xs : List ℕ) → position_or_len p xs ≡ first_place (length xs) (λ k. p (get_or xs k 0))
+unfolding first_place
+position-is p xs = sym (is_position_or_len (λ ys. first_place (length ys) (λ k. p (get_or ys k 0))) p refl (λ y ys. ap (cond (p y) 0) (next (first_place (length ys) (λ k. p (get_or ys k 0))))) xs)
+  where
+    next : (n : ℕ) → suc n ≡ 1 + n
+    next n = omega arith
+
+pub position-or : (p : ℕ → Bool) (xs : List ℕ) (r : Option ℕ) {n : ℕ} → n ≡ unwrap_or r (length xs) → r ≡ position p xs
+    → n ≡ first_place (length xs) (λ k. p (get_or xs k 0))
+position-or p xs r h e =
+    h ∙ ap (λ o. unwrap_or o (length xs)) e ∙ by_place (position_or_len p xs) (prefix_len-le-length (λ x. not (p x)) xs) ∙ position-is p xs
+  where
+    by_place : (i : ℕ) → i ≤ length xs → unwrap_or (cond (ltb i (length xs)) (Some i) None) (length xs) ≡ i
+    by_place i h = elim (cases_lt i (length xs)) [
+      | inl l ↦ ap (λ b. unwrap_or (cond b (Some i) None) (length xs)) (lt-ltb i (length xs) l)
+      | inr l ↦ ap (λ b. unwrap_or (cond b (Some i) None) (length xs)) (le-ltb i (length xs) l) ∙ omega arith
+    ]
 
 -- what a scan from the front knows before place i
 pub record NoneBefore (n : ℕ) (f : ℕ → Bool) (i : ℕ) : Type 0 where
@@ -249,6 +273,11 @@ pub filled_all : {s d : List ℕ} {n i : ℕ} {e : List ℕ} (k : ℕ) → n ≡
 filled_all {s} {d} {n} {i} k p m h = let within : i ≤ n = m.within in let e : i ≡ k = omega arith in m.out ∙ ap (fill s d) e
 
 pub ruleset fills = (filled_none, filled_step, filled_length, filled_room, filled_all, rules)
+
+-- the first n elements of s copied over those of d
+pub fronts_copied : (s d : List ℕ) {n : ℕ} {f : List ℕ} → n ≡ min (length s) (length d) → f ≡ take n s → f ++ drop n d ≡ copied s d
+unfolding copied
+fronts_copied s d {n} e h = ap (λ l. l ++ drop n d) h ∙ ap (λ (k : ℕ). take k s ++ drop k d) e
 
 -- ---- the part `&s[k..]`
 abbrev pub from : ℕ → List ℕ → List ℕ

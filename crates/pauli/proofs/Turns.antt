@@ -1,5 +1,6 @@
 -- Quarter turns: sums of them are products of phases. What the functions on one place need.
-use Rattle.std.proofs.Common.{◌≡◌, ℕ, zero, suc, ◌+◌, ◌*◌, ◌/◌, ◌%◌, ◌<◌, ◌≤◌, Bool, cond, T, eqb, sym, refl, ap, ◌∙◌, ap₂, suc-mul, div-add-mod', zero-mul, arith, eqb→eq, w8, Fits, rules}
+use Rattle.std.proofs.Common.{◌≡◌, ℕ, zero, suc, min, inl, inr, subst, ◌+◌, ◌*◌, ◌/◌, ◌%◌, ◌<◌, ◌≤◌, Bool, cond, T, eqb, sym, refl, ap, ◌∙◌, ap₂, suc-mul, div-add-mod', zero-mul, arith, eqb→eq, w8, Fits, rules}
+use Rattle.std.proofs.lemmas.Bool.{cases_lt}
 use lib.Bits.{bit_xor, bit_and, and_le_l}
 use Rattle.pauli_group.specs.Phase.{Phase, PlusOne, MinusI, negate, turn, ◌·◌}
 use Rattle.pauli_group.specs.Letter.{Letter, letter_product, letter_phase, letter_mul, anticommute, not_i}
@@ -52,19 +53,25 @@ unfolding anticommute letter_byte
 letter_crossing = by_pairs (λ a b. crossing (letter_byte a) (letter_byte b)) (λ a b. cond (anticommute a b) 1 0) tt
 
 -- ---- what the functions on one place need
-pub byte_low : (x : ℕ) → x < 3 → LetterByte x x
+byte_low : (x : ℕ) → x < 3 → LetterByte x x
 unfolding letter_byte letter_of
 byte_low zero h = record { is = refl; small = omega arith }
 byte_low (suc zero) h = record { is = refl; small = omega arith }
 byte_low (suc (suc zero)) h = record { is = refl; small = omega arith }
 byte_low (suc (suc (suc n))) h = absurd (omega arith)
 
-pub byte_high : (x : ℕ) → 3 ≤ x → LetterByte x 3
+byte_high : (x : ℕ) → 3 ≤ x → LetterByte x 3
 unfolding letter_byte letter_of
 byte_high zero h = absurd (omega arith)
 byte_high (suc zero) h = absurd (omega arith)
 byte_high (suc (suc zero)) h = absurd (omega arith)
 byte_high (suc (suc (suc n))) h = record { is = refl; small = omega arith }
+
+pub byte_capped : (x : ℕ) → LetterByte x (min x 3)
+byte_capped x = elim (cases_lt x 3) [
+  | inl l ↦ subst (LetterByte x) (let e : x ≡ min x 3 = omega arith in e) (byte_low x l)
+  | inr l ↦ subst (LetterByte x) (let e : 3 ≡ min x 3 = omega arith in e) (byte_high x l)
+]
 
 byte-letter : (x : ℕ) → x ≤ 3 → LetterByte x x
 byte-letter x h = record { is = sym (letter_there x h); small = h }
@@ -133,6 +140,13 @@ turns-added {t = t} v m e = ap power e ∙ power_sum v t ∙ ap (λ p. power v �
 pub phase_key : {p t : ℕ} (k : ℕ) → p ≡ k → power t ≡ phase_of k → PhaseTurns p t
 phase_key k e h = record { is = h ∙ ap phase_of (sym e) }
 
+pub phase_last : (p : ℕ) → 3 ≤ p → PhaseTurns p 3
+unfolding power turn phase_of
+phase_last zero h = absurd (omega arith)
+phase_last (suc zero) h = absurd (omega arith)
+phase_last (suc (suc zero)) h = absurd (omega arith)
+phase_last (suc (suc (suc p))) h = record { is = refl }
+
 pub turn_key : (t m : ℕ) {r : ℕ} → t % 4 ≡ m → r ≡ phase_byte (power m) → r ≡ phase_byte (power t)
 unfolding power turn
 turn_key t m e h = h ∙ ap (λ (x : ℕ). phase_byte (power x)) (sym e) ∙ ap phase_byte (power_mod t 4 refl)
@@ -151,8 +165,7 @@ turned {s = s} {t = t} {u = u} turns f g e k h =
     h ∙ ap phase_byte (ap power k ∙ power_sum u turns ∙ ap (λ p. p · power turns) (ap power e ∙ power_sum s t ∙ ap₂ ◌·◌ f.is g.is))
 
 pub ruleset places = (
-  byte_low,
-  byte_high,
+  byte_capped,
   byte-first,
   byte-second,
   both_bytes,

@@ -14,7 +14,7 @@ ghost use Rattle.pauli.specs.Promises.{LettersMultiplied, StringsMultiplied};
 
 use crate::questions::{check_pair, check_room, check_strings};
 use crate::refusal::Refusal;
-use crate::rows::{copy, larger, letter_turns, turned_phase};
+use crate::rows::{copy, letter_turns, turned_phase};
 use crate::{QUBITS, STRING_LENGTH};
 
 // A phase and a letter.
@@ -74,9 +74,9 @@ fn see(sight: Sight, x: u8, y: u8, q: usize) -> Sight
     requires { q < 128 }
     ensures { result ≡ seen_with sight x y q }
 {
-    let letter = larger(x, y);
+    let letter = x.max(y);
     Sight {
-        largest: larger(sight.largest, letter),
+        largest: sight.largest.max(letter),
         places: if letter == 0 {
             sight.places
         } else {
@@ -102,7 +102,7 @@ fn look(s: &[u8], t: &[u8]) -> Sight
         };
     }
     let mut sight = Sight {
-        largest: larger(s[0], t[0]),
+        largest: s[0].max(t[0]),
         places: 0,
     };
     let mut q = 0;

@@ -5,13 +5,12 @@ use Rattle.pauli_group.specs.Papers.{power}
 use Rattle.pauli.specs.Layout.{letter_byte}
 use Rattle.pauli.specs.Inside.Turns.{for_y}
 use Rattle.pauli.proofs.Turns.{places}
-use Rattle.pauli.proofs.rows.letter_turns.Statement.{statement}
-use Rattle.pauli.proofs.rows.letter_turns.Tie as tie
+use Rattle.pauli.proofs.rows.letter_turns.Goals as goal
 
-pub letter_turns_spec : {M : Type 1} → statement M
+pub for_y-requires-3 : goal.for_y-requires-3
 unfolding letter_phase letter_product letter_byte turn power for_y
-letter_turns_spec =
-    tie.close
-    (tie.spec
-    (λ c κs. search places) (λ c κs. search places) (λ c. search places) (λ c κs. search places)
-    (λ c. search places) (λ c. search places) (λ c. search places) (λ c. search places))
+for_y-requires-3 c = search places
+
+pub returns : goal.returns
+unfolding letter_phase letter_product letter_byte turn power for_y
+returns c = search places
