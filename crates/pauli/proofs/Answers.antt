@@ -23,6 +23,17 @@ pub exit-is : {T : Type 0} (r : Answer T) {x : Refusal} → IsErrAnd r (λ e. e 
 exit-is (Ok y) h = absurd h
 exit-is {T} (Err e) h = ap {B = Answer T} Err h
 
+-- what an answer says of its questions
+pub answer-ok : {T : Type 0} (q : Outcome) {x y : T} → Ok y ≡ answer_to q x → (q ≡ Ok tt) × (y ≡ x)
+unfolding answer_to
+answer-ok (Ok tt) e = (refl, cc)
+answer-ok (Err r) e = cc
+
+pub answer-err : {T : Type 0} (q : Outcome) {r : Refusal} (x : T) → Err r ≡ answer_to q x → q ≡ Err r
+unfolding answer_to
+answer-err (Ok tt) x e = cc
+answer-err {T} (Err s) {r} x e = let same : s ≡ r = cc in ap {B = Outcome} Err same
+
 -- ---- the two ways in which a function that answers a value ends
 pub answered : {T : Type 0} {value : T → ℕ} {q : Outcome} {x : T} {r : Answer T} → r ≡ answer_to q x → Answered value q x r
 answered {value = value} {q} {x} e = record { answer = e; told = ap (reply_of value) e ∙ answer-told value q x }

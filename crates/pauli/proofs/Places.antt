@@ -1,5 +1,5 @@
 -- Laws of lists by place, of the first place that has a property, and of a destination that is filled from its front.
-use Rattle.std.proofs.Common.{◌≡◌, ℕ, zero, suc, not, inl, inr, Option, Some, None, ◌+◌, ◌-◌, ◌<◌, ◌≤◌, max, min, Bool, true, false, cond, ltb, List, [], ◌∷◌, ◌++◌, length, get_or, take, drop, set, sym, refl, ap, ◌∙◌, subst, ap₂, le_refl, le_of_suc-le-suc, not-suc-le-zero, add-one, arith, length-append, length-drop, length-take, get_or-drop, take_all, ext_get_or, rules, le-ltb, lt-ltb, le-leb}
+use Rattle.std.proofs.Common.{◌≡◌, ℕ, zero, suc, not, inl, inr, ◌⊎◌, Option, Some, None, ◌+◌, ◌-◌, ◌<◌, ◌≤◌, max, min, Bool, true, false, cond, ltb, List, [], ◌∷◌, ◌++◌, length, get_or, take, drop, set, sym, refl, ap, ◌∙◌, subst, ap₂, le_refl, le_of_suc-le-suc, not-suc-le-zero, add-one, arith, length-append, length-drop, length-take, get_or-drop, take_all, ext_get_or, rules, le-ltb, lt-ltb, le-leb}
 use Rattle.std.specs.List.{position, position_or_len}
 use Rattle.std.specs.Option.{unwrap_or}
 use Rattle.std.proofs.lemmas.Bool.{cases_lt}
@@ -75,6 +75,11 @@ first_has (suc n) f h = step (f zero) refl (first_has n (λ i. f (suc i))) h
     step true e rest h = e
     step false e rest h = rest (le_of_suc-le-suc h)
 
+pub first_ext : (n : ℕ) (f g : ℕ → Bool) → ((i : ℕ) → i < n → f i ≡ g i) → first_place n f ≡ first_place n g
+unfolding first_place
+first_ext zero f g h = refl
+first_ext (suc n) f g h = ap₂ (λ b m. cond b zero (suc m)) (h zero (omega arith)) (first_ext n (λ k. f (suc k)) (λ k. g (suc k)) (λ i l. h (suc i) (omega arith)))
+
 -- std's first index at which a test passes
 pub position-is : (p : ℕ → Bool) (xs : List ℕ) → position_or_len p xs ≡ first_place (length xs) (λ k. p (get_or xs k 0))
 unfolding first_place
@@ -83,16 +88,36 @@ position-is p xs = sym (is_position_or_len (λ ys. first_place (length ys) (λ k
     next : (n : ℕ) → suc n ≡ 1 + n
     next n = omega arith
 
-pub position-or : (p : ℕ → Bool) (xs : List ℕ) (r : Option ℕ) {n : ℕ} → n ≡ unwrap_or r (length xs) → r ≡ position p xs
-    → n ≡ first_place (length xs) (λ k. p (get_or xs k 0))
-position-or p xs r h e =
-    h ∙ ap (λ o. unwrap_or o (length xs)) e ∙ by_place (position_or_len p xs) (prefix_len-le-length (λ x. not (p x)) xs) ∙ position-is p xs
-  where
-    by_place : (i : ℕ) → i ≤ length xs → unwrap_or (cond (ltb i (length xs)) (Some i) None) (length xs) ≡ i
-    by_place i h = elim (cases_lt i (length xs)) [
-      | inl l ↦ ap (λ b. unwrap_or (cond b (Some i) None) (length xs)) (lt-ltb i (length xs) l)
-      | inr l ↦ ap (λ b. unwrap_or (cond b (Some i) None) (length xs)) (le-ltb i (length xs) l) ∙ omega arith
-    ]
+module _ (p : ℕ → Bool) (xs : List ℕ) where
+  abbrev pub first_of : ℕ
+  first_of = first_place (length xs) (λ k. p (get_or xs k 0))
+
+  position_cases : (position p xs ≡ None) × (length xs ≡ first_of) ⊎ (position p xs ≡ Some first_of) × (first_of < length xs)
+  position_cases = elim (cases_lt (position_or_len p xs) (length xs)) [
+    | inl l ↦ inr (ap (λ b. cond b (Some (position_or_len p xs)) None) (lt-ltb _ _ l) ∙ ap (λ (i : ℕ). Some i) (position-is p xs), omega (arith, position-is p xs))
+    | inr l ↦ inl (ap (λ b. cond b (Some (position_or_len p xs)) None) (le-ltb _ _ l), omega (arith, position-is p xs, prefix_len-le-length (λ x. not (p x)) xs))
+  ]
+
+  pub position-at : {k : ℕ} → Some k ≡ position p xs → (k < length xs) × (k ≡ first_of)
+  position-at {k} e = elim position_cases [
+    | inl n ↦ absurd (never (e ∙ n.0))
+    | inr s ↦ let is : k ≡ first_of = cc (e ∙ s.0) in (omega (arith, s.1), is)
+  ]
+    where
+      never : {k : ℕ} → Some k ≡ None → ⊥
+      never e = cc
+
+  pub position-none : None ≡ position p xs → length xs ≡ first_of
+  position-none e = elim position_cases [ inl n ↦ n.1 | inr s ↦ absurd (never (e ∙ s.0)) ]
+    where
+      never : {k : ℕ} → None ≡ Some k → ⊥
+      never e = cc
+
+  pub position-or : (r : Option ℕ) {n : ℕ} → n ≡ unwrap_or r (length xs) → r ≡ position p xs → n ≡ first_of
+  position-or r h e = h ∙ ap (λ o. unwrap_or o (length xs)) e ∙ elim position_cases [
+    | inl n ↦ ap (λ o. unwrap_or o (length xs)) n.0 ∙ n.1
+    | inr s ↦ ap (λ o. unwrap_or o (length xs)) s.0
+  ]
 
 -- what a scan from the front knows before place i
 pub record NoneBefore (n : ℕ) (f : ℕ → Bool) (i : ℕ) : Type 0 where
