@@ -12,7 +12,6 @@ use Rattle.pauli_group.proofs.Laws.{·_assoc, ·-one}
 use Rattle.pauli_group.proofs.Strings.{within-mul}
 use Rattle.pauli_group.proofs.PlacesTaken.{taken_le, taken-within, phase-taken}
 use Rattle.pauli.specs.Layout.{phase_byte, phase_of, letter_byte, letter_of, encode_string, decode_string, string_of, string_record}
-use Rattle.pauli.specs.Rows.{shorter, copied}
 use Rattle.pauli.specs.Questions.{◌and_then◌, string_questions, strings_questions, room_question, mul_questions}
 use Rattle.pauli.specs.Strings.{places_taken_of_records, product_record}
 use Rattle.pauli.specs.Promises.{StringsMultiplied}
@@ -174,13 +173,6 @@ places-length m = length_row_to m.out ∙ sym (ap length m.begun.blank ∙ lengt
 pub ruleset taking = (places-none, places-step, places-more, places_all, places-length, rules)
 
 -- ---- the product's bytes
-copied-whole : (a d : List ℕ) → length a ≡ length d → copied a d ≡ a
-unfolding copied
-copied-whole a d e =
-    let short : shorter a d ≡ length a = omega arith in
-    ap (λ (j : ℕ). take j a ++ drop j d) short ∙ ap₂ ◌++◌ (take_all (length a) a (omega arith)) (drop_of_length-le d {i = length a} (omega arith))
-    ∙ append-nil a
-
 phase_of_lem : (s t : List ℕ) → (mul (string_of s) (string_of t)).phase
     ≡ phase_of (get_or s 0 0) · phase_of (get_or t 0 0) · phase_of_letters (string_of s).letters (string_of t).letters
 unfolding mul string_of decode_string
@@ -196,13 +188,11 @@ unfolding blank_row
 begins f = record { factors = f.factors; blank = refl }
 
 pub product_written : {s t d row ys : List ℕ} {places turns p n : ℕ} → Operands s t places d → RowMultiplied s t row turns
-    → p ≡ phase_byte (phase_of (get_or s 0 0) · phase_of (get_or t 0 0) · power turns) → ys ≡ copied row (take n (drop 1 d)) → n ≡ 128
+    → p ≡ phase_byte (phase_of (get_or s 0 0) · phase_of (get_or t 0 0) · power turns) → ys ≡ row → n ≡ 128
     → set (put_mid 1 n d ys) 0 p ≡ product_record s t ++ drop 129 d
 product_written {s} {t} {d} {row} {ys} {turns = turns} {p = p} {n = n} f m ep ey whole =
-    let long : length row ≡ 128 = ap length m.letters ∙ length-row s t in
-    let same : length row ≡ length (take n (drop 1 d)) = omega (arith, whole, f.room, length-take n (drop 1 d), length-drop 1 d) in
     ap (λ (k : ℕ). set (put_mid 1 k d ys) 0 p) whole ∙ put_record d ys p f.room
-    ∙ ap₂ (λ (x : ℕ) (l : List ℕ). x ∷ l ++ drop 129 d) (ep ∙ phase-is) (ey ∙ copied-whole row _ same ∙ m.letters)
+    ∙ ap₂ (λ (x : ℕ) (l : List ℕ). x ∷ l ++ drop 129 d) (ep ∙ phase-is) (ey ∙ m.letters)
     ∙ ap (λ (l : List ℕ). l ++ drop 129 d) (sym (record_is s t))
   where
     phase-is : phase_byte (phase_of (get_or s 0 0) · phase_of (get_or t 0 0) · power turns) ≡ phase_byte (mul (string_of s) (string_of t)).phase
@@ -228,5 +218,9 @@ module _ (s t d : List ℕ) {sight : Sight} (l : Looked s t sight) (p : Ok tt �
   pub multiplied : {e : List ℕ} {n : ℕ} → n ≡ sight.places → e ≡ product_record s t ++ drop 129 d → StringsMultiplied s t d e (Ok n)
   unfolding product_record mul_questions
   multiplied c w = number-done (first_done p h) (c ∙ l.taken (sym p)) (w ∙ record-bytes (mul (string_of s) (string_of t)) d)
+
+-- where the product's row goes
+pub row_room : {s t d : List ℕ} {places : ℕ} → Operands s t places d → length (take 128 (drop 1 d)) ≡ 128
+row_room {d = d} f = length-take 128 (drop 1 d) ∙ omega (arith, f.room, length-drop 1 d)
 
 pub ruleset string-products = (mul-asked, product_written, operands, begins, multiplied, answers, in_order, rules)
