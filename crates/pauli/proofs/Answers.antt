@@ -1,5 +1,5 @@
 -- Laws of answers: what each says in numbers, and what an answer made from questions is.
-use Rattle.std.proofs.Common.{◌≡◌, ℕ, List, ◌++◌, length, drop, sym, refl, ap, ◌∙◌, Ok, Err, IsErrAnd}
+use Rattle.std.proofs.Common.{◌≡◌, ℕ, List, sym, refl, ap, ◌∙◌, Ok, Err, IsErrAnd}
 use Rattle.pauli.specs.declared.refusal.Refusal.{Refusal}
 use Rattle.pauli.specs.Answers.{Answer, Outcome, refusal_number, refusal_detail, reply, refusal_reply, reply_to, reply_of, no_value, number_value, answer_to, written, Answered, Written, NumberWritten}
 

@@ -15,7 +15,7 @@ use Rattle.pauli.specs.Questions.{ask, ◌and_then◌, byte_question, entry_ques
 use Rattle.pauli.specs.Strings.{entries_record}
 use Rattle.pauli.proofs.Answers.{answers, written-done}
 use Rattle.pauli.proofs.Asking.{never_done, own_done, first_done, first_not, in_order, asked_yes, asked_no, ask_done, done_first, done_second, byte_small, room-is, record-bytes}
-use Rattle.pauli.proofs.EntryMarks.{no_marks, unmark_is, letters-small, qubits-below, first_duplicate, letter-byte, length-marks}
+use Rattle.pauli.proofs.EntryMarks.{no_marks, unmark_is, letters-small, qubits-below, first_duplicate, letter-byte}
 use Rattle.pauli.proofs.Places.{position-at, position-none, length-listed, get_d_listed, listed_ext, Filled, filled_none, filled_step, filled_length, filled_room, filled_all}
 use Rattle.pauli.proofs.Records.{phase_there}
 

@@ -1,6 +1,7 @@
 -- The product of two strings: its letters, 32 places at a step as far as the last that has one, and how it is written.
 use Rattle.pauli.specs.Answers.{Outcome}
-use Rattle.std.proofs.Common.{◌≡◌, ℕ, ◌+◌, ◌%◌, ◌<◌, ◌≤◌, List, ◌∷◌, ◌++◌, length, get_or, take, drop, set, replicate, sym, refl, ap, ◌∙◌, ap₂, append-nil, zero-le, add-one, arith, length-drop, take-append-drop, drop_of_length-le, length-take, get_or-drop, take_all, ext_get_or, rules, Ok}
+use Rattle.std.proofs.Common.{◌≡◌, ℕ, ◌+◌, ◌*◌, ◌%◌, ◌<◌, ◌≤◌, List, ◌∷◌, ◌++◌, length, get_or, take, drop, set, replicate, sym, refl, ap, ◌∙◌, subst, ap₂, append-nil, zero-le, add-one, arith, length-drop, take-append-drop, drop_of_length-le, length-take, get_or-drop, take_all, ext_get_or, rules, Ok}
+use Rattle.std.specs.Int.{div_ceil}
 use lib.ListN.{length-replicate, get_or-replicate}
 use lib.Bits.{bit_xor}
 use borrow.Rule.Slice.PartMut.{put_mid}
@@ -108,16 +109,15 @@ step-length m = length_row_to m.out ∙ sym (length_row_to m.begun.before)
 
 pub ruleset steps = (step-none, step-first, step-second, step-place, step-letters, step-more, step_all, step-length, rules)
 
--- ---- the steps before place i
-pub record PlacesTo (s t : List ℕ) (places : ℕ) (row₀ : List ℕ) (i : ℕ) (row : List ℕ) (turns : ℕ) : Type 0 where
+-- ---- the first k steps
+pub record PlacesTo (s t : List ℕ) (places : ℕ) (row₀ : List ℕ) (k : ℕ) (row : List ℕ) (turns : ℕ) : Type 0 where
   pub begun : Beginning s t places row₀
-  pub whole : i % 32 ≡ 0
-  pub out : RowTo s t i row
-  pub turned : power turns ≡ phase_to i s t
+  pub out : RowTo s t (32 * k) row
+  pub turned : power turns ≡ phase_to (32 * k) s t
 
 pub places-none : {s t : List ℕ} {places : ℕ} {row : List ℕ} → Beginning s t places row → PlacesTo s t places row 0 row 0
 unfolding phase_to product_to power
-places-none h = record { begun = h; whole = refl; out = record { within = zero-le; out = h.blank }; turned = refl }
+places-none h = record { begun = h; out = record { within = zero-le; out = h.blank }; turned = refl }
 
 module _ {s t : List ℕ} {places : ℕ} (f : Factors s t places) where
   most : places ≤ 128
@@ -136,21 +136,29 @@ module _ {s t : List ℕ} {places : ℕ} (f : Factors s t places) where
     unfolding letter_byte
     row-behind q l b = row_at s t q b ∙ ap letter_byte (within-mul i (string_of s) (string_of t) both_within.0 both_within.1 q l)
 
-pub places-step : {s t : List ℕ} {places i : ℕ} {row₀ row : List ℕ} {turns : ℕ} → PlacesTo s t places row₀ i row turns → i < places → Stepping s t i row
-places-step m h =
+pub places-step : {s t : List ℕ} {places n k : ℕ} {row₀ row : List ℕ} {turns : ℕ} → PlacesTo s t places row₀ k row turns → n ≡ div_ceil places 32 → k < n
+    → Stepping s t (32 * k) row
+places-step m e h =
     let f = m.begun.factors in
-    record { first = f.first; second = f.second; room = omega (arith, m.whole, most f); before = m.out }
+    record { first = f.first; second = f.second; room = omega (arith, most f); before = m.out }
 
-pub places-more : {s t : List ℕ} {places i : ℕ} {row₀ row next : List ℕ} {turns v u : ℕ} → PlacesTo s t places row₀ i row turns → Stepped s t i next v
-    → u ≡ (turns + v) % 256 → PlacesTo s t places row₀ (i + 32) next u
-places-more {turns = turns} {v = v} m n e = record {
-  begun = m.begun;
-  whole = omega (arith, m.whole);
-  out = n.after;
-  turned = ap power e ∙ power_sum turns v ∙ ap (λ p. p · power v) m.turned ∙ n.turns;
-}
+pub places-more : {s t : List ℕ} {places k : ℕ} {row₀ row next : List ℕ} {turns v u : ℕ} → PlacesTo s t places row₀ k row turns → Stepped s t (32 * k) next v
+    → u ≡ (turns + v) % 256 → PlacesTo s t places row₀ (k + 1) next u
+places-more {s} {t} {k = k} {next = next} {turns = turns} {v = v} m n e =
+    let on : 32 * k + 32 ≡ 32 * (k + 1) = omega arith in
+    record {
+      begun = m.begun;
+      out = subst (λ i. RowTo s t i next) on n.after;
+      turned = ap power e ∙ power_sum turns v ∙ ap (λ p. p · power v) m.turned ∙ n.turns ∙ ap (λ i. phase_to i s t) on;
+    }
 
-module _ {s t : List ℕ} {places i : ℕ} {row₀ row : List ℕ} {turns : ℕ} (m : PlacesTo s t places row₀ i row turns) (h : places ≤ i) where
+module _ {s t : List ℕ} {places n k : ℕ} {row₀ row : List ℕ} {turns : ℕ} (m : PlacesTo s t places row₀ k row turns) (whole : n ≡ div_ceil places 32) (ends : n ≤ k) where
+  abbrev i : ℕ
+  i = 32 * k
+
+  h : places ≤ i
+  h = omega arith
+
   rest : drop i blank_row ≡ drop i (product_row s t)
   rest = ext_get_or 0 _ _ (omega (arith, length-drop i blank_row, length-drop i (product_row s t), length-blank, length-row s t)) at
     where

@@ -148,11 +148,8 @@ fn multiply_places(s: &[u8], t: &[u8], places: usize, row: &mut [u8]) -> u8
     ensures { RowMultiplied s.now t.now row.new result }
 {
     let mut turns: u8 = 0;
-    let mut at = 0;
-    while at < places {
-        let more = multiply_step(s, t, at, row);
-        turns = turns.wrapping_add(more);
-        at += 32;
+    for step in 0..places.div_ceil(32) {
+        turns = turns.wrapping_add(multiply_step(s, t, 32 * step, row));
     }
     turns
 }

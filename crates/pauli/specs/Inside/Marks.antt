@@ -1,6 +1,6 @@
 -- What the code keeps of the entries read so far: a mark for each qubit, 0 where no entry names it, 1 + its letter where one
 -- does, 5 where more do.
-use Rattle.std.specs.Prelude.{◌≡◌, ℕ, zero, suc, ◌<◌, ◌≤◌, Bool, cond, List, ◌++◌, length, drop, nat_eq, nat_le, slice_index, Ok}
+use Rattle.std.specs.Prelude.{◌≡◌, ℕ, zero, suc, ◌<◌, ◌≤◌, Bool, cond, List, length, nat_eq, nat_le, slice_index, Ok}
 use Rattle.pauli_group.specs.PauliString.{qubits}
 use Rattle.pauli.specs.declared.refusal.Refusal.TheVariants.{Duplicate}
 use Rattle.pauli.specs.Questions.{ask, with_phase_questions}
@@ -50,7 +50,7 @@ pub record Unmarked (e m : List ℕ) : Type 0 where
 pub record Blank (m : List ℕ) : Type 0 where
   pub none : (e : List ℕ) → m ≡ marks_to e 0
 
--- the answer r to a phase and entries, and the marks m that are left where it is Done
+-- the answer r to a phase and entries, and the marks m that are left where it is Ok
 pub record EntriesRead (p : ℕ) (e : List ℕ) (room : ℕ) (m : List ℕ) (r : Outcome) : Type 0 where
   pub answer : r ≡ with_phase_questions p e room
   pub marks : r ≡ Ok tt → m ≡ marks_to e (entry_count e)

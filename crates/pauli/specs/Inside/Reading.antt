@@ -1,9 +1,8 @@
 -- What the functions that read text promise one another.
-use Rattle.std.specs.Prelude.{◌≡◌, ℕ, ◌+◌, ◌-◌, ◌^◌, ◌<◌, ◌≤◌, Bool, true, false, ◌&&◌, Option, Some, None, List, ◌∷◌, length, drop, nat_lt, slice_index, Ok, Err}
+use Rattle.std.specs.Prelude.{◌≡◌, ℕ, ◌+◌, ◌^◌, ◌<◌, ◌≤◌, Bool, true, false, ◌&&◌, Option, Some, None, List, ◌∷◌, length, drop, nat_lt, slice_index, Ok, Err}
 use Rattle.pauli.specs.declared.text.Prefix.{Prefix}
 use Rattle.pauli.specs.declared.text.Head.{Head}
 use Rattle.pauli.specs.declared.sparse_reader.Entry.{Entry}
-use Rattle.pauli_group.specs.PauliString.{qubits}
 use Rattle.pauli.specs.declared.refusal.Refusal.{Refusal}
 use Rattle.pauli.specs.Entries.{entry_count, entry_letter, entry_qubit}
 use Rattle.pauli.specs.Inside.Marks.{marks_to, Blank}
@@ -85,7 +84,7 @@ pub record GoodEntries (e : List ℕ) : Type 0 where
   pub letters : (j : ℕ) → j < entry_count e → entry_letter e j ≤ 3
   pub places : (j : ℕ) → j < entry_count e → entry_qubit e j < 128
 
--- the answer r to the tokens ws, and the marks m that are left where it is Done
+-- the answer r to the tokens ws, and the marks m that are left where it is Ok
 pub record TokensRead (ws : List Token) (m : List ℕ) (r : Outcome) : Type 0 where
   pub answer : r ≡ token_questions ws
   pub marks : r ≡ Ok tt → m ≡ marks_to (token_entries ws) (entry_count (token_entries ws))
@@ -97,7 +96,7 @@ pub record SparseAt (t : List ℕ) (k : ℕ) (m : List ℕ) : Type 0 where
   pub within : k ≤ length t
   pub blank : Blank m
 
--- the answer r to a sparse text, and the marks m that are left where it is Done
+-- the answer r to a sparse text, and the marks m that are left where it is Ok
 pub record SparseRead (t : List ℕ) (room : ℕ) (m : List ℕ) (r : Outcome) : Type 0 where
   pub answer : r ≡ from_sparse_questions t room
   pub marks : r ≡ Ok tt → m ≡ marks_to (sparse_entries t) (entry_count (sparse_entries t))

@@ -2,14 +2,14 @@
 use Rattle.pauli.proofs.Multiplying.{taking}
 use Rattle.pauli.proofs.algebra.multiply_places.Goals as goal
 
-pub loop-at-init : goal.loop-at-init
-loop-at-init c = search taking
+pub loop-step-init : goal.loop-step-init
+loop-step-init c = search taking
 
-pub multiply_step-more-requires : goal.multiply_step-more-requires
-multiply_step-more-requires c = search taking
+pub multiply_step-turns-requires : goal.multiply_step-turns-requires
+multiply_step-turns-requires c = search taking
 
-pub loop-at-preserved : goal.loop-at-preserved
-loop-at-preserved c = search taking
+pub loop-step-preserved : goal.loop-step-preserved
+loop-step-preserved c = search taking
 
 pub returns : goal.returns
 returns c = search taking

@@ -1,6 +1,5 @@
 -- `text::digits` meets its contract.
 use Rattle.std.proofs.Common.{◌∙◌, arith, rules, tests}
-use Rattle.std.proofs.lemmas.Grind.{common_steps}
 use Rattle.pauli.specs.Text.{is_digit}
 use Rattle.pauli.proofs.Numerals.{digits_empty, digits-other, digits_over, digits_step, digits_all}
 use Rattle.pauli.proofs.text.digits.Goals as goal

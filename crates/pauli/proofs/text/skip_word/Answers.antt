@@ -1,5 +1,5 @@
 -- `text::skip_word` meets its contract.
-use Rattle.std.proofs.Common.{not, rules, tests}
+use Rattle.std.proofs.Common.{rules, tests}
 use Rattle.std.proofs.lemmas.Iterator.{YieldsList-from_slice}
 use Rattle.std.proofs.lemmas.Iterator.Search.{position_from_yields_List}
 use Rattle.pauli.specs.Text.{is_space}
