@@ -1,11 +1,7 @@
 -- Laws of answers: what each says in numbers, and what an answer made from questions is.
 use Rattle.std.proofs.Common.{◌≡◌, ℕ, List, sym, refl, ap, ◌∙◌, Ok, Err, IsErrAnd}
 use Rattle.pauli.specs.declared.refusal.Refusal.{Refusal}
-use Rattle.pauli.specs.Answers.{Answer, Outcome, refusal_number, refusal_detail, reply, refusal_reply, reply_to, reply_of, no_value, number_value, answer_to, written, Answered, Written, NumberWritten}
-
-pub reply-is : (r : Refusal) {n d : ℕ} → n ≡ refusal_number r → d ≡ refusal_detail r → reply n d ≡ refusal_reply r
-unfolding refusal_reply
-reply-is r e h = λ i. reply (e i) (h i)
+use Rattle.pauli.specs.Answers.{Answer, Outcome, reply_to, reply_of, no_value, number_value, answer_to, written, Answered, Written, NumberWritten}
 
 -- an answer made from questions has the number and the value that the questions give
 pub answer-told : {T : Type 0} (value : T → ℕ) (q : Outcome) (x : T) → reply_of value (answer_to q x) ≡ reply_to q (value x)

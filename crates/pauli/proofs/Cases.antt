@@ -12,10 +12,6 @@ at-last f e (suc zero) h = absurd (omega arith)
 at-last f e (suc (suc zero)) h = absurd (omega arith)
 at-last f e (suc (suc (suc n))) h = e n
 
--- the same of two numbers
-pub at-two : {A : Type 0} (f : ℕ → ℕ → A) {a b k m : ℕ} {v : A} → a ≡ k → b ≡ m → v ≡ f k m → v ≡ f a b
-at-two f p q h = h ∙ (λ i. f (sym p i) (sym q i))
-
 -- what the default arm of a match with the arms 0, 1 and 2 finds
 pub three_up : {n : ℕ} → ((Unit {0} × (n ≡ 0 → ⊥)) × (n ≡ 1 → ⊥)) × (n ≡ 2 → ⊥) → n ≡ suc (suc (suc (n - 3)))
 three_up {n} h = omega arith

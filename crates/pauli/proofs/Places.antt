@@ -8,7 +8,6 @@ use Rattle.std.proofs.lemmas.List.Sums.{prefix_len-le-length}
 use native.Mathlib.Decide.{ℕ_discrete}
 use lib.ListN.{get_or-append}
 use lib.Seq.{get_or_at, take-length}
-use borrow.Author.Tests.{lt-leb}
 use Rattle.pauli.specs.Places.{listed, first_place}
 use Rattle.pauli.specs.Questions.{first_bad}
 use Rattle.pauli.specs.Rows.{largest_to, copied}
@@ -181,8 +180,6 @@ none_bad s e h =
 
 pub ruleset largest-bytes = (largest_start, largest_step, largest_all, rules)
 
-pub ruleset scans = (none_bad, none_start, none_more, none_found, none_left_lem, lt-ltb, le-ltb, le-leb, lt-leb, rules)
-
 -- what a scan that keeps the first place p knows before place i; p is n where none is seen yet
 pub record FirstSeen (n : ℕ) (f : ℕ → Bool) (i p : ℕ) : Type 0 where
   pub within : i ≤ n
@@ -233,8 +230,6 @@ module _ {n : ℕ} {f : ℕ → Bool} {i p q : ℕ} (m : FirstSeen n f i p) (h :
 
 pub first_end : {n : ℕ} {f : ℕ → Bool} {i p : ℕ} → FirstSeen n f i p → n ≤ i → p ≡ first_place n f
 first_end {n} {f} {i} {p} m h = first-is n f p m.most (λ k l. m.none k (omega (arith, m.most)) l) m.has
-
-pub ruleset firsts = (first_start, first_found, first_held, first_past, first_end, rules)
 
 -- ---- a destination that is overwritten from its front, one element a turn
 -- the first i elements of s, and then d from i on

@@ -2,7 +2,7 @@
 use Rattle.std.proofs.Common.{◌≡◌, ℕ, zero, suc, min, inl, inr, subst, ◌+◌, ◌*◌, ◌/◌, ◌%◌, ◌<◌, ◌≤◌, Bool, cond, T, eqb, sym, refl, ap, ◌∙◌, ap₂, suc-mul, div-add-mod', zero-mul, arith, eqb→eq, w8, Fits, rules}
 use Rattle.std.proofs.lemmas.Bool.{cases_lt}
 use lib.Bits.{bit_xor, bit_and, and_le_l}
-use Rattle.pauli_group.specs.Phase.{Phase, PlusOne, MinusI, negate, turn, ◌·◌}
+use Rattle.pauli_group.specs.Phase.{Phase, PlusOne, negate, turn, ◌·◌}
 use Rattle.pauli_group.specs.Letter.{Letter, letter_product, letter_phase, letter_mul, anticommute, not_i}
 use Rattle.pauli_group.specs.Papers.{power}
 use Rattle.pauli_group.proofs.Finite.{letters, phases, law2}
@@ -137,9 +137,6 @@ some-lettered {x} d = sym (ap (λ b. cond b 1 0) (some-letter x d))
 pub turns-added : {x y t r : ℕ} (v : ℕ) → LetterTurns x y t → r ≡ (v + t) % 256 → power r ≡ power v · letter_phase (letter_of x) (letter_of y)
 turns-added {t = t} v m e = ap power e ∙ power_sum v t ∙ ap (λ p. power v · p) m.is
 
-pub phase_key : {p t : ℕ} (k : ℕ) → p ≡ k → power t ≡ phase_of k → PhaseTurns p t
-phase_key k e h = record { is = h ∙ ap phase_of (sym e) }
-
 pub phase_last : (p : ℕ) → 3 ≤ p → PhaseTurns p 3
 unfolding power turn phase_of
 phase_last zero h = absurd (omega arith)
@@ -150,10 +147,6 @@ phase_last (suc (suc (suc p))) h = record { is = refl }
 pub turn_key : (t m : ℕ) {r : ℕ} → t % 4 ≡ m → r ≡ phase_byte (power m) → r ≡ phase_byte (power t)
 unfolding power turn
 turn_key t m e h = h ∙ ap (λ (x : ℕ). phase_byte (power x)) (sym e) ∙ ap phase_byte (power_mod t 4 refl)
-
-pub turn-rest : (t : ℕ) → ((Unit {0} × (t % 4 ≡ 0 → ⊥)) × (t % 4 ≡ 1 → ⊥)) × (t % 4 ≡ 2 → ⊥) → phase_byte MinusI ≡ phase_byte (power t)
-unfolding power turn
-turn-rest t h = turn_key t 3 (omega arith) refl
 
 pub phases_are : {a b s t u r : ℕ} → PhaseTurns a s → PhaseTurns b t → u ≡ (s + t) % 256 → r ≡ phase_byte (power u) → r ≡ phase_bytes_product a b
 unfolding phase_bytes_product

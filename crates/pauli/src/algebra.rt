@@ -76,14 +76,13 @@ fn see(sight: Sight, x: u8, y: u8, q: usize) -> Sight
     ensures { result ≡ seen_with sight x y q }
 {
     let letter = x.max(y);
-    Sight {
-        largest: sight.largest.max(letter),
-        places: if letter == 0 {
-            sight.places
-        } else {
-            (q + 1) as u8
-        },
-    }
+    let largest = sight.largest.max(letter);
+    let places = if letter == 0 {
+        sight.places
+    } else {
+        (q + 1) as u8
+    };
+    Sight { largest, places }
 }
 
 // Looks through two string records at once. What is not two string records is seen as bad, so that the questions are then put one by

@@ -1,5 +1,5 @@
-// Entries, byte pairs (letter, qubit), read into a mark for each qubit, so that a duplicate is found before anything is written. Ports `with_phase_and_paulis` of pauli_string.rs of PECOS,
-// changed: Copyright 2024 The PECOS Developers, Apache License, Version 2.0.
+// Entries, byte pairs (letter, qubit), read into a mark for each qubit, so that a duplicate is found before anything is written. Ports
+// `with_phase_and_paulis` of pauli_string.rs of PECOS, changed: Copyright 2024 The PECOS Developers, Apache License, Version 2.0.
 ghost use Rattle.std.specs.Prelude.{◌≡◌, ◌∷◌, ◌++◌, length, drop, slice_index, slice_set};
 ghost use Rattle.pauli.specs.Entries.{entry_count};
 ghost use Rattle.pauli.specs.Inside.Marks.{mark_more, marks_to, MarkFits, Unmarked, marks_question, Blank, EntriesRead, letters_marked, RecordFits};
