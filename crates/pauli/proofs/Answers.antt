@@ -1,11 +1,7 @@
 -- Laws of answers: what each says in numbers, and what an answer made from questions is.
-use Rattle.std.proofs.Common.{◌≡◌, ℕ, List, ◌++◌, length, drop, sym, refl, ap, ◌∙◌, Ok, Err, IsErrAnd, Bool, true, is_err}
+use Rattle.std.proofs.Common.{◌≡◌, ℕ, List, sym, refl, ap, ◌∙◌, Ok, Err, IsErrAnd, Bool, true, is_err}
 use Rattle.pauli.specs.declared.refusal.Refusal.{Refusal}
-use Rattle.pauli.specs.Answers.{Answer, Outcome, refusal_number, refusal_detail, reply, refusal_reply, reply_to, reply_of, no_value, number_value, answer_to, written, Answered, Written, NumberWritten}
-
-pub reply-is : (r : Refusal) {n d : ℕ} → n ≡ refusal_number r → d ≡ refusal_detail r → reply n d ≡ refusal_reply r
-unfolding refusal_reply
-reply-is r e h = λ i. reply (e i) (h i)
+use Rattle.pauli.specs.Answers.{Answer, Outcome, reply_to, reply_of, no_value, number_value, answer_to, written, Answered, Written, NumberWritten}
 
 -- an answer made from questions has the number and the value that the questions give
 pub answer-told : {T : Type 0} (value : T → ℕ) (q : Outcome) (x : T) → reply_of value (answer_to q x) ≡ reply_to q (value x)
@@ -22,6 +18,17 @@ outcome-told (Err r) = refl
 pub exit-is : {T : Type 0} (r : Answer T) {x : Refusal} → IsErrAnd r (λ e. e ≡ x) → r ≡ Err x
 exit-is (Ok y) h = absurd h
 exit-is {T} (Err e) h = ap {B = Answer T} Err h
+
+-- what an answer says of its questions
+pub answer-ok : {T : Type 0} (q : Outcome) {x y : T} → Ok y ≡ answer_to q x → (q ≡ Ok tt) × (y ≡ x)
+unfolding answer_to
+answer-ok (Ok tt) e = (refl, cc)
+answer-ok (Err r) e = cc
+
+pub answer-err : {T : Type 0} (q : Outcome) {r : Refusal} (x : T) → Err r ≡ answer_to q x → q ≡ Err r
+unfolding answer_to
+answer-err (Ok tt) x e = cc
+answer-err {T} (Err s) {r} x e = let same : s ≡ r = cc in ap {B = Outcome} Err same
 
 -- ---- the two ways in which a function that answers a value ends
 pub answered : {T : Type 0} {value : T → ℕ} {q : Outcome} {x : T} {r : Answer T} → r ≡ answer_to q x → Answered value q x r

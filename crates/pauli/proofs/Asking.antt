@@ -37,9 +37,6 @@ pub own_done : {r q : Outcome} → r ≡ q → r ≡ Ok tt → Ok tt ≡ q
 own_done p h = sym h ∙ p
 
 -- at a `?`, which gives on a refusal as it is
-pub branch_not : {r q : Outcome} {b : _} {e : _} {x : Refusal} → r ≡ q → r ≡ result_from_control_flow b → b ≡ Break e → x ≡ e.0 → Err x ≡ q
-branch_not p h k d = ap {B = Outcome} Err d ∙ sym (h ∙ ap result_from_control_flow k) ∙ p
-
 pub branch_done : {r q : Outcome} {b : _} {u : Unit {0}} → r ≡ q → r ≡ result_from_control_flow b → b ≡ Continue u → Ok tt ≡ q
 branch_done p h k = sym (h ∙ ap result_from_control_flow k) ∙ p
 
@@ -78,9 +75,6 @@ passed {r} {q} {y} p h e = e ∙ ap (λ x. x and_then y) (sym h ∙ p)
 
 pub then_second : {a : Outcome} (b : Outcome) → a ≡ Ok tt → b ≡ a and_then b
 then_second b e = passed refl e refl
-
-pub then_first : {a : Outcome} {x : Refusal} (b : Outcome) → a ≡ Err x → a ≡ a and_then b
-then_first b e = refused b refl e
 
 pub then_asked : {a b r x y : Outcome} → r ≡ a and_then b → a ≡ x → b ≡ y → r ≡ x and_then y
 then_asked e p q = e ∙ ap₂ ◌and_then◌ p q

@@ -1,5 +1,6 @@
 -- Dense text: its end, its letters, and the record that is written from them.
-use Rattle.std.proofs.Common.{◌≡◌, ℕ, suc, ◌+◌, ◌-◌, ◌<◌, ◌≤◌, max, Bool, true, false, not, ◌||◌, ltb, List, ◌∷◌, ◌++◌, length, get_or, take, drop, set, sym, refl, ap, ◌∙◌, ap₂, append-nil, add-one, arith, length-drop, drop_of_length-le, length-take, take_all, drop-cons, rules, le-ltb, lt-ltb, ne_eqb, Ok, Err}
+use Rattle.std.proofs.Common.{◌≡◌, ℕ, suc, ◌+◌, ◌-◌, ◌<◌, ◌≤◌, max, Bool, true, false, not, reverse, ◌||◌, ltb, List, ◌∷◌, ◌++◌, length, get_or, take, drop, set, sym, refl, ap, ◌∙◌, ap₂, append-nil, add-one, arith, length-drop, drop_of_length-le, length-take, take_all, drop-cons, rules, le-ltb, lt-ltb, ne_eqb, Ok, Err}
+use Rattle.std.proofs.lemmas.List.{get_or-reverse, length-reverse}
 use borrow.Rule.Slice.PartMut.{put_mid}
 use Rattle.pauli_group.specs.PauliString.{qubits}
 use Rattle.pauli.specs.declared.refusal.Refusal.{Refusal}
@@ -9,15 +10,15 @@ use Rattle.pauli.specs.Answers.{written, Written, Outcome}
 use Rattle.pauli.specs.Places.{listed, first_place}
 use Rattle.pauli.specs.Layout.{phase_byte, encode_string, string_record}
 use Rattle.pauli.specs.Questions.{◌and_then◌, room_question}
-use Rattle.pauli.specs.Inside.Reading.{EndRead, HeadRead, letters_named, DenseAt, DenseFit}
+use Rattle.pauli.specs.Inside.Reading.{EndRead, HeadRead, letters_named, DenseAt}
+use Rattle.pauli.specs.Inside.Marks.{RecordFits}
 use Rattle.pauli.specs.Text.{is_space, is_identity, letter_named, text_end, text_phase, body_start, ascii_question, dense_body, dense_letter, letter_questions, dense_questions, dense_string, from_dense_questions, dense_record}
 use Rattle.pauli.proofs.Answers.{answers, written-done}
 use Rattle.pauli.proofs.Asking.{own_done, own_not, first_done, first_not, in_order, and_then_assoc, asked_yes, asked_no, refused, passed, done_second, room-is, record-bytes}
 use Rattle.pauli.proofs.EntryStrings.{put_record}
-use Rattle.pauli.proofs.Places.{none_start, none_more, none_found, none_left_lem, length-listed, get_d_listed, listed_ext, Filled, filled_none, filled_step, filled_length, filled_room, filled_all}
+use Rattle.pauli.proofs.Places.{first_of, first_ext, length-listed, get_d_listed, listed_ext, Filled, filled_none, filled_step, filled_length, filled_room, filled_all}
 use Rattle.pauli.proofs.Records.{letter_there}
 use Rattle.pauli.proofs.SparseReading.{letter-small}
-use Rattle.pauli.proofs.TextBytes.{not_on, not_off}
 
 -- ---- I, i and 1
 pub identity-is : {c : ℕ} (k : ℕ) → c ≡ k → true ≡ is_identity k → true ≡ is_identity c
@@ -30,11 +31,18 @@ identity-not {c} p q r = sym (λ i. (ne_eqb c 73 p i || ne_eqb c 105 q i) || ne_
 pub ruleset identities = (identity-is, identity-not, rules)
 
 -- ---- the trimmed end
-pub end_found : (t : List ℕ) {k : ℕ} → k ≡ first_place (length t) (λ j. not (is_space (get_or t (length t - (j + 1)) 0))) → EndRead t (length t - k)
+pub end_found : (t : List ℕ) {r k : ℕ} → k ≡ first_of (λ c. not (is_space c)) (reverse t) → r ≡ length t - k → EndRead t r
 unfolding text_end
-end_found t e = record { is = ap (λ (j : ℕ). length t - j) e; within = omega arith }
+end_found t {r} {k} e h = record { is = h ∙ ap (λ (j : ℕ). length t - j) (e ∙ ap₂ first_place long refl ∙ first_ext (length t) _ _ back); within = omega arith }
+  where
+    long : length (reverse t) ≡ length t
+    long = length-reverse t
 
-pub ruleset ends = (end_found, not_on, not_off, none_start, none_more, none_found, none_left_lem, rules)
+    back : (k : ℕ) → k < length t → not (is_space (get_or (reverse t) k 0)) ≡ not (is_space (get_or t (length t - (k + 1)) 0))
+    back k l = ap (λ (c : ℕ). not (is_space c)) (get_or-reverse t k 0 l ∙ ap (λ (j : ℕ). get_or t j 0) same)
+      where
+        same : length t - 1 - k ≡ length t - (k + 1)
+        same = omega arith
 
 -- ---- one letter
 pub letter-identity : (c k q : ℕ) {b : Bool} → b ≡ is_identity c → b ≡ true → Ok tt ≡ dense_letter c k q
@@ -119,7 +127,7 @@ named_all b {d} {e} {i} f h =
 
 pub ruleset named_fills = (named-at, named_none, named_all, filled_step, filled_length, filled_room, rules)
 
-pub dense_written : (b : List ℕ) {d ys : List ℕ} (p : ℕ) → DenseFit d → ys ≡ letters_named (length (take 128 (drop 1 d))) b
+pub dense_written : (b : List ℕ) {d ys : List ℕ} (p : ℕ) → RecordFits d → ys ≡ letters_named (length (take 128 (drop 1 d))) b
     → set (put_mid 1 128 d ys) 0 p ≡ p ∷ letters_named 128 b ++ drop 129 d
 dense_written b {d} {ys} p f e =
     let part : length (take 128 (drop 1 d)) ≡ 128 = length-take 128 (drop 1 d) ∙ omega (arith, f.room, length-drop 1 d) in
@@ -148,7 +156,7 @@ dense-fits at = at.fits
 pub ruleset dense_answers = (dense-asked, in_order, dense-fits, rules)
 
 -- ---- the record
-pub dense-room : (t d : List ℕ) {r : Outcome} → r ≡ from_dense_questions t (length d) → r ≡ Ok tt → DenseFit d
+pub dense-room : (t d : List ℕ) {r : Outcome} → r ≡ from_dense_questions t (length d) → r ≡ Ok tt → RecordFits d
 unfolding from_dense_questions
 dense-room t d e h = record { room = room-is 129 (length d) (done_second (dense_questions t) _ (sym e ∙ h)) }
 
@@ -171,7 +179,7 @@ dense-bytes t b d k p at ep h done w = written-done (own_done h done) (w ∙ ap 
 pub ruleset dense-strings = (dense_written, dense-room, dense-bytes, answers, in_order, rules)
 
 -- the body, from the prefix to the trimmed end
-pub dense-at : {t : List ℕ} {h : Head} {k e : ℕ} → HeadRead t h → EndRead t k → e ≡ max h.at k → length t < 18446744073709551616
+pub dense-at : {t : List ℕ} {h : Head} {k e : ℕ} → HeadRead t h → EndRead t k → e ≡ max k h.at → length t < 18446744073709551616
     → DenseAt t (take (e - h.at) (drop h.at t)) h.at
 unfolding dense_body
 dense-at {t} {h} {k} {e} head end m big =

@@ -1,6 +1,8 @@
 -- `from_str`: its rule is the same as any digit in the text, and its answer is that of the reader it picks.
 use Rattle.std.proofs.Common.{◌≡◌, ℕ, ◌+◌, ◌<◌, ◌≤◌, Bool, true, false, cond, ◌&&◌, ◌||◌, eqb, leb, ◌⊎◌, List, [], ◌∷◌, length, get_or, drop, sym, refl, ap, ◌∙◌, subst, inl, inr, add-one, arith, drop_of_length-le, drop-cons, rules, eqb-true, leb-true}
 use lib.Seq.{drop-nil}
+use Rattle.std.specs.List.{list_any}
+use Rattle.std.specs.Char.{is_ascii_digit}
 use Rattle.pauli.specs.Answers.{Written, Outcome}
 use Rattle.pauli.specs.Questions.{◌and_then◌, room_question}
 use Rattle.pauli.specs.Layout.{string_record}
@@ -97,29 +99,14 @@ pub sparse_digit : (t : List ℕ) → is_sparse t ≡ any_digit t
 unfolding is_sparse text_start
 sparse_digit t = i_kept (without_signs (drop (leading_spaces t) t)) ∙ signs_kept (drop (leading_spaces t) t) ∙ spaces_kept t
 
--- ---- the scan for a digit
-pub record NoDigit (t : List ℕ) (i : ℕ) : Type 0 where
-  pub within : i ≤ length t
-  pub rest : is_sparse t ≡ any_digit (drop i t)
+-- ---- std's `any`
+any-list : (t : List ℕ) → list_any is_ascii_digit t ≡ any_digit t
+unfolding any_digit is_digit
+any-list [] = refl
+any-list (c ∷ cs) = ap (λ b. is_ascii_digit c || b) (any-list cs)
 
-pub no_digit_yet : (t : List ℕ) → NoDigit t 0
-no_digit_yet t = record { within = omega arith; rest = sparse_digit t }
-
-any_here : (t : List ℕ) (i : ℕ) → i < length t → any_digit (drop i t) ≡ (is_digit (get_or t i 0) || any_digit (drop (i + 1) t))
-unfolding any_digit
-any_here t i h = rw (drop-cons t i 0 h, add-one i)
-
-pub no_digit_more : {t : List ℕ} {i : ℕ} {b : Bool} → NoDigit t i → i < length t → b ≡ is_digit (get_or t i 0) → b ≡ false → NoDigit t (i + 1)
-no_digit_more {t} {i} m h e k = record { within = omega arith; rest = m.rest ∙ any_here t i h ∙ ap (λ x. x || any_digit (drop (i + 1) t)) (sym e ∙ k) }
-
-pub digit_found : {t : List ℕ} {i : ℕ} {b : Bool} → NoDigit t i → i < length t → b ≡ is_digit (get_or t i 0) → b ≡ true → true ≡ is_sparse t
-digit_found {t} {i} m h e k = sym (m.rest ∙ any_here t i h ∙ ap (λ x. x || any_digit (drop (i + 1) t)) (sym e ∙ k))
-
-pub no_digit_at_all : {t : List ℕ} {i : ℕ} → NoDigit t i → length t ≤ i → false ≡ is_sparse t
-unfolding any_digit
-no_digit_at_all {t} {i} m h = sym (m.rest ∙ ap any_digit (drop_of_length-le t h))
-
-pub ruleset digit_scans = (no_digit_yet, no_digit_more, digit_found, no_digit_at_all, rules)
+pub sparse-any : (t : List ℕ) {b : Bool} → b ≡ list_any is_ascii_digit t → b ≡ is_sparse t
+sparse-any t e = e ∙ any-list t ∙ sym (sparse_digit t)
 
 -- ---- the reader that is picked
 module _ (t d : List ℕ) where

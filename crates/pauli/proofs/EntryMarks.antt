@@ -12,7 +12,7 @@ use Rattle.pauli.specs.Entries.{entry_count, entry_letter, entry_qubit, occurren
 use Rattle.pauli.specs.Inside.Marks.{mark_more, mark_to, marks_to, first_twice, unmarked, MarkFits, Unmarked}
 use Rattle.pauli.specs.Questions.{byte_question, even_question, first_bad_entry, entry_letters_question, first_high_entry, entry_qubits_question, entry_questions, smallest_duplicate}
 use Rattle.pauli.proofs.Asking.{asked_yes, asked_no, ask_done, done_first, done_second}
-use Rattle.pauli.proofs.Places.{length-listed, get_d_listed, first_le, first-is, first-before, first_has}
+use Rattle.pauli.proofs.Places.{NoneBefore, none_start, none_more, none_found, none_left_lem, length-listed, get_d_listed, first_le, first-is, first-before, first_has}
 use Rattle.pauli.proofs.Records.{letter_there}
 
 -- ---- the questions
@@ -42,7 +42,28 @@ pub qubits-good : (e : List ℕ) {j : ℕ} → j ≡ first_high_entry e → leng
 unfolding entry_qubits_question entry_count
 qubits-good e p h = asked_yes (Qubit (entry_qubit e (first_high_entry e))) (le-leb (length e / 2) (first_high_entry e) (omega arith))
 
-pub ruleset entry-questions = (entries_odd, entries-even, letters_bad, letters-good, qubits_bad, qubits-good, rules)
+-- a loop over the entries stops at the first that is refused
+pub letter_refused : (e : List ℕ) {j : ℕ} → NoneBefore (length e / 2) (λ k. ltb 3 (get_or e (2 * k) 0)) j → j < length e / 2 → 3 < get_or e (2 * j) 0
+    → Err (BadByte (2 * j)) ≡ entry_letters_question e
+unfolding first_bad_entry entry_count entry_letter
+letter_refused e {j} m h b = letters_bad e (none_found m h (lt-ltb 3 (get_or e (2 * j) 0) b)) h
+
+pub letters_pass : (e : List ℕ) {j : ℕ} → NoneBefore (length e / 2) (λ k. ltb 3 (get_or e (2 * k) 0)) j → length e / 2 ≤ j → Ok tt ≡ entry_letters_question e
+unfolding first_bad_entry entry_count entry_letter
+letters_pass e m h = letters-good e (none_left_lem m h) h
+
+pub qubit_refused : (e : List ℕ) {j q : ℕ} → NoneBefore (length e / 2) (λ k. leb 128 (get_or e (2 * k + 1) 0)) j → j < length e / 2 → q ≡ get_or e (2 * j + 1) 0 → 128 ≤ q
+    → Err (Qubit q) ≡ entry_qubits_question e
+unfolding first_high_entry entry_count entry_qubit qubits
+qubit_refused e {j} m h eq b = qubits_bad e (none_found m h (le-leb 128 (get_or e (2 * j + 1) 0) (omega arith))) h eq
+
+pub qubits_pass : (e : List ℕ) {j : ℕ} → NoneBefore (length e / 2) (λ k. leb 128 (get_or e (2 * k + 1) 0)) j → length e / 2 ≤ j → Ok tt ≡ entry_qubits_question e
+unfolding first_high_entry entry_count entry_qubit qubits
+qubits_pass e m h = qubits-good e (none_left_lem m h) h
+
+pub ruleset entry_scans = (letter_refused, letters_pass, qubit_refused, qubits_pass, none_start, none_more, le-ltb, lt-leb, rules)
+
+pub ruleset entry-questions = (entries_odd, entries-even, rules)
 
 -- what they let by
 pub letters-small : (p : ℕ) (e : List ℕ) → entry_questions p e ≡ Ok tt → (j : ℕ) → j < entry_count e → entry_letter e j ≤ 3
@@ -72,16 +93,12 @@ mark_again (suc x) l h = refl
 pub marked_again : (m : List ℕ) (q l : ℕ) → (get_or m q 0 ≡ 0 → ⊥) → set m q 5 ≡ set m q (mark_more (get_or m q 0) l)
 marked_again m q l h = ap (set m q) (mark_again (get_or m q 0) l h)
 
-pub unmark_none : {m : ℕ} → m ≡ 0 → 0 ≡ unmarked m
+pub unmark_is : (m : ℕ) → m - 1 ≡ unmarked m
 unfolding unmarked
-unmark_none h = sym (ap unmarked h)
+unmark_is zero = omega arith
+unmark_is (suc m) = omega arith
 
-pub unmark_one : (m : ℕ) → (m ≡ 0 → ⊥) → m - 1 ≡ unmarked m
-unfolding unmarked
-unmark_one zero h = absurd (h refl)
-unmark_one (suc m) h = omega arith
-
-pub ruleset marking = (marked_first, marked_again, unmark_none, unmark_one, rules)
+pub ruleset marking = (marked_first, marked_again, rules)
 
 -- ---- the marks after n entries
 pub mark_ext : (n : ℕ) (f g : ℕ → Bool) (a b : ℕ → ℕ) → ((j : ℕ) → j < n → f j ≡ g j) → ((j : ℕ) → j < n → a j ≡ b j) → mark_to f a n ≡ mark_to g b n
@@ -157,11 +174,11 @@ marking_none {e} {m} {n} h u = record {
   places = λ i l. u.places i (omega arith);
 }
 
-pub marking_fits : {e m : List ℕ} {n j l q : ℕ} → Marking e n j m → j < n → l ≡ get_or e (2 * j) 0 → q ≡ get_or e (2 * j + 1) 0 → MarkFits m l q
+pub marking_fits : {e m : List ℕ} {n j l q : ℕ} → Marking e n j m → j < n → l ≡ get_or e (2 * j) 0 → q ≡ get_or e (2 * j + 1) 0 → MarkFits l q
 unfolding entry_letter entry_qubit
 marking_fits {e} {m} {n} {j} k h el eq = record {
   letter = omega (arith, k.letters j h);
-  place = omega (arith, ap length k.marks, length-marks e j, k.places j h);
+  place = omega (arith, k.places j h);
 }
 
 pub marking_step : {e m d : List ℕ} {n j q : ℕ} → Marking e n j m → j < n → q ≡ get_or e (2 * j + 1) 0

@@ -1,5 +1,6 @@
 -- Strings made from entries: the questions in their order, and the record that is written from the marks.
-use Rattle.std.proofs.Common.{◌≡◌, ℕ, ◌<◌, ◌≤◌, leb, List, [], ◌∷◌, ◌++◌, length, get_or, take, drop, set, replicate, sym, refl, ap, ◌∙◌, ap₂, append-nil, not-suc-le-zero, arith, length-drop, drop_of_length-le, length-take, take_all, rules, le-leb, leb-true, Ok, Err, true}
+use Rattle.std.proofs.Common.{◌≡◌, ℕ, ◌-◌, ◌<◌, ◌≤◌, leb, List, [], ◌∷◌, ◌++◌, length, get_or, take, drop, set, replicate, sym, refl, ap, ◌∙◌, ap₂, append-nil, not-suc-le-zero, arith, length-drop, drop_of_length-le, length-take, take_all, eqb, rules, le-leb, leb-true, Some, None, Ok, Err, true}
+use Rattle.std.specs.List.{position}
 use borrow.Author.Tests.{lt-leb}
 use borrow.Rule.Slice.PartMut.{put_mid}
 use Rattle.pauli_group.specs.PauliString.{qubits}
@@ -9,26 +10,30 @@ use Rattle.pauli.specs.Answers.{written, Written, Outcome}
 use Rattle.pauli.specs.Places.{listed}
 use Rattle.pauli.specs.Layout.{letter_byte, encode_string, string_record}
 use Rattle.pauli.specs.Entries.{entry_count, entry_letter, entries_string}
-use Rattle.pauli.specs.Inside.Marks.{marks_to, first_twice, unmarked, Unmarked, marks_question, Blank, EntriesRead, letters_marked, MarksFit}
+use Rattle.pauli.specs.Inside.Marks.{marks_to, first_twice, unmarked, Unmarked, marks_question, Blank, EntriesRead, letters_marked, RecordFits}
 use Rattle.pauli.specs.Questions.{ask, ◌and_then◌, byte_question, entry_questions, smallest_duplicate, duplicate_question, room_question, with_phase_questions}
-use Rattle.pauli.specs.Rows.{shorter}
 use Rattle.pauli.specs.Strings.{entries_record}
 use Rattle.pauli.proofs.Answers.{answers, written-done}
 use Rattle.pauli.proofs.Asking.{never_done, own_done, first_done, first_not, in_order, asked_yes, asked_no, ask_done, done_first, done_second, byte_small, room-is, record-bytes}
-use Rattle.pauli.proofs.EntryMarks.{no_marks, letters-small, qubits-below, first_duplicate, letter-byte, length-marks}
-use Rattle.pauli.proofs.Places.{length-listed, get_d_listed, listed_ext, Filled, filled_none, filled_step, filled_length, filled_room, filled_all}
+use Rattle.pauli.proofs.EntryMarks.{no_marks, unmark_is, letters-small, qubits-below, first_duplicate, letter-byte}
+use Rattle.pauli.proofs.Places.{position-at, position-none, length-listed, get_d_listed, listed_ext, Filled, filled_none, filled_step, filled_length, filled_room, filled_all}
 use Rattle.pauli.proofs.Records.{phase_there}
 
 -- ---- question 12 by the marks
-pub marks-twice : (m : List ℕ) {q : ℕ} → q ≡ first_twice m → q < 128 → Err (Duplicate q) ≡ marks_question m
+twice_asked : (m : List ℕ) (i : ℕ) → first_twice m ≡ i → ask (leb 128 i) (Duplicate i) ≡ marks_question m
 unfolding marks_question qubits
-marks-twice m e h = ap (λ (k : ℕ). Err (Duplicate k)) e ∙ asked_no (Duplicate (first_twice m)) (lt-leb 128 (first_twice m) (omega arith))
+twice_asked m i e = ap (λ (j : ℕ). ask (leb 128 j) (Duplicate j)) (sym e)
 
-pub marks-once : (m : List ℕ) {q : ℕ} → q ≡ first_twice m → 128 ≤ q → Ok tt ≡ marks_question m
-unfolding marks_question qubits
-marks-once m e h = asked_yes (Duplicate (first_twice m)) (le-leb 128 (first_twice m) (omega arith))
+pub marks-twice : (m : List ℕ) {q : ℕ} → length m ≡ 128 → Some q ≡ position (λ x. eqb x 5) m → Err (Duplicate q) ≡ marks_question m
+unfolding first_twice
+marks-twice m {q} l e =
+    let at = position-at (λ x. eqb x 5) m e in
+    asked_no (Duplicate q) (lt-leb 128 q (omega (arith, at.0))) ∙ twice_asked m q (sym at.1)
 
--- the marks of entries answer it as the entries do
+pub marks-once : (m : List ℕ) → length m ≡ 128 → None ≡ position (λ x. eqb x 5) m → Ok tt ≡ marks_question m
+unfolding first_twice
+marks-once m l e = asked_yes (Duplicate (length m)) (le-leb 128 (length m) (omega arith)) ∙ twice_asked m (length m) (sym (position-none (λ x. eqb x 5) m e))
+
 pub marks_question_lem : (e : List ℕ) → ((j : ℕ) → j < entry_count e → entry_letter e j ≤ 3) → marks_question (marks_to e (entry_count e)) ≡ duplicate_question e
 unfolding marks_question duplicate_question
 marks_question_lem e small = ap (λ (k : ℕ). ask (leb qubits k) (Duplicate k)) (first_duplicate e small)
@@ -49,25 +54,25 @@ read_done p e {m} {room} h em hs = record {
   marks = λ d. em;
 }
 
-pub ruleset entry-reads = (marks-twice, marks-once, read_refused, read_unmarked, read_done, in_order, rules)
+pub ruleset entry-reads = (read_refused, read_unmarked, read_done, in_order, rules)
 
 -- ---- the letters written from the marks
-pub letter_marked : (n : ℕ) (m : List ℕ) (i : ℕ) {x : ℕ} → x ≡ unmarked (get_or m i 0) → i < n → x ≡ get_or (letters_marked n m) i 0
+pub letter_marked : (n : ℕ) (m : List ℕ) (i : ℕ) {x : ℕ} → x ≡ get_or m i 0 - 1 → i < n → x ≡ get_or (letters_marked n m) i 0
 unfolding letters_marked
-letter_marked n m i e h = e ∙ sym (get_d_listed n _ i 0 h)
+letter_marked n m i e h = e ∙ unmark_is (get_or m i 0) ∙ sym (get_d_listed n _ i 0 h)
 
 pub length_marked : (n : ℕ) (m : List ℕ) → length (letters_marked n m) ≡ n
 unfolding letters_marked
 length_marked n m = length-listed n _
 
-pub letters-none : (m : List ℕ) {d : List ℕ} {n : ℕ} → n ≡ shorter m d → Filled (letters_marked n m) d n 0 d
-letters-none m {d} {n} h = filled_none (omega (arith, length_marked n m)) (omega arith)
+pub letters-none : (m : List ℕ) {d : List ℕ} → length d ≡ 128 → Filled (letters_marked 128 m) d 128 0 d
+letters-none m {d} h = filled_none (omega (arith, length_marked 128 m)) (omega arith)
 
-pub letters_all : (m : List ℕ) {d : List ℕ} {n i : ℕ} {e : List ℕ} (k : ℕ) → n ≡ k → Filled (letters_marked n m) d n i e → n ≤ i
-    → e ≡ letters_marked k m ++ drop k d
-letters_all m {d} {n} {i} {e} k p f h =
-    filled_all n refl f h ∙ ap (λ (l : List ℕ). l ++ drop n d) (take_all n (letters_marked n m) (omega (arith, length_marked n m)))
-    ∙ ap (λ (j : ℕ). letters_marked j m ++ drop j d) p
+pub letters_all : (m : List ℕ) {d : List ℕ} {i : ℕ} {e : List ℕ} → length d ≡ 128 → Filled (letters_marked 128 m) d 128 i e → 128 ≤ i → e ≡ letters_marked 128 m
+letters_all m {d} {i} {e} l f h =
+    filled_all 128 refl f h
+    ∙ ap₂ ◌++◌ (take_all 128 (letters_marked 128 m) (omega (arith, length_marked 128 m))) (drop_of_length-le d {i = 128} (omega arith))
+    ∙ append-nil (letters_marked 128 m)
 
 pub ruleset letter_fills = (letter_marked, letters-none, filled_step, filled_length, filled_room, letters_all, rules)
 
@@ -76,16 +81,11 @@ pub put_record : (d ys : List ℕ) (p : ℕ) → 129 ≤ length d → set (put_m
 put_record [] ys p h = absurd (not-suc-le-zero h)
 put_record (x ∷ d) ys p h = refl
 
-pub marked_written : {m d ys : List ℕ} (p : ℕ) → MarksFit m d
-    → ys ≡ letters_marked (shorter m (take 128 (drop 1 d))) m ++ drop (shorter m (take 128 (drop 1 d))) (take 128 (drop 1 d))
-    → set (put_mid 1 128 d ys) 0 p ≡ p ∷ letters_marked 128 m ++ drop 129 d
-marked_written {m} {d} {ys} p f e =
-    let part : length (take 128 (drop 1 d)) ≡ 128 = length-take 128 (drop 1 d) ∙ omega (arith, f.room, length-drop 1 d) in
-    let short : shorter m (take 128 (drop 1 d)) ≡ 128 = omega (arith, f.marks) in
-    let letters : ys ≡ letters_marked 128 m =
-    e ∙ ap (λ (j : ℕ). letters_marked j m ++ drop j (take 128 (drop 1 d))) short
-    ∙ ap (λ (l : List ℕ). letters_marked 128 m ++ l) (drop_of_length-le (take 128 (drop 1 d)) {i = 128} (omega arith)) ∙ append-nil (letters_marked 128 m) in
-    put_record d ys p f.room ∙ ap (λ (l : List ℕ). p ∷ l ++ drop 129 d) letters
+pub row_fits : {d : List ℕ} → RecordFits d → length (take 128 (drop 1 d)) ≡ 128
+row_fits {d} f = length-take 128 (drop 1 d) ∙ omega (arith, f.room, length-drop 1 d)
+
+pub marked_written : {d ys : List ℕ} (m : List ℕ) (p : ℕ) → RecordFits d → ys ≡ letters_marked 128 m → set (put_mid 1 128 d ys) 0 p ≡ p ∷ letters_marked 128 m ++ drop 129 d
+marked_written {d} {ys} m p f e = put_record d ys p f.room ∙ ap (λ (l : List ℕ). p ∷ l ++ drop 129 d) e
 
 -- ---- the marks of entries that name each qubit once hold their record
 module _ (p : ℕ) (e m : List ℕ) (small : p ≤ 3) (letters : (j : ℕ) → j < entry_count e → entry_letter e j ≤ 3) (named : duplicate_question e ≡ Ok tt)
@@ -105,8 +105,8 @@ module _ (p : ℕ) (e m : List ℕ) (small : p ≤ 3) (letters : (j : ℕ) → j
   pub marked_bytes : (d : List ℕ) {out : List ℕ} → out ≡ p ∷ letters_marked 128 m ++ drop 129 d → out ≡ written (Ok tt) (string_record (entries_string p e)) d
   marked_bytes d w = w ∙ ap (λ (l : List ℕ). l ++ drop 129 d) marked_record ∙ record-bytes (entries_string p e) d
 
-  pub marked_fit : (d : List ℕ) → 129 ≤ length d → MarksFit m d
-  marked_fit d h = record { marks = ap length marks ∙ length-marks e (entry_count e); room = h }
+  pub marked_fit : (d : List ℕ) → 129 ≤ length d → RecordFits d
+  marked_fit d h = record { room = h }
 
 -- ---- the record of entries
 module _ {p : ℕ} {e : List ℕ} {m : List ℕ} {r : Outcome} (d : List ℕ) (read : EntriesRead p e (length d) m r) (h : r ≡ Ok tt) where
@@ -127,7 +127,7 @@ module _ {p : ℕ} {e : List ℕ} {m : List ℕ} {r : Outcome} (d : List ℕ) (r
   room-asked : room_question 129 (length d) ≡ Ok tt
   room-asked = done_second (duplicate_question e) _ (done_second (entry_questions p e) _ asked)
 
-  pub marks_fit : MarksFit m d
+  pub marks_fit : RecordFits d
   marks_fit = marked_fit p e m (byte_small p phase-asked) (letters-small p e entries-asked) named-asked (read.marks h) d (room-is 129 (length d) room-asked)
 
   pub entries_written : {out : List ℕ} → out ≡ p ∷ letters_marked 128 m ++ drop 129 d → Written (with_phase_questions p e (length d)) (entries_record p e) d out (Ok tt)
@@ -139,4 +139,4 @@ module _ {p : ℕ} {e : List ℕ} {m : List ℕ} {r : Outcome} (d : List ℕ) (r
 pub blank_zeros : Blank (replicate 128 0)
 blank_zeros = record { none = no_marks }
 
-pub ruleset entry-strings = (marked_written, marks_fit, entries_written, answers, in_order, rules)
+pub ruleset entry-strings = (marked_written, row_fits, marks_fit, entries_written, answers, in_order, rules)

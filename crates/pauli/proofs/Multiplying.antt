@@ -1,6 +1,7 @@
 -- The product of two strings: its letters, 32 places at a step as far as the last that has one, and how it is written.
 use Rattle.pauli.specs.Answers.{Outcome}
-use Rattle.std.proofs.Common.{◌≡◌, ℕ, ◌+◌, ◌%◌, ◌<◌, ◌≤◌, List, ◌∷◌, ◌++◌, length, get_or, take, drop, set, replicate, sym, refl, ap, ◌∙◌, ap₂, append-nil, zero-le, add-one, arith, length-drop, take-append-drop, drop_of_length-le, length-take, get_or-drop, take_all, ext_get_or, rules, Ok}
+use Rattle.std.proofs.Common.{◌≡◌, ℕ, ◌+◌, ◌*◌, ◌%◌, ◌<◌, ◌≤◌, List, ◌∷◌, ◌++◌, length, get_or, take, drop, set, replicate, sym, refl, ap, ◌∙◌, subst, ap₂, append-nil, zero-le, add-one, arith, length-drop, take-append-drop, drop_of_length-le, length-take, get_or-drop, take_all, ext_get_or, rules, Ok}
+use Rattle.std.specs.Int.{div_ceil}
 use lib.ListN.{length-replicate, get_or-replicate}
 use lib.Bits.{bit_xor}
 use borrow.Rule.Slice.PartMut.{put_mid}
@@ -12,7 +13,6 @@ use Rattle.pauli_group.proofs.Laws.{·_assoc, ·-one}
 use Rattle.pauli_group.proofs.Strings.{within-mul}
 use Rattle.pauli_group.proofs.PlacesTaken.{taken_le, taken-within, phase-taken}
 use Rattle.pauli.specs.Layout.{phase_byte, phase_of, letter_byte, letter_of, encode_string, decode_string, string_of, string_record}
-use Rattle.pauli.specs.Rows.{shorter, copied}
 use Rattle.pauli.specs.Questions.{◌and_then◌, string_questions, strings_questions, room_question, mul_questions}
 use Rattle.pauli.specs.Strings.{places_taken_of_records, product_record}
 use Rattle.pauli.specs.Promises.{StringsMultiplied}
@@ -109,16 +109,15 @@ step-length m = length_row_to m.out ∙ sym (length_row_to m.begun.before)
 
 pub ruleset steps = (step-none, step-first, step-second, step-place, step-letters, step-more, step_all, step-length, rules)
 
--- ---- the steps before place i
-pub record PlacesTo (s t : List ℕ) (places : ℕ) (row₀ : List ℕ) (i : ℕ) (row : List ℕ) (turns : ℕ) : Type 0 where
+-- ---- the first k steps
+pub record PlacesTo (s t : List ℕ) (places : ℕ) (row₀ : List ℕ) (k : ℕ) (row : List ℕ) (turns : ℕ) : Type 0 where
   pub begun : Beginning s t places row₀
-  pub whole : i % 32 ≡ 0
-  pub out : RowTo s t i row
-  pub turned : power turns ≡ phase_to i s t
+  pub out : RowTo s t (32 * k) row
+  pub turned : power turns ≡ phase_to (32 * k) s t
 
 pub places-none : {s t : List ℕ} {places : ℕ} {row : List ℕ} → Beginning s t places row → PlacesTo s t places row 0 row 0
 unfolding phase_to product_to power
-places-none h = record { begun = h; whole = refl; out = record { within = zero-le; out = h.blank }; turned = refl }
+places-none h = record { begun = h; out = record { within = zero-le; out = h.blank }; turned = refl }
 
 module _ {s t : List ℕ} {places : ℕ} (f : Factors s t places) where
   most : places ≤ 128
@@ -137,21 +136,29 @@ module _ {s t : List ℕ} {places : ℕ} (f : Factors s t places) where
     unfolding letter_byte
     row-behind q l b = row_at s t q b ∙ ap letter_byte (within-mul i (string_of s) (string_of t) both_within.0 both_within.1 q l)
 
-pub places-step : {s t : List ℕ} {places i : ℕ} {row₀ row : List ℕ} {turns : ℕ} → PlacesTo s t places row₀ i row turns → i < places → Stepping s t i row
-places-step m h =
+pub places-step : {s t : List ℕ} {places n k : ℕ} {row₀ row : List ℕ} {turns : ℕ} → PlacesTo s t places row₀ k row turns → n ≡ div_ceil places 32 → k < n
+    → Stepping s t (32 * k) row
+places-step m e h =
     let f = m.begun.factors in
-    record { first = f.first; second = f.second; room = omega (arith, m.whole, most f); before = m.out }
+    record { first = f.first; second = f.second; room = omega (arith, most f); before = m.out }
 
-pub places-more : {s t : List ℕ} {places i : ℕ} {row₀ row next : List ℕ} {turns v u : ℕ} → PlacesTo s t places row₀ i row turns → Stepped s t i next v
-    → u ≡ (turns + v) % 256 → PlacesTo s t places row₀ (i + 32) next u
-places-more {turns = turns} {v = v} m n e = record {
-  begun = m.begun;
-  whole = omega (arith, m.whole);
-  out = n.after;
-  turned = ap power e ∙ power_sum turns v ∙ ap (λ p. p · power v) m.turned ∙ n.turns;
-}
+pub places-more : {s t : List ℕ} {places k : ℕ} {row₀ row next : List ℕ} {turns v u : ℕ} → PlacesTo s t places row₀ k row turns → Stepped s t (32 * k) next v
+    → u ≡ (turns + v) % 256 → PlacesTo s t places row₀ (k + 1) next u
+places-more {s} {t} {k = k} {next = next} {turns = turns} {v = v} m n e =
+    let on : 32 * k + 32 ≡ 32 * (k + 1) = omega arith in
+    record {
+      begun = m.begun;
+      out = subst (λ i. RowTo s t i next) on n.after;
+      turned = ap power e ∙ power_sum turns v ∙ ap (λ p. p · power v) m.turned ∙ n.turns ∙ ap (λ i. phase_to i s t) on;
+    }
 
-module _ {s t : List ℕ} {places i : ℕ} {row₀ row : List ℕ} {turns : ℕ} (m : PlacesTo s t places row₀ i row turns) (h : places ≤ i) where
+module _ {s t : List ℕ} {places n k : ℕ} {row₀ row : List ℕ} {turns : ℕ} (m : PlacesTo s t places row₀ k row turns) (whole : n ≡ div_ceil places 32) (ends : n ≤ k) where
+  abbrev i : ℕ
+  i = 32 * k
+
+  h : places ≤ i
+  h = omega arith
+
   rest : drop i blank_row ≡ drop i (product_row s t)
   rest = ext_get_or 0 _ _ (omega (arith, length-drop i blank_row, length-drop i (product_row s t), length-blank, length-row s t)) at
     where
@@ -174,13 +181,6 @@ places-length m = length_row_to m.out ∙ sym (ap length m.begun.blank ∙ lengt
 pub ruleset taking = (places-none, places-step, places-more, places_all, places-length, rules)
 
 -- ---- the product's bytes
-copied-whole : (a d : List ℕ) → length a ≡ length d → copied a d ≡ a
-unfolding copied
-copied-whole a d e =
-    let short : shorter a d ≡ length a = omega arith in
-    ap (λ (j : ℕ). take j a ++ drop j d) short ∙ ap₂ ◌++◌ (take_all (length a) a (omega arith)) (drop_of_length-le d {i = length a} (omega arith))
-    ∙ append-nil a
-
 phase_of_lem : (s t : List ℕ) → (mul (string_of s) (string_of t)).phase
     ≡ phase_of (get_or s 0 0) · phase_of (get_or t 0 0) · phase_of_letters (string_of s).letters (string_of t).letters
 unfolding mul string_of decode_string
@@ -196,13 +196,11 @@ unfolding blank_row
 begins f = record { factors = f.factors; blank = refl }
 
 pub product_written : {s t d row ys : List ℕ} {places turns p n : ℕ} → Operands s t places d → RowMultiplied s t row turns
-    → p ≡ phase_byte (phase_of (get_or s 0 0) · phase_of (get_or t 0 0) · power turns) → ys ≡ copied row (take n (drop 1 d)) → n ≡ 128
+    → p ≡ phase_byte (phase_of (get_or s 0 0) · phase_of (get_or t 0 0) · power turns) → ys ≡ row → n ≡ 128
     → set (put_mid 1 n d ys) 0 p ≡ product_record s t ++ drop 129 d
 product_written {s} {t} {d} {row} {ys} {turns = turns} {p = p} {n = n} f m ep ey whole =
-    let long : length row ≡ 128 = ap length m.letters ∙ length-row s t in
-    let same : length row ≡ length (take n (drop 1 d)) = omega (arith, whole, f.room, length-take n (drop 1 d), length-drop 1 d) in
     ap (λ (k : ℕ). set (put_mid 1 k d ys) 0 p) whole ∙ put_record d ys p f.room
-    ∙ ap₂ (λ (x : ℕ) (l : List ℕ). x ∷ l ++ drop 129 d) (ep ∙ phase-is) (ey ∙ copied-whole row _ same ∙ m.letters)
+    ∙ ap₂ (λ (x : ℕ) (l : List ℕ). x ∷ l ++ drop 129 d) (ep ∙ phase-is) (ey ∙ m.letters)
     ∙ ap (λ (l : List ℕ). l ++ drop 129 d) (sym (record_is s t))
   where
     phase-is : phase_byte (phase_of (get_or s 0 0) · phase_of (get_or t 0 0) · power turns) ≡ phase_byte (mul (string_of s) (string_of t)).phase
@@ -228,5 +226,9 @@ module _ (s t d : List ℕ) {sight : Sight} (l : Looked s t sight) (p : Ok tt �
   pub multiplied : {e : List ℕ} {n : ℕ} → n ≡ sight.places → e ≡ product_record s t ++ drop 129 d → StringsMultiplied s t d e (Ok n)
   unfolding product_record mul_questions
   multiplied c w = number-done (first_done p h) (c ∙ l.taken (sym p)) (w ∙ record-bytes (mul (string_of s) (string_of t)) d)
+
+-- where the product's row goes
+pub row_room : {s t d : List ℕ} {places : ℕ} → Operands s t places d → length (take 128 (drop 1 d)) ≡ 128
+row_room {d = d} f = length-take 128 (drop 1 d) ∙ omega (arith, f.room, length-drop 1 d)
 
 pub ruleset string-products = (mul-asked, product_written, operands, begins, multiplied, answers, in_order, rules)

@@ -1,12 +1,16 @@
 -- Laws of lists by place, of the first place that has a property, and of a destination that is filled from its front.
-use Rattle.std.proofs.Common.{◌≡◌, ℕ, zero, suc, ◌+◌, ◌-◌, ◌<◌, ◌≤◌, max, Bool, true, false, cond, ltb, List, [], ◌∷◌, ◌++◌, length, get_or, take, drop, set, sym, refl, ap, ◌∙◌, subst, ap₂, le_refl, le_of_suc-le-suc, not-suc-le-zero, add-one, arith, length-append, length-drop, length-take, get_or-drop, take_all, ext_get_or, rules, le-ltb, lt-ltb, le-leb}
+use Rattle.std.proofs.Common.{◌≡◌, ℕ, zero, suc, not, inl, inr, ◌⊎◌, Option, Some, None, ◌+◌, ◌-◌, ◌<◌, ◌≤◌, max, min, Bool, true, false, cond, ltb, List, [], ◌∷◌, ◌++◌, length, get_or, take, drop, set, sym, refl, ap, ◌∙◌, subst, ap₂, le_refl, le_of_suc-le-suc, not-suc-le-zero, add-one, arith, length-append, length-drop, length-take, get_or-drop, take_all, ext_get_or, rules, le-ltb, lt-ltb, le-leb}
+use Rattle.std.specs.List.{position, position_or_len}
+use Rattle.std.specs.Option.{unwrap_or}
+use Rattle.std.proofs.lemmas.Bool.{cases_lt}
+use Rattle.std.proofs.lemmas.List.Recursion.{is_position_or_len}
+use Rattle.std.proofs.lemmas.List.Sums.{prefix_len-le-length}
 use native.Mathlib.Decide.{ℕ_discrete}
 use lib.ListN.{get_or-append}
 use lib.Seq.{get_or_at, take-length}
-use borrow.Author.Tests.{lt-leb}
 use Rattle.pauli.specs.Places.{listed, first_place}
 use Rattle.pauli.specs.Questions.{first_bad}
-use Rattle.pauli.specs.Rows.{largest_to}
+use Rattle.pauli.specs.Rows.{largest_to, copied}
 
 -- ---- lists by place
 module _ {A : Type 0} where
@@ -70,6 +74,50 @@ first_has (suc n) f h = step (f zero) refl (first_has n (λ i. f (suc i))) h
     step true e rest h = e
     step false e rest h = rest (le_of_suc-le-suc h)
 
+pub first_ext : (n : ℕ) (f g : ℕ → Bool) → ((i : ℕ) → i < n → f i ≡ g i) → first_place n f ≡ first_place n g
+unfolding first_place
+first_ext zero f g h = refl
+first_ext (suc n) f g h = ap₂ (λ b m. cond b zero (suc m)) (h zero (omega arith)) (first_ext n (λ k. f (suc k)) (λ k. g (suc k)) (λ i l. h (suc i) (omega arith)))
+
+-- std's first index at which a test passes
+pub position-is : (p : ℕ → Bool) (xs : List ℕ) → position_or_len p xs ≡ first_place (length xs) (λ k. p (get_or xs k 0))
+unfolding first_place
+position-is p xs = sym (is_position_or_len (λ ys. first_place (length ys) (λ k. p (get_or ys k 0))) p refl (λ y ys. ap (cond (p y) 0) (next (first_place (length ys) (λ k. p (get_or ys k 0))))) xs)
+  where
+    next : (n : ℕ) → suc n ≡ 1 + n
+    next n = omega arith
+
+module _ (p : ℕ → Bool) (xs : List ℕ) where
+  abbrev pub first_of : ℕ
+  first_of = first_place (length xs) (λ k. p (get_or xs k 0))
+
+  position_cases : (position p xs ≡ None) × (length xs ≡ first_of) ⊎ (position p xs ≡ Some first_of) × (first_of < length xs)
+  position_cases = elim (cases_lt (position_or_len p xs) (length xs)) [
+    | inl l ↦ inr (ap (λ b. cond b (Some (position_or_len p xs)) None) (lt-ltb _ _ l) ∙ ap (λ (i : ℕ). Some i) (position-is p xs), omega (arith, position-is p xs))
+    | inr l ↦ inl (ap (λ b. cond b (Some (position_or_len p xs)) None) (le-ltb _ _ l), omega (arith, position-is p xs, prefix_len-le-length (λ x. not (p x)) xs))
+  ]
+
+  pub position-at : {k : ℕ} → Some k ≡ position p xs → (k < length xs) × (k ≡ first_of)
+  position-at {k} e = elim position_cases [
+    | inl n ↦ absurd (never (e ∙ n.0))
+    | inr s ↦ let is : k ≡ first_of = cc (e ∙ s.0) in (omega (arith, s.1), is)
+  ]
+    where
+      never : {k : ℕ} → Some k ≡ None → ⊥
+      never e = cc
+
+  pub position-none : None ≡ position p xs → length xs ≡ first_of
+  position-none e = elim position_cases [ inl n ↦ n.1 | inr s ↦ absurd (never (e ∙ s.0)) ]
+    where
+      never : {k : ℕ} → None ≡ Some k → ⊥
+      never e = cc
+
+  pub position-or : (r : Option ℕ) {n : ℕ} → n ≡ unwrap_or r (length xs) → r ≡ position p xs → n ≡ first_of
+  position-or r h e = h ∙ ap (λ o. unwrap_or o (length xs)) e ∙ elim position_cases [
+    | inl n ↦ ap (λ o. unwrap_or o (length xs)) n.0 ∙ n.1
+    | inr s ↦ ap (λ o. unwrap_or o (length xs)) s.0
+  ]
+
 -- what a scan from the front knows before place i
 pub record NoneBefore (n : ℕ) (f : ℕ → Bool) (i : ℕ) : Type 0 where
   pub within : i ≤ n
@@ -132,8 +180,6 @@ none_bad s e h =
 
 pub ruleset largest-bytes = (largest_start, largest_step, largest_all, rules)
 
-pub ruleset scans = (none_bad, none_start, none_more, none_found, none_left_lem, lt-ltb, le-ltb, le-leb, lt-leb, rules)
-
 -- what a scan that keeps the first place p knows before place i; p is n where none is seen yet
 pub record FirstSeen (n : ℕ) (f : ℕ → Bool) (i p : ℕ) : Type 0 where
   pub within : i ≤ n
@@ -184,8 +230,6 @@ module _ {n : ℕ} {f : ℕ → Bool} {i p q : ℕ} (m : FirstSeen n f i p) (h :
 
 pub first_end : {n : ℕ} {f : ℕ → Bool} {i p : ℕ} → FirstSeen n f i p → n ≤ i → p ≡ first_place n f
 first_end {n} {f} {i} {p} m h = first-is n f p m.most (λ k l. m.none k (omega (arith, m.most)) l) m.has
-
-pub ruleset firsts = (first_start, first_found, first_held, first_past, first_end, rules)
 
 -- ---- a destination that is overwritten from its front, one element a turn
 -- the first i elements of s, and then d from i on
@@ -249,6 +293,11 @@ pub filled_all : {s d : List ℕ} {n i : ℕ} {e : List ℕ} (k : ℕ) → n ≡
 filled_all {s} {d} {n} {i} k p m h = let within : i ≤ n = m.within in let e : i ≡ k = omega arith in m.out ∙ ap (fill s d) e
 
 pub ruleset fills = (filled_none, filled_step, filled_length, filled_room, filled_all, rules)
+
+-- the first n elements of s copied over those of d
+pub fronts_copied : (s d : List ℕ) {n : ℕ} {f : List ℕ} → n ≡ min (length s) (length d) → f ≡ take n s → f ++ drop n d ≡ copied s d
+unfolding copied
+fronts_copied s d {n} e h = ap (λ l. l ++ drop n d) h ∙ ap (λ (k : ℕ). take k s ++ drop k d) e
 
 -- ---- the part `&s[k..]`
 abbrev pub from : ℕ → List ℕ → List ℕ

@@ -1,5 +1,5 @@
 -- Phase bytes by their number.
-use Rattle.std.proofs.Common.{◌≡◌, ℕ, zero, suc, Bool, true, ltb, refl, arith, le-ltb}
+use Rattle.std.proofs.Common.{◌≡◌, ℕ, zero, suc, ltb, refl, arith, le-ltb}
 use Rattle.pauli_group.specs.Phase.{is_real}
 use Rattle.pauli.specs.Layout.{phase_of}
 

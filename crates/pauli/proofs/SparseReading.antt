@@ -1,159 +1,92 @@
 -- Sparse text read token by token: an index, one entry, and the tokens that are left.
-use Rattle.std.proofs.Common.{◌≡◌, ℕ, zero, suc, ◌+◌, ◌-◌, ◌<◌, ◌≤◌, Bool, true, false, cond, not, ◌||◌, eqb, ltb, List, [], ◌∷◌, length, get_or, take, drop, sym, refl, ap, ◌∙◌, subst, ap₂, not-suc-le-zero, add-one, arith, length-drop, drop_of_length-le, length-take, get_or-drop, drop-cons, get_or-take, drop-drop, rules, ltb-true, le-ltb, lt-ltb, Err}
+use Rattle.std.proofs.Common.{◌≡◌, ℕ, zero, suc, ◌+◌, ◌-◌, ◌<◌, ◌≤◌, Bool, true, false, cond, not, ◌||◌, eqb, ltb, List, [], ◌∷◌, length, get_or, take, drop, sym, refl, ap, ◌∙◌, subst, ap₂, not-suc-le-zero, add-one, arith, length-drop, drop_of_length-le, length-take, get_or-drop, drop-cons, get_or-take, drop-drop, rules, ltb-true, le-ltb, lt-ltb, Some, None, Ok, Err, IsErrAnd}
 use Rattle.pauli_group.specs.PauliString.{qubits}
-use Rattle.pauli.specs.Answers.{Outcome}
+use Rattle.pauli.specs.Answers.{Answer, Outcome, answer_to}
+use Rattle.pauli.proofs.Answers.{exit-is, answer-ok, answer-err}
 use Rattle.pauli.specs.declared.refusal.Refusal.{Refusal}
 use Rattle.pauli.specs.declared.refusal.Refusal.TheVariants.{NotLetter, NoIndex, NotNumeral, TextQubit}
-use Rattle.pauli.specs.declared.text.Numeral.{Numeral}
-use Rattle.pauli.specs.declared.text.Numeral.TheVariants.{Value, NotNumber}
-use Rattle.pauli.specs.declared.sparse_reader.IndexAnswer.{IndexAnswer}
-use Rattle.pauli.specs.declared.sparse_reader.IndexAnswer.TheVariants.{At, TooHigh, NotAt}
-use Rattle.pauli.specs.declared.sparse_reader.EntryAnswer.{EntryAnswer}
-use Rattle.pauli.specs.declared.sparse_reader.EntryAnswer.TheVariants.{Entry, High, NoEntry}
+use Rattle.pauli.specs.declared.sparse_reader.Entry.{Entry}
 use Rattle.pauli.specs.Questions.{ask, ◌and_then◌}
-use Rattle.pauli.specs.Inside.Reading.{Skipped, numeral_if, index_numeral, index_answer, entry_after, WordAt, LetterAt, OneEntry, HighEntry, EntryRead, leading_word}
+use Rattle.pauli.specs.Inside.Reading.{Skipped, numeral_if, index_numeral, WordAt, LetterAt, OneEntry, EntryRead, leading_word}
 use Rattle.pauli.specs.Text.{is_space, letter_named, leading_spaces, Token, token, tokens, is_index, index_value, index_questions, has_index, attached_questions, attached_entry, apart_entry, token_questions, token_entries}
-use Rattle.pauli.proofs.Asking.{asked_yes, asked_no, refused, passed}
+use Rattle.pauli.proofs.Asking.{asked_yes, asked_no, ask_done, first_not, first_done, done_second}
 use Rattle.pauli.specs.Places.{first_place}
 use Rattle.pauli.proofs.Places.{first_has}
 use Rattle.pauli.proofs.Tokens.{word_here, refused-first, done_then, tokens_skip, tokens-word, not-letter, attached_questions_lem, attached_entries, no_index, apart_questions, apart_entries}
 
 -- ---- an index
-numeral_value : (b : Bool) {x v : ℕ} → Value v ≡ numeral_if b x → (b ≡ true) × (v ≡ x)
-numeral_value true e = (refl, cc)
-numeral_value false e = absurd (never e)
-  where
-    never : {v : ℕ} → Value v ≡ NotNumber → ⊥
-    never e = let z : ◌≡◌ {A = ℕ} 0 1 = cc in omega arith
-
-numeral_none : (b : Bool) (x : ℕ) → NotNumber ≡ numeral_if b x → b ≡ false
-numeral_none true x e = cc
-numeral_none false x e = refl
-
-pub index_not : (bs : List ℕ) (k : ℕ) {n : Numeral} → n ≡ index_numeral bs → n ≡ NotNumber → NotAt (NotNumeral k) ≡ index_answer k bs
-unfolding index_numeral index_answer
-index_not bs k e h =
-    sym (ap (λ b. cond b (cond (ltb (index_value bs) qubits) (At (index_value bs)) (TooHigh k)) (NotAt (NotNumeral k))) (numeral_none (is_index bs) (index_value bs) (sym h ∙ e)))
-
-module _ (bs : List ℕ) (k : ℕ) {n : Numeral} {v : ℕ} (e : n ≡ index_numeral bs) (h : n ≡ Value v) where
-  value-is : (is_index bs ≡ true) × (v ≡ index_value bs)
+module _ (bs : List ℕ) (k : ℕ) where
+  index_has : {v : ℕ} → Some v ≡ index_numeral bs → (is_index bs ≡ true) × (v ≡ index_value bs)
   unfolding index_numeral
-  value-is = numeral_value (is_index bs) (sym h ∙ e)
+  index_has {v} e = go (is_index bs) e
+    where
+      go : (b : Bool) → Some v ≡ numeral_if b (index_value bs) → (b ≡ true) × (v ≡ index_value bs)
+      go true h = (refl, cc)
+      go false h = cc
 
-  -- the answer to an index, by whether its value is below 128
-  value-answer : {b : Bool} → ltb (index_value bs) qubits ≡ b → cond b (At (index_value bs)) (TooHigh k) ≡ index_answer k bs
-  unfolding index_answer
-  value-answer l =
-      sym (ap₂ (λ a b. cond a (cond b (At (index_value bs)) (TooHigh k)) (NotAt (NotNumeral k))) value-is.0 l)
+  index_lacks : None ≡ index_numeral bs → is_index bs ≡ false
+  unfolding index_numeral
+  index_lacks e = go (is_index bs) e
+    where
+      go : (b : Bool) → None ≡ numeral_if b (index_value bs) → b ≡ false
+      go true h = cc
+      go false h = refl
 
-  pub index_at : v < 128 → At v ≡ index_answer k bs
-  unfolding qubits
-  index_at l = ap At value-is.1 ∙ value-answer (lt-ltb (index_value bs) 128 (omega (arith, value-is.1)))
+  pub index_not : None ≡ index_numeral bs → Err (NotNumeral k) ≡ answer_to (index_questions k bs) (index_value bs)
+  unfolding index_questions answer_to
+  index_not e = ap (λ q. answer_to q (index_value bs)) (first_not _ (asked_no (NotNumeral k) (index_lacks e)))
 
-  pub index_over : 128 ≤ v → TooHigh k ≡ index_answer k bs
-  unfolding qubits
-  index_over l = value-answer (le-ltb (index_value bs) 128 (omega (arith, value-is.1)))
+  pub index_at : {v : ℕ} → Some v ≡ index_numeral bs → v < 128 → Ok v ≡ answer_to (index_questions k bs) (index_value bs)
+  unfolding index_questions answer_to qubits
+  index_at {v} e l =
+      let has = index_has e in
+      ap {B = Answer ℕ} Ok has.1
+      ∙ ap (λ q. answer_to q (index_value bs)) (first_done (asked_yes (NotNumeral k) has.0) (asked_yes (TextQubit k) (lt-ltb (index_value bs) 128 (omega (arith, has.1)))))
+
+  pub index_over : {v : ℕ} → Some v ≡ index_numeral bs → 128 ≤ v → Err (TextQubit k) ≡ answer_to (index_questions k bs) (index_value bs)
+  unfolding index_questions answer_to qubits
+  index_over {v} e l =
+      let has = index_has e in
+      ap (λ q. answer_to q (index_value bs)) (first_done (asked_yes (NotNumeral k) has.0) (asked_no (TextQubit k) (le-ltb (index_value bs) 128 (omega (arith, has.1)))))
+
+  index-below : index_questions k bs ≡ Ok tt → index_value bs < 128
+  unfolding index_questions qubits
+  index-below e = ltb-true _ _ (ask_done _ _ (done_second (ask (is_index bs) (NotNumeral k)) _ e))
 
 pub ruleset index_answers = (index_not, index_at, index_over, rules)
 
-pub after-at : (l n : ℕ) {i : IndexAnswer} {q : ℕ} → i ≡ At q → Entry l q n ≡ entry_after l i n
-unfolding entry_after
-after-at l n e = sym (ap (λ i. entry_after l i n) e)
-
-pub after-not : (l n : ℕ) {i : IndexAnswer} {x : Refusal} → i ≡ NotAt x → NoEntry x ≡ entry_after l i n
-unfolding entry_after
-after-not l n e = sym (ap (λ i. entry_after l i n) e)
-
-pub after-high : (l n : ℕ) {i : IndexAnswer} {o : ℕ} → i ≡ TooHigh o → High o n ≡ entry_after l i n
-unfolding entry_after
-after-high l n e = sym (ap (λ i. entry_after l i n) e)
-
-pub ruleset entry_answers = (after-at, after-high, after-not, rules)
-
 -- ---- one entry
-never_entry : {l q n : ℕ} {x : Refusal} → NoEntry x ≡ Entry l q n → ⊥
-never_entry e = let z : ◌≡◌ {A = ℕ} 0 1 = cc in omega arith
-
-never_high : {o n : ℕ} {x : Refusal} → NoEntry x ≡ High o n → ⊥
-never_high e = let z : ◌≡◌ {A = ℕ} 0 1 = cc in omega arith
-
-pub entry-refused : {ws : List Token} {t : List ℕ} {k : ℕ} {x : Refusal} → token_questions ws ≡ Err x → EntryRead ws t k (NoEntry x)
-entry-refused {x = x} h = record { one = λ l q n e. absurd (never_entry e); high = λ o n e. absurd (never_high e); refused = λ y e. h ∙ same y e }
+pub entry-refused : {ws : List Token} {t : List ℕ} {k : ℕ} {x : Refusal} → token_questions ws ≡ Err x → EntryRead ws t k (Err x)
+entry-refused {x = x} h = record { one = λ e h. cc; refused = λ y e. h ∙ same y e }
   where
-    same : (y : Refusal) → NoEntry x ≡ NoEntry y → ◌≡◌ {A = Outcome} (Err x) (Err y)
+    same : (y : Refusal) → ◌≡◌ {A = Answer Entry} (Err x) (Err y) → ◌≡◌ {A = Outcome} (Err x) (Err y)
     same y e = cc
 
-pub entry-high : {ws : List Token} {t : List ℕ} {k o n : ℕ} → HighEntry ws t k o n → EntryRead ws t k (High o n)
-entry-high {ws} {t} {k} {o} {n} h = record { one = λ l q m e. absurd (not-one e); high = moved; refused = λ x e. absurd (not-refused e) }
+entry-one : {ws : List Token} {t : List ℕ} {k : ℕ} {e : Entry} → OneEntry ws t k e → EntryRead ws t k (Ok e)
+entry-one {ws} {t} {k} {e} h = record { one = λ d p. subst (OneEntry ws t k) (same d p) h; refused = λ x p. cc }
   where
-    not-one : {l q m : ℕ} → High o n ≡ Entry l q m → ⊥
-    not-one e = let z : ◌≡◌ {A = ℕ} 0 1 = cc in omega arith
-
-    not-refused : {x : Refusal} → High o n ≡ NoEntry x → ⊥
-    not-refused e = let z : ◌≡◌ {A = ℕ} 0 1 = cc in omega arith
-
-    moved : (o' n' : ℕ) → High o n ≡ High o' n' → HighEntry ws t k o' n'
-    moved o' n' e =
-        let eo : o ≡ o' = cc in
-        let en : n ≡ n' = cc in
-        subst (λ x. HighEntry ws t k x n') eo (subst (λ x. HighEntry ws t k o x) en h)
-
-pub entry-one : {ws : List Token} {t : List ℕ} {k l q n : ℕ} → OneEntry ws t k l q n → EntryRead ws t k (Entry l q n)
-entry-one {ws} {t} {k} {l} {q} {n} h = record { one = moved; high = λ o m e. absurd (not-high e); refused = λ x e. absurd (not-refused e) }
-  where
-    not-high : {o m : ℕ} → Entry l q n ≡ High o m → ⊥
-    not-high e = let z : ◌≡◌ {A = ℕ} 0 1 = cc in omega arith
-
-    not-refused : {x : Refusal} → Entry l q n ≡ NoEntry x → ⊥
-    not-refused e = let z : ◌≡◌ {A = ℕ} 0 1 = cc in omega arith
-
-    moved : (l' q' n' : ℕ) → Entry l q n ≡ Entry l' q' n' → OneEntry ws t k l' q' n'
-    moved l' q' n' e =
-        let el : l ≡ l' = cc in
-        let eq : q ≡ q' = cc in
-        let en : n ≡ n' = cc in
-        subst (λ x. OneEntry ws t k x q' n') el (subst (λ x. OneEntry ws t k l x n') eq (subst (λ x. OneEntry ws t k l q x) en h))
+    same : (d : Entry) → ◌≡◌ {A = Answer Entry} (Ok e) (Ok d) → e ≡ d
+    same d p = cc
 
 -- an index bs at offset o after the letter l, and the rest from n on
-module _ (ws : List Token) (t : List ℕ) (k l n o : ℕ) (bs : List ℕ) (small : l ≤ 3) (after : k < o) (place : o < length t) (onward : o ≤ n) (within : n ≤ length t)
+module _ (ws : List Token) (t : List ℕ) (k l n o : ℕ) (bs : List ℕ) (small : l ≤ 3) (onward : k < n) (within : n ≤ length t)
     (questions : token_questions ws ≡ index_questions o bs and_then token_questions (tokens n (drop n t)))
     (entries : token_entries ws ≡ l ∷ index_value bs ∷ token_entries (tokens n (drop n t))) where
-  one_entry : is_index bs ≡ true → ltb (index_value bs) qubits ≡ true → OneEntry ws t k l (index_value bs) n
-  unfolding index_questions qubits
-  one_entry a b = record {
-    questions = questions ∙ done_then (index_questions o bs) _ (sym (passed (asked_yes (NotNumeral o) a) refl (asked_yes (TextQubit o) b)));
-    entries = entries;
-    letter = small;
-    place = ltb-true _ _ b;
-    onward = omega arith;
-    within = within;
-  }
+  pub entry_read : {q : ℕ} → Ok q ≡ answer_to (index_questions o bs) (index_value bs) → EntryRead ws t k (Ok (record { letter = l; qubit = q; next = n }))
+  entry_read {q} e =
+      let told = answer-ok (index_questions o bs) e in
+      entry-one (record {
+        questions = questions ∙ done_then (index_questions o bs) _ told.0;
+        entries = entries ∙ ap (λ (x : ℕ). l ∷ x ∷ token_entries (tokens n (drop n t))) (sym told.1);
+        letter = small;
+        place = omega (arith, told.1, index-below bs o told.0);
+        onward = onward;
+        within = within;
+      })
 
-  high-entry : is_index bs ≡ true → ltb (index_value bs) qubits ≡ false → HighEntry ws t k o n
-  unfolding index_questions
-  high-entry a b = record {
-    questions = questions ∙ refused-first (index_questions o bs) _ (sym (passed (asked_yes (NotNumeral o) a) refl (asked_no (TextQubit o) b)));
-    after = after;
-    place = place;
-    onward = onward;
-    within = within;
-  }
-
-  no_numeral : is_index bs ≡ false → token_questions ws ≡ Err (NotNumeral o)
-  unfolding index_questions
-  no_numeral a =
-      questions ∙ refused-first (index_questions o bs) _ (sym (refused (ask (ltb (index_value bs) qubits) (TextQubit o)) (asked_no (NotNumeral o) a) refl))
-
-  cases : (a b : Bool) → is_index bs ≡ a → ltb (index_value bs) qubits ≡ b
-      → EntryRead ws t k (entry_after l (cond a (cond b (At (index_value bs)) (TooHigh o)) (NotAt (NotNumeral o))) n)
-  unfolding entry_after
-  cases true true ea eb = entry-one (one_entry ea eb)
-  cases true false ea eb = entry-high (high-entry ea eb)
-  cases false b ea eb = entry-refused (no_numeral ea)
-
-  pub entry_read : {i : IndexAnswer} {r : EntryAnswer} → i ≡ index_answer o bs → r ≡ entry_after l i n → EntryRead ws t k r
-  unfolding index_answer
-  entry_read ei er = subst (EntryRead ws t k) (sym (er ∙ ap (λ x. entry_after l x n) ei)) (cases (is_index bs) (ltb (index_value bs) qubits) refl refl)
+  pub entry_not : {x : Refusal} {r : Answer Entry} → Err x ≡ answer_to (index_questions o bs) (index_value bs) → IsErrAnd r (λ e. e ≡ x) → EntryRead ws t k r
+  entry_not e h =
+      subst (EntryRead ws t k) (sym (exit-is _ h)) (entry-refused (questions ∙ refused-first (index_questions o bs) _ (answer-err (index_questions o bs) (index_value bs) e)))
 
 -- ---- small facts
 pub letter-small : (c : ℕ) → letter_named c ≤ 3
@@ -221,7 +154,7 @@ module _ (t : List ℕ) (k : ℕ) (at : WordAt t k) where
   first-length : word-length ≤ length (drop k t) → length first.bytes ≡ word-length
   first-length h = length-take word-length (drop k t) ∙ omega arith
 
-  pub unknown_letter : {l : ℕ} → l ≡ letter_named (get_or t k 0) → l ≡ 0 → EntryRead (tokens k (drop k t)) t k (NoEntry (NotLetter k))
+  pub unknown_letter : {l : ℕ} → l ≡ letter_named (get_or t k 0) → l ≡ 0 → EntryRead (tokens k (drop k t)) t k (Err (NotLetter k))
   unknown_letter {l} e h =
       entry-refused (ap token_questions first-token ∙ not-letter first _ (first-letter l e ∙ h))
 
@@ -254,9 +187,16 @@ module _ (t : List ℕ) (k : ℕ) (at : WordAt t k) where
         ∙ ap₂ (λ (x : ℕ) (bs : List ℕ). x ∷ index_value bs ∷ token_entries (tokens (k + word-length) (drop (k + word-length) t))) (first-letter l el) index_bytes
         ∙ ap (λ (j : ℕ). l ∷ index_value (take (e - (k + 1)) (drop (k + 1) t)) ∷ token_entries (tokens j (drop j t))) ends
 
-    pub attached_entry_lem : {i : IndexAnswer} {r : EntryAnswer} → i ≡ index_answer (k + 1) (take (e - (k + 1)) (drop (k + 1) t)) → r ≡ entry_after l i e
+    abbrev index : List ℕ
+    index = take (e - (k + 1)) (drop (k + 1) t)
+
+    pub attached : {q : ℕ} → Ok q ≡ answer_to (index_questions (k + 1) index) (index_value index)
+        → EntryRead (tokens k (drop k t)) t k (Ok (record { letter = l; qubit = q; next = e }))
+    attached = entry_read (tokens k (drop k t)) t k l e (k + 1) index (omega (arith, letter-small (get_or t k 0))) (omega arith) end.within questions_are entries_are
+
+    pub attached-not : {x : Refusal} {r : Answer Entry} → Err x ≡ answer_to (index_questions (k + 1) index) (index_value index) → IsErrAnd r (λ y. y ≡ x)
         → EntryRead (tokens k (drop k t)) t k r
-    attached_entry_lem = entry_read (tokens k (drop k t)) t k l e (k + 1) _ (omega (arith, letter-small (get_or t k 0))) (omega arith) (omega (arith, end.within)) (omega arith) end.within questions_are entries_are
+    attached-not = entry_not (tokens k (drop k t)) t k l e (k + 1) index (omega (arith, letter-small (get_or t k 0))) (omega arith) end.within questions_are entries_are
 
   pub alone : {l e : ℕ} → l ≡ letter_named (get_or t k 0) → (l ≡ 0 → ⊥) → Skipped leading_word t k e → e ≤ k + 1 → LetterAt t k l
   alone el n end h = record { begins = at; letter = el; known = omega arith; alone = omega (arith, some, end.is) }
@@ -278,7 +218,7 @@ module _ (t : List ℕ) (k l f : ℕ) (at : LetterAt t k l) (skip : Skipped lead
   unfolding has_index
   lacks = le-ltb 1 (length (first t k at.begins).bytes) (omega (arith, length-take (leading_word (drop k t)) (drop k t), at.alone))
 
-  pub apart_none : length t ≤ f → EntryRead (tokens k (drop k t)) t k (NoEntry (NoIndex k))
+  pub apart_none : length t ≤ f → EntryRead (tokens k (drop k t)) t k (Err (NoIndex k))
   apart_none h =
       entry-refused (ap token_questions rest-is
       ∙ ap (λ (ws : List Token). token_questions (first t k at.begins ∷ ws)) (no_more f (drop f t) (drop_of_length-le t h))
@@ -309,9 +249,16 @@ module _ (t : List ℕ) (k l f : ℕ) (at : LetterAt t k l) (skip : Skipped lead
         ∙ apart_entries (first t k at.begins) (token f second) _ lacks
         ∙ ap (λ (x : ℕ). x ∷ index_value second ∷ token_entries (tokens e (drop e t))) letter-is
 
-    pub apart_some : {i : IndexAnswer} {r : EntryAnswer} → i ≡ index_answer f second → r ≡ entry_after l i e → EntryRead (tokens k (drop k t)) t k r
+    pub apart_some : {q : ℕ} → Ok q ≡ answer_to (index_questions f second) (index_value second)
+        → EntryRead (tokens k (drop k t)) t k (Ok (record { letter = l; qubit = q; next = e }))
     apart_some =
         entry_read (tokens k (drop k t)) t k l e f second (omega (arith, at.letter, letter-small (get_or t k 0)))
-        (omega (arith, skip.onward)) h end.onward end.within apart_asked apart_named
+        (omega (arith, skip.onward, end.onward)) end.within apart_asked apart_named
 
-pub ruleset sparse-entries = (unknown_letter, attached_entry_lem, alone, apart_none, apart_some, rules)
+    pub apart_not : {x : Refusal} {r : Answer Entry} → Err x ≡ answer_to (index_questions f second) (index_value second) → IsErrAnd r (λ y. y ≡ x)
+        → EntryRead (tokens k (drop k t)) t k r
+    apart_not =
+        entry_not (tokens k (drop k t)) t k l e f second (omega (arith, at.letter, letter-small (get_or t k 0)))
+        (omega (arith, skip.onward, end.onward)) end.within apart_asked apart_named
+
+pub ruleset sparse-entries = (unknown_letter, attached, attached-not, alone, apart_none, apart_some, apart_not, rules)

@@ -5,7 +5,7 @@ use Rattle.pauli.specs.declared.text.Head.{Head}
 use Rattle.pauli.specs.Answers.{written, Written, Outcome}
 use Rattle.pauli.specs.Entries.{entry_count, entries_string}
 use Rattle.pauli.specs.Layout.{string_record}
-use Rattle.pauli.specs.Inside.Marks.{marks_to, marks_question, Blank, letters_marked, MarksFit}
+use Rattle.pauli.specs.Inside.Marks.{marks_to, marks_question, Blank, letters_marked, RecordFits}
 use Rattle.pauli.specs.Questions.{◌and_then◌, duplicate_question, room_question}
 use Rattle.pauli.specs.Inside.Reading.{HeadRead, BodyAt, GoodEntries, TokensRead, SparseAt, SparseRead}
 use Rattle.pauli.specs.Text.{token_entries, text_phase, body_start, ascii_question, tokens, token_questions, sparse_tokens, sparse_entries, sparse_questions, sparse_string, from_sparse_questions, sparse_record}
@@ -75,7 +75,7 @@ module _ {t m : List ℕ} {r : Outcome} {h : Head} (d : List ℕ) (head : HeadRe
   phase-is : h.phase ≤ 3
   phase-is = omega (arith, head.phase, phase-small (text_phase t))
 
-  pub sparse_fit : MarksFit m d
+  pub sparse_fit : RecordFits d
   sparse_fit =
       marked_fit h.phase (sparse_entries t) m phase-is (read.good done).letters (done_first _ _ after-tokens) (read.marks done) d
       (room-is 129 (length d) (done_second (duplicate_question (sparse_entries t)) _ after-tokens))

@@ -1,5 +1,6 @@
 -- Bytes of text: what the tests on them find.
-use Rattle.std.proofs.Common.{◌≡◌, ℕ, suc, ◌+◌, ◌<◌, ◌≤◌, Bool, true, false, cond, not, ◌&&◌, ◌||◌, eqb, leb, ◌⊎◌, List, length, get_or, drop, sym, refl, ap, ◌∙◌, ap₂, inl, inr, add-one, arith, length-drop, rules, ne_eqb, eqb-true, le-leb, Ok, Err}
+use Rattle.std.proofs.Common.{◌≡◌, ℕ, suc, ◌+◌, ◌<◌, ◌≤◌, Bool, true, false, cond, not, ◌&&◌, ◌||◌, eqb, leb, ◌⊎◌, List, length, get_or, drop, sym, refl, ap, ◌∙◌, ap₂, inl, inr, add-one, arith, length-drop, rules, ne_eqb, eqb-true, le-leb, Some, None, Ok, Err}
+use Rattle.std.specs.List.{position}
 use native.Mathlib.Decide.{dec_lt}
 use lib.ListN.{get_or-eq_default}
 use borrow.Author.Tests.{lt-leb}
@@ -8,9 +9,10 @@ use Rattle.pauli.specs.declared.refusal.Refusal.TheVariants.{NotAscii}
 use Rattle.pauli.specs.declared.text.Prefix.{Prefix}
 use Rattle.pauli.specs.Layout.{phase_byte}
 use Rattle.pauli.specs.Inside.Reading.{Skipped, PrefixRead, HeadRead, leading_word}
+use Rattle.pauli.specs.Questions.{ask}
 use Rattle.pauli.specs.Text.{is_space, is_digit, is_sign, is_small_i, letter_named, leading_spaces, text_start, prefix_phase, prefix_length, text_phase, body_start, first_not_ascii, ascii_question}
 use Rattle.pauli.proofs.Asking.{asked_yes, asked_no}
-use Rattle.pauli.proofs.Places.{from, from_is, none_start, none_more, none_found, none_left_lem, first_le}
+use Rattle.pauli.proofs.Places.{from, from_is, position-at, position-none, first_le}
 
 -- ---- white space and digits
 pub space_32 : {c : ℕ} → c ≡ 32 → true ≡ is_space c
@@ -37,11 +39,7 @@ pub digit_high : {c : ℕ} → 48 ≤ c → 57 < c → false ≡ is_digit c
 unfolding is_digit
 digit_high {c} k h = sym (ap₂ ◌&&◌ (le-leb 48 c k) (lt-leb c 57 h))
 
-pub digit_mid : {c : ℕ} → 48 ≤ c → c ≤ 57 → true ≡ is_digit c
-unfolding is_digit
-digit_mid {c} k h = sym (ap₂ ◌&&◌ (le-leb 48 c k) (le-leb c 57 h))
-
-pub ruleset byte_tests = (space_32, space-low, space-high, space_mid, digit_low, digit_high, digit_mid, rules)
+pub ruleset byte_tests = (space_32, space-low, space-high, space_mid, rules)
 
 -- what the default arm of the match on letters finds
 pub named_none : {c : ℕ}
@@ -51,36 +49,23 @@ named_none {c} h =
     sym (λ i. cond (ne_eqb c 88 h.0.0.0.0.0.1 i || ne_eqb c 120 h.0.0.0.0.1 i) 1
     (cond (ne_eqb c 90 h.0.0.0.1 i || ne_eqb c 122 h.0.0.1 i) 2 (cond (ne_eqb c 89 h.0.1 i || ne_eqb c 121 h.1 i) 3 0)))
 
--- ---- scans by a test
-pub flag-on : {b x : Bool} → b ≡ x → b ≡ true → x ≡ true
-flag-on p h = sym p ∙ h
-
-pub flag_off : {b x : Bool} → b ≡ x → b ≡ false → x ≡ false
-flag_off p h = sym p ∙ h
-
-pub not_on : {b x : Bool} → b ≡ x → not b ≡ true → not x ≡ true
-not_on p h = ap not (sym p) ∙ h
-
-pub not_off : {b x : Bool} → b ≡ x → not b ≡ false → not x ≡ false
-not_off p h = ap not (sym p) ∙ h
-
-pub ruleset word_scans = (flag-on, flag_off, none_start, none_more, none_found, none_left_lem, rules)
-
-pub ruleset space_scans = (not_on, not_off, none_start, none_more, none_found, none_left_lem, rules)
-
 -- ---- the first byte that is not ASCII
-pub ascii_not : (t : List ℕ) {k : ℕ} → k ≡ first_not_ascii t → k < length t → Err (NotAscii k) ≡ ascii_question t
+ascii_asked : (t : List ℕ) (i : ℕ) → first_not_ascii t ≡ i → ask (leb (length t) i) (NotAscii i) ≡ ascii_question t
 unfolding ascii_question
-ascii_not t e h = ap (λ (j : ℕ). Err (NotAscii j)) e ∙ asked_no (NotAscii (first_not_ascii t)) (lt-leb (length t) (first_not_ascii t) (omega arith))
+ascii_asked t i e = ap (λ (j : ℕ). ask (leb (length t) j) (NotAscii j)) (sym e)
 
-pub ascii_all : (t : List ℕ) {k : ℕ} → k ≡ first_not_ascii t → length t ≤ k → Ok tt ≡ ascii_question t
-unfolding ascii_question
-ascii_all t e h = asked_yes (NotAscii (first_not_ascii t)) (le-leb (length t) (first_not_ascii t) (omega arith))
+pub ascii_not : (t : List ℕ) {k : ℕ} → Some k ≡ position (leb 128) t → Err (NotAscii k) ≡ ascii_question t
+unfolding first_not_ascii
+ascii_not t {k} e =
+    let at = position-at (leb 128) t e in
+    asked_no (NotAscii k) (lt-leb (length t) k at.0) ∙ ascii_asked t k (sym at.1)
+
+pub ascii_all : (t : List ℕ) → None ≡ position (leb 128) t → Ok tt ≡ ascii_question t
+unfolding first_not_ascii
+ascii_all t e = asked_yes (NotAscii (length t)) (le-leb (length t) (length t) (omega arith)) ∙ ascii_asked t (length t) (sym (position-none (leb 128) t e))
 
 pub past_end : (t : List ℕ) (k : ℕ) → length t ≤ k → 0 ≡ get_or t k 0
 past_end t k h = sym (get_or-eq_default t 0 h)
-
-pub ruleset ascii = (ascii_not, ascii_all, past_end, rules)
 
 small_i : (b : ℕ) → is_small_i b ≡ true → b ≡ 105
 unfolding is_small_i
@@ -202,3 +187,6 @@ pub skipped : (count : List ℕ → ℕ) → ((s : List ℕ) → count s ≤ len
 skipped count bound t k {r} e h =
     let is : r ≡ count (drop k t) = e ∙ ap count (from_is k t) in
     record { is = omega arith; onward = omega arith; within = omega (arith, bound (drop k t), length-drop k t) }
+
+pub skipped-all : (count : List ℕ → ℕ) (t : List ℕ) {r : ℕ} → Skipped count t 0 r → r ≡ count t
+skipped-all count t s = let is = s.is in omega arith

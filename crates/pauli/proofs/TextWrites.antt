@@ -112,15 +112,13 @@ whole-text {d} {e} {w} h a = record {
 }
 
 -- ---- one byte; and a text written through `&mut d[s..]`, where s is k or the end of d
-pub put_in : {d : List ℕ} {k c : ℕ} → length d < 2 ^ 64 → k < length d → Stored k (c ∷ []) d (set d k c) (k + 1)
+pub put_in : {d e : List ℕ} {k c r : ℕ} → length d < 2 ^ 64 → k < length d → e ≡ set d k c → r ≡ place_after k 1 → Stored k (c ∷ []) d e r
 unfolding stored
-put_in {d} {k} {c} l h = record { bytes = sym (set_capped d k c (omega arith)); place = omega arith }
+put_in {d} {e} {k} {c} l h w p = record { bytes = w ∙ sym (set_capped d k c (omega arith)); place = p }
 
-pub put_out : {d : List ℕ} {k r : ℕ} (c : ℕ) → length d < 2 ^ 64 → length d ≤ k → r ≡ place_after k 1 → Stored k (c ∷ []) d d r
+pub put_out : {d e : List ℕ} {k r : ℕ} (c : ℕ) → length d < 2 ^ 64 → length d ≤ k → e ≡ d → r ≡ place_after k 1 → Stored k (c ∷ []) d e r
 unfolding stored
-put_out {d} {k} c l h p = record { bytes = sym (set_out d (min k last_place) c (omega arith)); place = omega arith }
-
-pub ruleset puts = (put_in, put_out, rules)
+put_out {d} {e} {k} c l h w p = record { bytes = w ∙ sym (set_out d (min k last_place) c (omega arith)); place = p }
 
 module _ (k : ℕ) {s : ℕ} (d : List ℕ) (l : length d < 2 ^ 64) (e : s ≡ min k (length d)) where
   part_start : s ≤ length d

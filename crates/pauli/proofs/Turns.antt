@@ -1,7 +1,8 @@
 -- Quarter turns: sums of them are products of phases. What the functions on one place need.
-use Rattle.std.proofs.Common.{◌≡◌, ℕ, zero, suc, ◌+◌, ◌*◌, ◌/◌, ◌%◌, ◌<◌, ◌≤◌, Bool, cond, T, eqb, sym, refl, ap, ◌∙◌, ap₂, suc-mul, div-add-mod', zero-mul, arith, eqb→eq, w8, Fits, rules}
+use Rattle.std.proofs.Common.{◌≡◌, ℕ, zero, suc, min, inl, inr, subst, ◌+◌, ◌*◌, ◌/◌, ◌%◌, ◌<◌, ◌≤◌, Bool, cond, T, eqb, sym, refl, ap, ◌∙◌, ap₂, suc-mul, div-add-mod', zero-mul, arith, eqb→eq, w8, Fits, rules}
+use Rattle.std.proofs.lemmas.Bool.{cases_lt}
 use lib.Bits.{bit_xor, bit_and, and_le_l}
-use Rattle.pauli_group.specs.Phase.{Phase, PlusOne, MinusI, negate, turn, ◌·◌}
+use Rattle.pauli_group.specs.Phase.{Phase, PlusOne, negate, turn, ◌·◌}
 use Rattle.pauli_group.specs.Letter.{Letter, letter_product, letter_phase, letter_mul, anticommute, not_i}
 use Rattle.pauli_group.specs.Papers.{power}
 use Rattle.pauli_group.proofs.Finite.{letters, phases, law2}
@@ -52,19 +53,25 @@ unfolding anticommute letter_byte
 letter_crossing = by_pairs (λ a b. crossing (letter_byte a) (letter_byte b)) (λ a b. cond (anticommute a b) 1 0) tt
 
 -- ---- what the functions on one place need
-pub byte_low : (x : ℕ) → x < 3 → LetterByte x x
+byte_low : (x : ℕ) → x < 3 → LetterByte x x
 unfolding letter_byte letter_of
 byte_low zero h = record { is = refl; small = omega arith }
 byte_low (suc zero) h = record { is = refl; small = omega arith }
 byte_low (suc (suc zero)) h = record { is = refl; small = omega arith }
 byte_low (suc (suc (suc n))) h = absurd (omega arith)
 
-pub byte_high : (x : ℕ) → 3 ≤ x → LetterByte x 3
+byte_high : (x : ℕ) → 3 ≤ x → LetterByte x 3
 unfolding letter_byte letter_of
 byte_high zero h = absurd (omega arith)
 byte_high (suc zero) h = absurd (omega arith)
 byte_high (suc (suc zero)) h = absurd (omega arith)
 byte_high (suc (suc (suc n))) h = record { is = refl; small = omega arith }
+
+pub byte_capped : (x : ℕ) → LetterByte x (min x 3)
+byte_capped x = elim (cases_lt x 3) [
+  | inl l ↦ subst (LetterByte x) (let e : x ≡ min x 3 = omega arith in e) (byte_low x l)
+  | inr l ↦ subst (LetterByte x) (let e : 3 ≡ min x 3 = omega arith in e) (byte_high x l)
+]
 
 byte-letter : (x : ℕ) → x ≤ 3 → LetterByte x x
 byte-letter x h = record { is = sym (letter_there x h); small = h }
@@ -130,16 +137,16 @@ some-lettered {x} d = sym (ap (λ b. cond b 1 0) (some-letter x d))
 pub turns-added : {x y t r : ℕ} (v : ℕ) → LetterTurns x y t → r ≡ (v + t) % 256 → power r ≡ power v · letter_phase (letter_of x) (letter_of y)
 turns-added {t = t} v m e = ap power e ∙ power_sum v t ∙ ap (λ p. power v · p) m.is
 
-pub phase_key : {p t : ℕ} (k : ℕ) → p ≡ k → power t ≡ phase_of k → PhaseTurns p t
-phase_key k e h = record { is = h ∙ ap phase_of (sym e) }
+pub phase_last : (p : ℕ) → 3 ≤ p → PhaseTurns p 3
+unfolding power turn phase_of
+phase_last zero h = absurd (omega arith)
+phase_last (suc zero) h = absurd (omega arith)
+phase_last (suc (suc zero)) h = absurd (omega arith)
+phase_last (suc (suc (suc p))) h = record { is = refl }
 
 pub turn_key : (t m : ℕ) {r : ℕ} → t % 4 ≡ m → r ≡ phase_byte (power m) → r ≡ phase_byte (power t)
 unfolding power turn
 turn_key t m e h = h ∙ ap (λ (x : ℕ). phase_byte (power x)) (sym e) ∙ ap phase_byte (power_mod t 4 refl)
-
-pub turn-rest : (t : ℕ) → ((Unit {0} × (t % 4 ≡ 0 → ⊥)) × (t % 4 ≡ 1 → ⊥)) × (t % 4 ≡ 2 → ⊥) → phase_byte MinusI ≡ phase_byte (power t)
-unfolding power turn
-turn-rest t h = turn_key t 3 (omega arith) refl
 
 pub phases_are : {a b s t u r : ℕ} → PhaseTurns a s → PhaseTurns b t → u ≡ (s + t) % 256 → r ≡ phase_byte (power u) → r ≡ phase_bytes_product a b
 unfolding phase_bytes_product
@@ -151,8 +158,7 @@ turned {s = s} {t = t} {u = u} turns f g e k h =
     h ∙ ap phase_byte (ap power k ∙ power_sum u turns ∙ ap (λ p. p · power turns) (ap power e ∙ power_sum s t ∙ ap₂ ◌·◌ f.is g.is))
 
 pub ruleset places = (
-  byte_low,
-  byte_high,
+  byte_capped,
   byte-first,
   byte-second,
   both_bytes,

@@ -6,9 +6,9 @@ use Rattle.pauli.specs.Layout.{string_length}
 use Rattle.pauli.specs.Entries.{entry_count, entry_letter, entry_qubit, occurrences}
 use Rattle.pauli.specs.declared.refusal.Refusal.{Refusal}
 use Rattle.pauli.specs.declared.refusal.Refusal.TheVariants.{Length, BadByte, Qubit, Room, Duplicate}
--- "a no gives the number, a detail and untouched buffers"
 use Rattle.pauli.specs.Answers.{Outcome}
 
+-- "a no gives the number, a detail and untouched buffers"
 unfoldable pub ask : Bool → Refusal → Outcome
 ask true r = Ok tt
 ask false r = Err r

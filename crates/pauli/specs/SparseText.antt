@@ -6,9 +6,9 @@ use Rattle.pauli_group.specs.PauliString.{PauliString, qubits}
 use Rattle.pauli.specs.Layout.{phase_of, string_of}
 use Rattle.pauli.specs.Questions.{◌and_then◌, string_questions, room_question}
 use Rattle.pauli.specs.Rows.{letter_at}
--- 0 is 48
 use Rattle.pauli.specs.Answers.{Outcome}
 
+-- 0 is 48
 abbrev pub digit_text : ℕ → ℕ
 digit_text d = 48 + d
 

@@ -7,11 +7,11 @@ use Rattle.pauli.specs.Places.{first_place}
 use Rattle.pauli.specs.Layout.{phase_byte, letter_of, string_length, string_record}
 use Rattle.pauli.specs.Entries.{entries_string}
 use Rattle.pauli.specs.Questions.{ask, ◌and_then◌, duplicate_question, room_question}
+use Rattle.pauli.specs.Answers.{Outcome}
+
 -- ---- bytes
 
 -- "White space is bytes 9 to 13 and 32"
-use Rattle.pauli.specs.Answers.{Outcome}
-
 unfoldable pub is_space : ℕ → Bool
 is_space c = (nat_le 9 c && nat_le c 13) || c == 32
 

@@ -14,7 +14,7 @@ ghost use Rattle.pauli.specs.Promises.{LettersMultiplied, StringsMultiplied};
 
 use crate::questions::{check_pair, check_room, check_strings};
 use crate::refusal::Refusal;
-use crate::rows::{copy, larger, letter_turns, turned_phase};
+use crate::rows::{letter_turns, turned_phase};
 use crate::{QUBITS, STRING_LENGTH};
 
 // A phase and a letter.
@@ -23,6 +23,7 @@ pub struct PhasedLetter(pub u8, pub u8);
 
 // The product of two letters: I is neutral, equal letters give I, XY = iZ, YZ = iX, ZX = iY, and -i in the reverse orders.
 // A byte above 3 is read as 3.
+#[tactic(auto, unfolding(pauli_group::specs::Letter::letter_product, pauli_group::specs::Letter::letter_phase, pauli_group::specs::Letter::letter_mul, crate::specs::Layout::phase_byte, crate::specs::Layout::letter_byte, crate::specs::Layout::letter_of, crate::specs::Rows::product_phase_byte, crate::specs::Rows::product_letter_byte, crate::specs::Rows::letter_bytes_product))]
 pub fn multiply_paulis(a: u8, b: u8) -> PhasedLetter
     ensures { result ≡ letter_bytes_product a b }
 {
@@ -74,41 +75,33 @@ fn see(sight: Sight, x: u8, y: u8, q: usize) -> Sight
     requires { q < 128 }
     ensures { result ≡ seen_with sight x y q }
 {
-    let letter = larger(x, y);
-    Sight {
-        largest: larger(sight.largest, letter),
-        places: if letter == 0 {
-            sight.places
-        } else {
-            (q + 1) as u8
-        },
-    }
+    let letter = x.max(y);
+    let largest = sight.largest.max(letter);
+    let places = if letter == 0 {
+        sight.places
+    } else {
+        (q + 1) as u8
+    };
+    Sight { largest, places }
 }
 
-// Looks through two string records at once. What is not two string records is seen as bad.
+// Looks through two string records at once. What is not two string records is seen as bad, so that the questions are then put one by
+// one.
 fn look(s: &[u8], t: &[u8]) -> Sight
     ensures { Looked s.now t.now result }
 {
-    if s.len() != STRING_LENGTH {
-        return Sight {
-            largest: 255,
-            places: 0,
-        };
-    }
-    if t.len() != STRING_LENGTH {
+    if s.len() != STRING_LENGTH || t.len() != STRING_LENGTH {
         return Sight {
             largest: 255,
             places: 0,
         };
     }
     let mut sight = Sight {
-        largest: larger(s[0], t[0]),
+        largest: s[0].max(t[0]),
         places: 0,
     };
-    let mut q = 0;
-    while q < QUBITS {
+    for q in 0..QUBITS {
         sight = see(sight, s[q + 1], t[q + 1], q);
-        q += 1;
     }
     sight
 }
@@ -129,7 +122,7 @@ fn add_turns(turns: u8, x: u8, y: u8) -> u8
     requires { LetterBytes x y }
     ensures { power result ≡ power turns · letter_phase (letter_of x) (letter_of y) }
 {
-    std::num::wrapping_add_u8(turns, letter_turns(x, y))
+    turns.wrapping_add(letter_turns(x, y))
 }
 
 // The product's letters at the 32 places from `at` on, taken together; the answer is the turns of their phases.
@@ -138,13 +131,11 @@ fn multiply_step(s: &[u8], t: &[u8], at: usize, row: &mut [u8]) -> u8
     ensures { Stepped s.now t.now at row.new result }
 {
     let mut turns: u8 = 0;
-    let mut q = at;
-    while q < at + 32 {
+    for q in at..at + 32 {
         let x = s[q + 1];
         let y = t[q + 1];
         turns = add_turns(turns, x, y);
         row[q] = x ^ y;
-        q += 1;
     }
     turns
 }
@@ -156,11 +147,8 @@ fn multiply_places(s: &[u8], t: &[u8], places: usize, row: &mut [u8]) -> u8
     ensures { RowMultiplied s.now t.now row.new result }
 {
     let mut turns: u8 = 0;
-    let mut at = 0;
-    while at < places {
-        let more = multiply_step(s, t, at, row);
-        turns = std::num::wrapping_add_u8(turns, more);
-        at += 32;
+    for step in 0..places.div_ceil(32) {
+        turns = turns.wrapping_add(multiply_step(s, t, 32 * step, row));
     }
     turns
 }
@@ -172,7 +160,7 @@ fn write_product(s: &[u8], t: &[u8], places: usize, dst: &mut [u8])
 {
     let mut row = [0u8; QUBITS];
     let turns = multiply_places(s, t, places, &mut row);
-    copy(&row, &mut dst[1..STRING_LENGTH]);
+    dst[1..STRING_LENGTH].copy_from_slice(&row);
     dst[0] = turned_phase(s[0], t[0], turns);
 }
 

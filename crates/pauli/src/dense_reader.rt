@@ -1,9 +1,9 @@
 // Dense text: a letter for each qubit, from the prefix to the trimmed end. Ports `from_dense_str` of pauli_string.rs of PECOS, changed:
 // Copyright 2024 The PECOS Developers, Apache License, Version 2.0.
-ghost use Rattle.std.specs.Prelude.{◌≡◌, ◌+◌, ◌<◌, max, ◌∷◌, ◌++◌, length, drop};
-ghost use Rattle.pauli.specs.Inside.Reading.{EndRead, DenseAt, DenseFit, letters_named};
-ghost use Rattle.pauli.specs.Layout.{phase_byte};
-ghost use Rattle.pauli.specs.Text.{is_identity, text_phase, dense_letter, letter_questions, from_dense_questions};
+ghost use Rattle.std.specs.Prelude.{◌≡◌, ◌+◌, ◌<◌, ◌∷◌, ◌++◌, length, drop};
+ghost use Rattle.pauli.specs.Inside.Reading.{EndRead, DenseAt, letters_named};
+ghost use Rattle.pauli.specs.Inside.Marks.{RecordFits};
+ghost use Rattle.pauli.specs.Text.{is_identity, dense_letter, letter_questions, from_dense_questions};
 ghost use Rattle.pauli.specs.Promises.{FromDenseText};
 
 use crate::questions::check_room;
@@ -12,39 +12,22 @@ use crate::text::{byte_at, check_ascii, is_space, letter_named, read_head};
 use crate::{QUBITS, STRING_LENGTH};
 
 // I, i or 1.
+#[tactic(auto, unfolding(crate::specs::Text::is_identity), using(std::proofs::lemmas::Bool::Decides::nat_tests))]
 fn is_identity(c: u8) -> bool
     ensures { result ≡ is_identity c }
 {
-    if c == 73 {
-        return true;
-    }
-    if c == 105 {
-        return true;
-    }
-    if c == 49 {
-        return true;
-    }
-    false
+    matches!(c, b'I' | b'i' | b'1')
 }
 
 // The place after the last byte that is no white space.
 fn text_end(t: &[u8]) -> usize
     ensures { EndRead t.now result }
 {
-    let mut k = 0;
-    while k < t.len() {
-        if !is_space(t[t.len() - (k + 1)]) {
-            return t.len() - k;
-        }
-        k += 1;
-    }
-    t.len() - k
-}
-
-fn larger(a: usize, b: usize) -> usize
-    ensures { result ≡ max a b }
-{
-    if a < b { b } else { a }
+    t.len()
+        - t.iter()
+            .rev()
+            .position(|c| !is_space(*c))
+            .unwrap_or(t.len())
 }
 
 // One letter, at this offset, for this qubit.
@@ -68,10 +51,8 @@ fn check_letters(body: &[u8], offset: usize) -> Result<(), Refusal>
     requires { offset + length body.now < 18446744073709551616 }
     ensures { result ≡ letter_questions offset 0 body.now }
 {
-    let mut i = 0;
-    while i < body.len() {
-        check_letter(body[i], offset + i, i)?;
-        i += 1;
+    for (i, c) in body.iter().enumerate() {
+        check_letter(*c, offset + i, i)?;
     }
     Ok(())
 }
@@ -80,17 +61,14 @@ fn check_letters(body: &[u8], offset: usize) -> Result<(), Refusal>
 fn write_named(body: &[u8], dst: &mut [u8])
     ensures { dst.new ≡ letters_named (length dst.old) body.now }
 {
-    let n = dst.len();
-    let mut i = 0;
-    while i < n {
+    for i in 0..dst.len() {
         dst[i] = letter_named(byte_at(body, i));
-        i += 1;
     }
 }
 
 // The string record with this phase and the letters of this body.
 fn write_dense(phase: u8, body: &[u8], dst: &mut [u8])
-    requires { DenseFit dst.old }
+    requires { RecordFits dst.old }
     ensures { dst.new ≡ phase ∷ letters_named 128 body.now ++ drop 129 dst.old }
 {
     write_named(body, &mut dst[1..STRING_LENGTH]);
@@ -107,28 +85,15 @@ fn dense_answer(t: &[u8], body: &[u8], offset: usize, room: usize) -> Result<(),
     check_room(STRING_LENGTH, room)
 }
 
-fn dense_body(
-    t: &[u8],
-    phase: u8,
-    body: &[u8],
-    offset: usize,
-    dst: &mut [u8],
-) -> Result<(), Refusal>
-    requires dense_at { DenseAt t.now body.now offset }
-    requires phase_value { phase ≡ phase_byte (text_phase t.now) }
-    ensures { FromDenseText t.now dst.old dst.new result }
-{
-    dense_answer(t, body, offset, dst.len())?;
-    write_dense(phase, body, dst);
-    Ok(())
-}
-
 // The string of a dense text.
 pub(crate) fn dense_string(t: &[u8], dst: &mut [u8]) -> Result<(), Refusal>
     ensures { FromDenseText t.now dst.old dst.new result }
 {
     let head = read_head(t);
     let at = head.at;
-    let end = larger(at, text_end(t));
-    dense_body(t, head.phase, &t[at..end], at, dst)
+    let end = text_end(t).max(at);
+    let body = &t[at..end];
+    dense_answer(t, body, at, dst.len())?;
+    write_dense(head.phase, body, dst);
+    Ok(())
 }

@@ -1,13 +1,11 @@
 // String records: reading them, comparing them, making them from entries, writing them as text. Ports pauli_string.rs of PECOS, changed:
 // Copyright 2024 The PECOS Developers, Apache License, Version 2.0.
 ghost use Rattle.std.specs.Prelude.{◌≡◌};
-ghost use Rattle.pauli.specs.Inside.Marks.{Blank};
 ghost use Rattle.pauli.specs.SparseText.{to_sparse_questions};
 ghost use Rattle.pauli.specs.Promises.{PhaseOfString, LetterOfString, PlacesCounted, FromEntries, FromSparseText, FromDenseText, FromText, SparseTextWritten};
 
-use crate::QUBITS;
 use crate::dense_reader::dense_string;
-use crate::entries::{read_entries, write_marked};
+use crate::entries::{Marks, read_entries};
 use crate::questions::{check_qubit, check_room, check_string, check_strings};
 use crate::refusal::Refusal;
 use crate::rows::count_anticommuting;
@@ -41,35 +39,21 @@ pub fn anticommuting_places(s: &[u8], t: &[u8]) -> Result<usize, Refusal>
     Ok(usize::from(count_anticommuting(&s[1..], &t[1..])))
 }
 
-// The string of a phase and entries. The marks are a buffer of 128 zeros.
-fn string_of_entries(
-    phase: u8,
-    entries: &[u8],
-    marks: &mut [u8],
-    dst: &mut [u8],
-) -> Result<(), Refusal>
-    requires { Blank marks.old }
-    ensures { FromEntries phase entries.now dst.old dst.new result }
-{
-    read_entries(phase, entries, marks, dst.len())?;
-    write_marked(phase, marks, dst);
-    Ok(())
-}
-
 // The string with this phase and these entries, byte pairs (letter, qubit).
 pub fn with_phase_and_paulis(phase: u8, entries: &[u8], dst: &mut [u8]) -> Result<(), Refusal>
     ensures { FromEntries phase entries.now dst.old dst.new result }
 {
-    let mut marks = [0u8; QUBITS];
-    string_of_entries(phase, entries, &mut marks, dst)
+    let mut marks = Marks::new();
+    read_entries(phase, entries, &mut marks, dst.len())?;
+    marks.write(phase, dst);
+    Ok(())
 }
 
 // The string that a sparse text names.
 pub fn from_sparse_str(t: &[u8], dst: &mut [u8]) -> Result<(), Refusal>
     ensures { FromSparseText t.now dst.old dst.new result }
 {
-    let mut marks = [0u8; QUBITS];
-    sparse_string(t, &mut marks, dst)
+    sparse_string(t, dst)
 }
 
 // The string that a dense text names.

@@ -18,6 +18,7 @@ pub fn multiply(a: u8, b: u8) -> Result<u8, Refusal>
 }
 
 // The conjugate of a phase byte; a byte above 3 is read as 3.
+#[tactic(auto, unfolding(pauli_group::specs::Phase::conjugate, crate::specs::Layout::phase_byte, crate::specs::Layout::phase_of, crate::specs::Rows::conjugate_byte))]
 pub fn phase_conjugate(p: u8) -> u8
     ensures { result ≡ conjugate_byte p }
 {

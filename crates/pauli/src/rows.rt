@@ -11,14 +11,14 @@ ghost use Rattle.pauli.specs.Inside.Turns.{LetterByte, LetterBytes, ForY, Letter
 pub fn smaller(a: usize, b: usize) -> usize
     ensures { result ≡ min a b }
 {
-    if a < b { a } else { b }
+    a.min(b)
 }
 
 // A letter byte; a byte above 3 is read as 3.
 fn letter_byte(x: u8) -> u8
     ensures { LetterByte x result }
 {
-    if x < 3 { x } else { 3 }
+    x.min(3)
 }
 
 // k for the byte of Y, else 0.
@@ -52,6 +52,7 @@ fn times_turns(a: u8, b: u8) -> u8
     letter_turns(letter_byte(a), letter_byte(b))
 }
 
+#[tactic(auto, unfolding(pauli_group::specs::Papers::power, pauli_group::specs::Phase::turn, crate::specs::Layout::phase_of))]
 fn phase_turns(p: u8) -> u8
     ensures { PhaseTurns p result }
 {
@@ -63,11 +64,11 @@ fn phase_turns(p: u8) -> u8
     }
 }
 
+#[tactic(auto, unfolding(pauli_group::specs::Papers::power, pauli_group::specs::Phase::turn, crate::specs::Layout::phase_byte), using(crate::proofs::Turns::turn_key))]
 fn turns_phase(t: u8) -> u8
     ensures { result ≡ phase_byte (power t) }
 {
-    let k = t % 4;
-    match k {
+    match t % 4 {
         0 => 0,
         1 => 2,
         2 => 1,
@@ -79,15 +80,15 @@ fn turns_phase(t: u8) -> u8
 pub fn phase_times(a: u8, b: u8) -> u8
     ensures { result ≡ phase_bytes_product a b }
 {
-    turns_phase(std::num::wrapping_add_u8(phase_turns(a), phase_turns(b)))
+    turns_phase(phase_turns(a).wrapping_add(phase_turns(b)))
 }
 
 // The product of two phases and of quarter turns.
 pub(crate) fn turned_phase(a: u8, b: u8, turns: u8) -> u8
     ensures { result ≡ phase_byte (phase_of a · phase_of b · power turns) }
 {
-    let own = std::num::wrapping_add_u8(phase_turns(a), phase_turns(b));
-    turns_phase(std::num::wrapping_add_u8(own, turns))
+    let own = phase_turns(a).wrapping_add(phase_turns(b));
+    turns_phase(own.wrapping_add(turns))
 }
 
 // The row acc multiplied by the row b on the right, as far as both reach; the answer is phase times the places' phases.
@@ -95,15 +96,13 @@ pub(crate) fn turned_phase(a: u8, b: u8, turns: u8) -> u8
 pub fn multiply_letters(acc: &mut [u8], b: &[u8], phase: u8) -> u8
     ensures { RowTimes acc.old b.now phase acc.new result }
 {
-    let n = smaller(acc.len(), b.len());
+    let n = acc.len().min(b.len());
     let mut turns = phase_turns(phase);
-    let mut i = 0;
-    while i < n {
+    for i in 0..n {
         let x = acc[i];
         let y = b[i];
-        turns = std::num::wrapping_add_u8(turns, times_turns(x, y));
+        turns = turns.wrapping_add(times_turns(x, y));
         acc[i] = times_letter(x, y);
-        i += 1;
     }
     turns_phase(turns)
 }
@@ -112,10 +111,7 @@ pub fn multiply_letters(acc: &mut [u8], b: &[u8], phase: u8) -> u8
 pub fn multiply_row(row: &mut [u8], t: &[u8])
     ensures { row.new ≡ row_product row.old t.now }
 {
-    if row.len() == 0 {
-        return;
-    }
-    if t.len() == 0 {
+    if row.is_empty() || t.is_empty() {
         return;
     }
     let p = phase_times(row[0], t[0]);
@@ -136,21 +132,20 @@ fn letters_anticommute(a: u8, b: u8) -> u8
 pub fn count_anticommuting(a: &[u8], b: &[u8]) -> u8
     ensures { result ≡ places_of (shorter a.now b.now) a.now b.now % 256 }
 {
-    let n = smaller(a.len(), b.len());
+    let n = a.len().min(b.len());
     let mut count: u8 = 0;
-    let mut i = 0;
-    while i < n {
-        count = std::num::wrapping_add_u8(count, letters_anticommute(a[i], b[i]));
-        i += 1;
+    for i in 0..n {
+        count = count.wrapping_add(letters_anticommute(a[i], b[i]));
     }
     count
 }
 
 // 1 for a letter other than I, else 0.
+#[tactic(auto, unfolding(crate::specs::Inside::Turns::lettered), using(crate::proofs::Turns::places))]
 fn is_letter(x: u8) -> u8
     ensures { result ≡ lettered x }
 {
-    if x == 0 { 0 } else { 1 }
+    u8::from(x != 0)
 }
 
 // The number of letters other than I, modulo 256.
@@ -158,18 +153,10 @@ pub fn count_letters(s: &[u8]) -> u8
     ensures { result ≡ letter_count s.now % 256 }
 {
     let mut count: u8 = 0;
-    let mut i = 0;
-    while i < s.len() {
-        count = std::num::wrapping_add_u8(count, is_letter(s[i]));
-        i += 1;
+    for x in s {
+        count = count.wrapping_add(is_letter(*x));
     }
     count
-}
-
-pub(crate) fn larger(a: u8, b: u8) -> u8
-    ensures { result ≡ max a b }
-{
-    if a < b { b } else { a }
 }
 
 // The largest byte, 0 where there is none.
@@ -177,10 +164,8 @@ fn largest(s: &[u8]) -> u8
     ensures { result ≡ largest_to (length s.now) s.now }
 {
     let mut most: u8 = 0;
-    let mut i = 0;
-    while i < s.len() {
-        most = larger(most, s[i]);
-        i += 1;
+    for x in s {
+        most = most.max(*x);
     }
     most
 }
@@ -197,8 +182,8 @@ fn scan_one(seen: LetterScan, x: u8) -> LetterScan
     ensures { result ≡ scanned_with seen x }
 {
     LetterScan {
-        largest: larger(seen.largest, x),
-        letters: std::num::wrapping_add_u8(seen.letters, is_letter(x)),
+        largest: seen.largest.max(x),
+        letters: seen.letters.wrapping_add(is_letter(x)),
     }
 }
 
@@ -210,10 +195,8 @@ pub fn scan_letters(s: &[u8]) -> LetterScan
         largest: 0,
         letters: 0,
     };
-    let mut i = 0;
-    while i < s.len() {
-        seen = scan_one(seen, s[i]);
-        i += 1;
+    for x in s {
+        seen = scan_one(seen, *x);
     }
     seen
 }
@@ -225,24 +208,13 @@ pub fn first_bad(s: &[u8]) -> usize
     if largest(s) < 4 {
         return s.len();
     }
-    let mut i = 0;
-    while i < s.len() {
-        if 3 < s[i] {
-            return i;
-        }
-        i += 1;
-    }
-    i
+    s.iter().position(|x| 3 < *x).unwrap_or(s.len())
 }
 
 // src copied to the front of dst, as far as both reach.
 pub fn copy(src: &[u8], dst: &mut [u8])
     ensures { dst.new ≡ copied src.now dst.old }
 {
-    let n = smaller(src.len(), dst.len());
-    let mut i = 0;
-    while i < n {
-        dst[i] = src[i];
-        i += 1;
-    }
+    let n = src.len().min(dst.len());
+    dst[..n].copy_from_slice(&src[..n]);
 }

@@ -7,8 +7,7 @@ ghost use Rattle.pauli.specs.TextWriting.{Stored};
 ghost use Rattle.pauli.specs.Inside.TextWriting.{TextWritten, more_text};
 
 use crate::QUBITS;
-use crate::rows::smaller;
-use crate::text_writer::{place_after, put, put_decimal, put_text};
+use crate::text_writer::{put, put_decimal, put_text};
 
 // +, -, +i or -i; a byte above 3 is read as 3.
 fn write_prefix(dst: &mut [u8], phase: u8) -> usize
@@ -22,14 +21,15 @@ fn write_prefix(dst: &mut [u8], phase: u8) -> usize
     }
 }
 
+#[tactic(auto, unfolding(crate::specs::SparseText::letter_text, crate::specs::Layout::letter_of))]
 fn letter_text(letter: u8) -> u8
     ensures { result ≡ letter_text (letter_of letter) }
 {
     match letter {
-        0 => 73,
-        1 => 88,
-        2 => 90,
-        _ => 89,
+        0 => b'I',
+        1 => b'X',
+        2 => b'Z',
+        _ => b'Y',
     }
 }
 
@@ -52,7 +52,7 @@ fn write_place(dst: &mut [u8], first: usize, at: usize, letter: u8, qubit: usize
     if at == first {
         return write_entry(dst, at, letter, qubit);
     }
-    let next = put(dst, at, 32);
+    let next = put(dst, at, b' ');
     write_entry(dst, next, letter, qubit)
 }
 
@@ -61,16 +61,14 @@ fn write_place(dst: &mut [u8], first: usize, at: usize, letter: u8, qubit: usize
 pub(crate) fn write_sparse(phase: u8, letters: &[u8], dst: &mut [u8]) -> usize
     ensures { TextWritten (row_text phase letters.now) dst.old dst.new result }
 {
-    let n = smaller(letters.len(), QUBITS);
+    let n = letters.len().min(QUBITS);
     let first = write_prefix(dst, phase);
     let mut at = first;
-    let mut q = 0;
-    while q < n {
+    for q in 0..n {
         at = write_place(dst, first, at, letters[q], q);
-        q += 1;
     }
     if at == first {
-        return put(dst, at, 73);
+        return put(dst, at, b'I');
     }
     at
 }
@@ -79,14 +77,13 @@ pub(crate) fn write_sparse(phase: u8, letters: &[u8], dst: &mut [u8]) -> usize
 pub fn put_sparse(dst: &mut [u8], at: usize, phase: u8, letters: &[u8]) -> usize
     ensures { Stored at (row_text phase letters.now) dst.old dst.new result }
 {
-    let start = smaller(at, dst.len());
-    place_after(at, write_sparse(phase, letters, &mut dst[start..]))
+    let start = at.min(dst.len());
+    at.saturating_add(write_sparse(phase, letters, &mut dst[start..]))
 }
 
 // Its length.
 pub(crate) fn sparse_length(phase: u8, letters: &[u8]) -> usize
     ensures { result ≡ length (row_text phase letters.now) }
 {
-    let mut nowhere = [0u8; 0];
-    write_sparse(phase, letters, &mut nowhere)
+    write_sparse(phase, letters, &mut [])
 }

@@ -1,20 +1,12 @@
 // Text, written into a destination from a place on. It is written as far as the destination reaches, and the answer is the place
-// after it, so that the same code counts and writes, and asks nothing of a caller.
+// after it, so that the same code counts and writes, and asks nothing of a caller. The last number stands for every place from there on.
+// The destination and the place are two parameters and no struct: the public functions have them so, and each write is one line,
+// `at = f(dst, at, ..)`.
 ghost use Rattle.std.specs.Prelude.{◌≡◌, [], ◌∷◌};
 ghost use Rattle.pauli.specs.SparseText.{decimal};
-ghost use Rattle.pauli.specs.TextWriting.{place_after, Stored};
+ghost use Rattle.pauli.specs.TextWriting.{Stored};
 
-use crate::rows::{copy, smaller};
-
-// The place n bytes after another; the last number stands for every place from there on.
-pub(crate) fn place_after(at: usize, n: usize) -> usize
-    ensures { result ≡ place_after at n }
-{
-    if 18446744073709551615 - n < at {
-        return 18446744073709551615;
-    }
-    at + n
-}
+use crate::rows::copy;
 
 // One byte.
 pub(crate) fn put(dst: &mut [u8], at: usize, c: u8) -> usize
@@ -22,18 +14,17 @@ pub(crate) fn put(dst: &mut [u8], at: usize, c: u8) -> usize
 {
     if at < dst.len() {
         dst[at] = c;
-        return at + 1;
     }
-    place_after(at, 1)
+    at.saturating_add(1)
 }
 
 // A text, through the part of the destination that starts at the place: an empty part where it does not reach.
 pub fn put_text(dst: &mut [u8], at: usize, text: &[u8]) -> usize
     ensures { Stored at text.now dst.old dst.new result }
 {
-    let start = smaller(at, dst.len());
+    let start = at.min(dst.len());
     copy(text, &mut dst[start..]);
-    place_after(at, text.len())
+    at.saturating_add(text.len())
 }
 
 // The decimal numeral of a number: that of its tenth, and its last digit.
@@ -41,8 +32,8 @@ pub fn put_decimal(dst: &mut [u8], at: usize, n: u64) -> usize
     ensures { Stored at (decimal n) dst.old dst.new result }
 {
     if n < 10 {
-        return put(dst, at, 48 + n as u8);
+        return put(dst, at, b'0' + n as u8);
     }
     let next = put_decimal(dst, at, n / 10);
-    put(dst, next, 48 + (n % 10) as u8)
+    put(dst, next, b'0' + (n % 10) as u8)
 }

@@ -1,15 +1,14 @@
 -- What the code keeps of the entries read so far: a mark for each qubit, 0 where no entry names it, 1 + its letter where one
 -- does, 5 where more do.
-use Rattle.std.specs.Prelude.{◌≡◌, ℕ, zero, suc, ◌<◌, ◌≤◌, Bool, cond, List, ◌++◌, length, drop, nat_eq, nat_le, slice_index, Ok}
+use Rattle.std.specs.Prelude.{◌≡◌, ℕ, zero, suc, ◌<◌, ◌≤◌, Bool, cond, List, length, nat_eq, nat_le, slice_index, Ok}
 use Rattle.pauli_group.specs.PauliString.{qubits}
 use Rattle.pauli.specs.declared.refusal.Refusal.TheVariants.{Duplicate}
 use Rattle.pauli.specs.Questions.{ask, with_phase_questions}
 use Rattle.pauli.specs.Places.{listed, first_place}
-use Rattle.pauli.specs.Rows.{shorter}
 use Rattle.pauli.specs.Entries.{entry_count, entry_letter, entry_qubit}
--- a mark after one more entry with letter l
 use Rattle.pauli.specs.Answers.{Outcome}
 
+-- a mark after one more entry with letter l
 unfoldable pub mark_more : ℕ → ℕ → ℕ
 mark_more zero l = suc l
 mark_more (suc m) l = 5
@@ -36,9 +35,10 @@ unfoldable pub unmarked : ℕ → ℕ
 unmarked zero = 0
 unmarked (suc l) = l
 
-pub record MarkFits (m : List ℕ) (l q : ℕ) : Type 0 where
+-- a letter and a qubit
+pub record MarkFits (l q : ℕ) : Type 0 where
   pub letter : l ≤ 3
-  pub place : q < length m
+  pub place : q < 128
 
 -- entries with letters up to 3 and qubits below 128, and no marks yet
 pub record Unmarked (e m : List ℕ) : Type 0 where
@@ -50,7 +50,7 @@ pub record Unmarked (e m : List ℕ) : Type 0 where
 pub record Blank (m : List ℕ) : Type 0 where
   pub none : (e : List ℕ) → m ≡ marks_to e 0
 
--- the answer r to a phase and entries, and the marks m that are left where it is Done
+-- the answer r to a phase and entries, and the marks m that are left where it is Ok
 pub record EntriesRead (p : ℕ) (e : List ℕ) (room : ℕ) (m : List ℕ) (r : Outcome) : Type 0 where
   pub answer : r ≡ with_phase_questions p e room
   pub marks : r ≡ Ok tt → m ≡ marks_to e (entry_count e)
@@ -59,11 +59,6 @@ pub record EntriesRead (p : ℕ) (e : List ℕ) (room : ℕ) (m : List ℕ) (r :
 unfoldable pub letters_marked : ℕ → List ℕ → List ℕ
 letters_marked n m = listed n (λ q. unmarked (slice_index m q))
 
--- those letters over the front of d, as far as both reach
-abbrev pub letters_over : List ℕ → List ℕ → List ℕ
-letters_over m d = letters_marked (shorter m d) m ++ drop (shorter m d) d
-
--- 128 marks, and room for a string record
-pub record MarksFit (m d : List ℕ) : Type 0 where
-  pub marks : length m ≡ 128
+-- room for a string record
+pub record RecordFits (d : List ℕ) : Type 0 where
   pub room : 129 ≤ length d

@@ -1,24 +1,17 @@
 -- What the functions that read text promise one another.
-use Rattle.std.specs.Prelude.{◌≡◌, ℕ, ◌+◌, ◌-◌, ◌^◌, ◌<◌, ◌≤◌, Bool, true, false, cond, ◌&&◌, List, ◌∷◌, length, drop, nat_lt, slice_index, Ok, Err}
+use Rattle.std.specs.Prelude.{◌≡◌, ℕ, ◌+◌, ◌^◌, ◌<◌, ◌≤◌, Bool, true, false, ◌&&◌, Option, Some, None, List, ◌∷◌, length, drop, nat_lt, slice_index, Ok, Err}
 use Rattle.pauli.specs.declared.text.Prefix.{Prefix}
 use Rattle.pauli.specs.declared.text.Head.{Head}
-use Rattle.pauli.specs.declared.text.Numeral.{Numeral}
-use Rattle.pauli.specs.declared.text.Numeral.TheVariants.{Value, NotNumber}
-use Rattle.pauli.specs.declared.sparse_reader.IndexAnswer.{IndexAnswer}
-use Rattle.pauli.specs.declared.sparse_reader.IndexAnswer.TheVariants.{At, TooHigh, NotAt}
-use Rattle.pauli.specs.declared.sparse_reader.EntryAnswer.{EntryAnswer}
-use Rattle.pauli.specs.declared.sparse_reader.EntryAnswer.TheVariants.{Entry, High, NoEntry}
-use Rattle.pauli_group.specs.PauliString.{qubits}
+use Rattle.pauli.specs.declared.sparse_reader.Entry.{Entry}
 use Rattle.pauli.specs.declared.refusal.Refusal.{Refusal}
-use Rattle.pauli.specs.declared.refusal.Refusal.TheVariants.{NotNumeral, TextQubit}
 use Rattle.pauli.specs.Entries.{entry_count, entry_letter, entry_qubit}
 use Rattle.pauli.specs.Inside.Marks.{marks_to, Blank}
 use Rattle.pauli.specs.Places.{listed, first_place}
 use Rattle.pauli.specs.Layout.{phase_byte}
-use Rattle.pauli.specs.Text.{text_end, dense_body, sparse_entries, from_sparse_questions, is_space, letter_named, Token, tokens, token_questions, token_entries, is_digit, prefix_phase, prefix_length, text_phase, body_start, all_digits, digits_value, is_index, index_value}
--- the bytes before the first space
-use Rattle.pauli.specs.Answers.{Outcome}
+use Rattle.pauli.specs.Text.{text_end, dense_body, sparse_entries, from_sparse_questions, is_space, letter_named, Token, tokens, token_questions, token_entries, prefix_phase, prefix_length, text_phase, body_start, all_digits, digits_value, is_index, index_value}
+use Rattle.pauli.specs.Answers.{Answer, Outcome}
 
+-- the bytes before the first space
 unfoldable pub leading_word : List ℕ → ℕ
 leading_word t = first_place (length t) (λ k. is_space (slice_index t k))
 
@@ -38,35 +31,21 @@ pub record HeadRead (t : List ℕ) (r : Head) : Type 0 where
   pub place : r.at ≡ body_start t
   pub within : r.at ≤ length t
 
--- the value of a digit; of another byte only that it is small
-pub record DigitValue (c r : ℕ) : Type 0 where
-  pub is : is_digit c ≡ true → r ≡ c - 48
-  pub small : r ≤ 9
-
 -- digits, and an index, as a value below 2^64 or none
-abbrev pub numeral_if : Bool → ℕ → Numeral
-numeral_if true v = Value v
-numeral_if false v = NotNumber
+abbrev pub numeral_if : Bool → ℕ → Option ℕ
+numeral_if true v = Some v
+numeral_if false v = None
 
 unfoldable pub are_digits : List ℕ → Bool
 are_digits ds = (nat_lt 0 (length ds) && all_digits ds) && nat_lt (digits_value 0 ds) (2 ^ 64)
 
-unfoldable pub digits_numeral : List ℕ → Numeral
+unfoldable pub digits_numeral : List ℕ → Option ℕ
 digits_numeral ds = numeral_if (are_digits ds) (digits_value 0 ds)
 
-unfoldable pub index_numeral : List ℕ → Numeral
+unfoldable pub index_numeral : List ℕ → Option ℕ
 index_numeral bs = numeral_if (is_index bs) (index_value bs)
 
 -- ---- sparse text
-
--- the qubit of an index at offset k, or why there is none
-unfoldable pub index_answer : ℕ → List ℕ → IndexAnswer
-index_answer k bs = cond (is_index bs) (cond (nat_lt (index_value bs) qubits) (At (index_value bs)) (TooHigh k)) (NotAt (NotNumeral k))
-
-unfoldable pub entry_after : ℕ → IndexAnswer → ℕ → EntryAnswer
-entry_after l (At q) n = Entry l q n
-entry_after l (TooHigh o) n = High o n
-entry_after l (NotAt r) n = NoEntry r
 
 -- a token begins at this place of the text
 pub record WordAt (t : List ℕ) (k : ℕ) : Type 0 where
@@ -80,27 +59,19 @@ pub record LetterAt (t : List ℕ) (k l : ℕ) : Type 0 where
   pub known : 0 < l
   pub alone : leading_word (drop k t) ≡ 1
 
--- the first entry of the tokens ws of t, which begin at k: letter l on qubit q, and the rest from n on
-pub record OneEntry (ws : List Token) (t : List ℕ) (k l q n : ℕ) : Type 0 where
-  pub questions : token_questions ws ≡ token_questions (tokens n (drop n t))
-  pub entries : token_entries ws ≡ l ∷ q ∷ token_entries (tokens n (drop n t))
-  pub letter : l ≤ 3
-  pub place : q < 128
-  pub onward : k < n
-  pub within : n ≤ length t
+-- the first entry of the tokens ws of t, which begin at k: its letter on its qubit, and the rest from `next` on
+pub record OneEntry (ws : List Token) (t : List ℕ) (k : ℕ) (e : Entry) : Type 0 where
+  pub questions : token_questions ws ≡ token_questions (tokens e.next (drop e.next t))
+  pub entries : token_entries ws ≡ e.letter ∷ e.qubit ∷ token_entries (tokens e.next (drop e.next t))
+  pub letter : e.letter ≤ 3
+  pub place : e.qubit < 128
+  pub onward : k < e.next
+  pub within : e.next ≤ length t
 
--- the first entry of the tokens ws of t, which begin at k, has an index too high at o, and the rest is from n on
-pub record HighEntry (ws : List Token) (t : List ℕ) (k o n : ℕ) : Type 0 where
-  pub questions : token_questions ws ≡ Err (TextQubit o)
-  pub after : k < o
-  pub place : o < length t
-  pub onward : o ≤ n
-  pub within : n ≤ length t
-
-pub record EntryRead (ws : List Token) (t : List ℕ) (k : ℕ) (r : EntryAnswer) : Type 0 where
-  pub one : (l q n : ℕ) → r ≡ Entry l q n → OneEntry ws t k l q n
-  pub high : (o n : ℕ) → r ≡ High o n → HighEntry ws t k o n
-  pub refused : (x : Refusal) → r ≡ NoEntry x → token_questions ws ≡ Err x
+-- the answer r to that entry
+pub record EntryRead (ws : List Token) (t : List ℕ) (k : ℕ) (r : Answer Entry) : Type 0 where
+  pub one : (e : Entry) → r ≡ Ok e → OneEntry ws t k e
+  pub refused : (x : Refusal) → r ≡ Err x → token_questions ws ≡ Err x
 
 -- a place from which tokens are read, and no marks yet
 pub record BodyAt (t : List ℕ) (k : ℕ) (m : List ℕ) : Type 0 where
@@ -113,7 +84,7 @@ pub record GoodEntries (e : List ℕ) : Type 0 where
   pub letters : (j : ℕ) → j < entry_count e → entry_letter e j ≤ 3
   pub places : (j : ℕ) → j < entry_count e → entry_qubit e j < 128
 
--- the answer r to the tokens ws, and the marks m that are left where it is Done
+-- the answer r to the tokens ws, and the marks m that are left where it is Ok
 pub record TokensRead (ws : List Token) (m : List ℕ) (r : Outcome) : Type 0 where
   pub answer : r ≡ token_questions ws
   pub marks : r ≡ Ok tt → m ≡ marks_to (token_entries ws) (entry_count (token_entries ws))
@@ -125,7 +96,7 @@ pub record SparseAt (t : List ℕ) (k : ℕ) (m : List ℕ) : Type 0 where
   pub within : k ≤ length t
   pub blank : Blank m
 
--- the answer r to a sparse text, and the marks m that are left where it is Done
+-- the answer r to a sparse text, and the marks m that are left where it is Ok
 pub record SparseRead (t : List ℕ) (room : ℕ) (m : List ℕ) (r : Outcome) : Type 0 where
   pub answer : r ≡ from_sparse_questions t room
   pub marks : r ≡ Ok tt → m ≡ marks_to (sparse_entries t) (entry_count (sparse_entries t))
@@ -147,7 +118,3 @@ pub record DenseAt (t b : List ℕ) (k : ℕ) : Type 0 where
   pub place : k ≡ body_start t
   pub body : b ≡ dense_body t
   pub fits : k + length b < 18446744073709551616
-
--- room for a string record
-pub record DenseFit (d : List ℕ) : Type 0 where
-  pub room : 129 ≤ length d

@@ -1,10 +1,6 @@
 -- `dense_reader::check_letters` meets its contract, by the laws of `Lettered`.
-use Rattle.std.proofs.Common.{◌-◌, length}
 use Rattle.pauli.proofs.DenseReading.{Lettered}
 use Rattle.pauli.proofs.dense_reader.check_letters.Given as goal
 
 abbrev pub invariant-loop-i : goal.invariant-loop-i
 invariant-loop-i l = Lettered l.body l.offset l.i
-
-abbrev pub decreases-loop-i : goal.decreases-loop-i
-decreases-loop-i l = length l.body - l.i

@@ -1,12 +1,12 @@
--- `sparse_reader::sparse_string` meets its contract: the questions, and the record where they let it by.
+-- `sparse_reader::sparse_string` meets its contract.
 use Rattle.pauli.proofs.SparseStrings.{sparse-strings}
 use Rattle.pauli.proofs.sparse_reader.sparse_string.Goals as goal
 
 pub returns-in_err-sparse_answer : goal.returns-in_err-sparse_answer
 returns-in_err-sparse_answer c = search (sparse-strings, c.in_err-sparse_answer.ensures)
 
-pub write_marked-requires : goal.write_marked-requires
-write_marked-requires c = search (sparse-strings, c.in_ok-sparse_answer.ensures)
+pub write-requires : goal.write-requires
+write-requires c = search (sparse-strings, c.in_ok-sparse_answer.ensures)
 
 pub returns : goal.returns
 returns c = search (sparse-strings, c.in_ok-sparse_answer.ensures)

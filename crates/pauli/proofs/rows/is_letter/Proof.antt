@@ -1,7 +1,0 @@
--- `rows::is_letter` meets its contract.
-use Rattle.pauli.proofs.Turns.{places}
-use Rattle.pauli.proofs.rows.is_letter.Statement.{statement}
-use Rattle.pauli.proofs.rows.is_letter.Tie as tie
-
-pub is_letter_spec : {M : Type 1} → statement M
-is_letter_spec = tie.close (tie.spec (λ c. search places) (λ c. search places))
