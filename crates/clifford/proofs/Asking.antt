@@ -1,5 +1,6 @@
 -- The questions put to tableaux: what is let by, and what an answer says of the bytes.
-use Rattle.std.proofs.Common.{◌≡◌, ℕ, zero, suc, ◌+◌, ◌-◌, ◌*◌, ◌<◌, ◌≤◌, min, Bool, true, false, cond, not, ltb, leb, List, [], ◌∷◌, length, get_or, sym, refl, ap, ◌∙◌, ap₂, not-suc-le-zero, add-one, arith, rules, ltb-false, ltb-true, le-ltb, lt-ltb, eq-eqb, ne_eqb, eqb-true, le-leb, leb-true, Ok, Err}
+use mathlib.Core.Logic.{◌⊎◌}
+use Rattle.std.proofs.Common.{inl, inr, ◌≡◌, ℕ, zero, suc, ◌+◌, ◌-◌, ◌*◌, ◌<◌, ◌≤◌, min, Bool, true, false, cond, not, ltb, leb, List, [], ◌∷◌, length, get_or, sym, refl, ap, ◌∙◌, ap₂, not-suc-le-zero, add-one, arith, rules, ltb-false, ltb-true, le-ltb, lt-ltb, eq-eqb, ne_eqb, eqb-true, le-leb, leb-true, Ok, Err}
 use native.Mathlib.Decide.{ℕ_discrete, dec_lt}
 use borrow.Author.Tests.{lt-leb, not-false}
 use Rattle.pauli_group.specs.PauliString.{qubits, weight_to}
@@ -8,14 +9,14 @@ use Rattle.pauli.specs.declared.refusal.Refusal.{Refusal}
 use Rattle.pauli.specs.declared.refusal.Refusal.TheVariants.{Width, Length, BadByte, Slot, FalseWeight}
 use Rattle.pauli.specs.Places.{first_place}
 use Rattle.pauli.specs.Questions.{ask, ◌and_then◌, first_bad, bytes_question}
-use Rattle.pauli.proofs.Asking.{asked_yes, asked_no, ask_done, refused, passed, done_first, done_second, questions}
+use Rattle.pauli.proofs.Asking.{asked_yes, asked_no, ask_done, refused, passed, exit_not, first_not, first_done, done_first, done_second, questions}
 use Rattle.pauli.proofs.Places.{first-is, first-before, FirstSeen, first_start, first_found, first_held, first_past, first_end}
-use Rattle.clifford.specs.Layout.{weight_place, letter_place, letters_of, decode_row, record_length, longest_record, row_length, row_offset, row_part, tableau_record, width_of, tableau_of, FormedRow, FormedTableau}
+use Rattle.clifford.specs.Layout.{weight_place, letter_place, letters_of, decode_row, record_length, row_length, row_offset, row_part, tableau_record, width_of, tableau_of, FormedRow, FormedTableau}
 use Rattle.clifford.specs.Inside.Rows.{Sized, RowIndex, Laid, RowInside, RowChecked, kept_first, FirstFalse}
 use Rattle.clifford.specs.declared.layout.RowCheck.{RowCheck}
 use Rattle.clifford.specs.Questions.{width_question, length_question, row_question, rows_question, true_weight, first_false, weights_question, tableau_questions, slot_question}
 use Rattle.clifford.proofs.Rows.{letters-at, letters-long, length_part, row_part_lem}
-use Rattle.clifford.proofs.Records.{record-small, longest-is, record_there, record-formed, proper_of}
+use Rattle.clifford.proofs.Records.{record-small, record_there, record-formed, proper_of}
 use Rattle.pauli.specs.Answers.{Outcome}
 
 -- ---- width, length, slot
@@ -31,8 +32,8 @@ pub width_is : (n : ℕ) → width_question n ≡ Ok tt → n ≤ 128
 unfolding width_question qubits
 width_is n e = leb-true n 128 (ask_done _ _ e)
 
-pub width_done : {n : ℕ} {r : Outcome} → r ≡ width_question n → r ≡ Ok tt → n ≤ 128
-width_done {n} p h = width_is n (sym p ∙ h)
+pub width_done : {n : ℕ} → Ok tt ≡ width_question n → n ≤ 128
+width_done {n} h = width_is n (sym h)
 
 pub slot_in : {slot w : ℕ} → slot < w → Ok tt ≡ slot_question slot w
 unfolding slot_question
@@ -161,16 +162,16 @@ module _ {b : List ℕ} {n p r : ℕ} (m : RowsGood b n p r) where
         weighed = first_kept (true_weight b) m.weighed h (k ∙ ap (kept_first p n r) e.weighed);
       }
 
-      pub rows-refused : {x : Refusal} → c.codes ≡ Err x → c.codes ≡ rows_question (2 * width_of b) b and_then weights_question b
+      pub rows-refused : {x : Refusal} → c.codes ≡ Err x → Err x ≡ rows_question (2 * width_of b) b and_then weights_question b
       rows-refused {x} d =
           let z : suc r + (n - suc r) ≡ 2 * width_of b = omega (arith, m.wide) in
-          refused _ (d ∙ sym (rows_stay (suc r) (n - suc r) b (sym next ∙ d)) ∙ ap (λ (j : ℕ). rows_question j b) z) d
+          first_not _ (sym (rows_stay (suc r) (n - suc r) b (sym next ∙ d)) ∙ ap (λ (j : ℕ). rows_question j b) z)
 
-pub kept_true : (p n r : ℕ) {w : Bool} → w ≡ true → p ≡ kept_first p n r w
+kept_true : (p n r : ℕ) {w : Bool} → w ≡ true → p ≡ kept_first p n r w
 unfolding kept_first
 kept_true p n r e = sym (ap (λ (c : Bool). cond c p (cond (ltb p n) p r)) e)
 
-pub kept_held : {p n : ℕ} (r : ℕ) {w : Bool} → w ≡ false → p < n → p ≡ kept_first p n r w
+kept_held : {p n : ℕ} (r : ℕ) {w : Bool} → w ≡ false → p < n → p ≡ kept_first p n r w
 unfolding kept_first
 kept_held {p} {n} r e h = sym (ap (λ (c : Bool). cond c p (cond (ltb p n) p r)) e ∙ ap (λ (c : Bool). cond c p r) (lt-ltb p n h))
 
@@ -178,7 +179,8 @@ pub kept_found : {p n : ℕ} (r : ℕ) {w : Bool} → w ≡ false → n ≤ p �
 unfolding kept_first
 kept_found {p} {n} r e h = sym (ap (λ (c : Bool). cond c p (cond (ltb p n) p r)) e ∙ ap (λ (c : Bool). cond c p r) (le-ltb p n h))
 
-pub ruleset keeping_first = (kept_true, kept_held, kept_found, rules)
+pub kept-first : {p n : ℕ} (r : ℕ) {w : Bool} → (w ≡ true) ⊎ (w ≡ false) × (p < n) → p ≡ kept_first p n r w
+kept-first {p} {n} r h = elim h [ inl e ↦ kept_true p n r e | inr e ↦ kept_held r e.0 e.1 ]
 
 pub laid-narrow : {b : List ℕ} {n : ℕ} → Laid b → n ≡ width_of b → n ≤ 128
 laid-narrow l e = omega (arith, l.narrow)
@@ -234,33 +236,34 @@ width-none [] e = refl
 width-none (x ∷ b) e = absurd (omega arith)
 
 module _ (b : List ℕ) (some : length b ≡ 0 → ⊥) where
-  first_done : Ok tt ≡ ask (ltb 0 (length b)) Length
-  first_done = asked_yes Length (lt-ltb 0 (length b) (omega arith))
+  some_done : Ok tt ≡ ask (ltb 0 (length b)) Length
+  some_done = asked_yes Length (lt-ltb 0 (length b) (omega arith))
 
-  pub tableau-wide : {r : Outcome} {n : ℕ} {x : Refusal} → n ≡ width_of b → r ≡ width_question n → r ≡ Err x → r ≡ tableau_questions b
-  unfolding tableau_questions
-  tableau-wide w e h = passed first_done refl (refused _ (e ∙ ap width_question w) h)
+  module _ {m : ℕ} (w : m ≡ width_of b) where
+    pub tableau-wide : {x : Refusal} → Err x ≡ width_question m → Err x ≡ tableau_questions b
+    unfolding tableau_questions
+    tableau-wide h = first_done some_done (first_not _ (h ∙ ap width_question w))
 
-  pub tableau-short : {r : Outcome} {m n : ℕ} → m ≡ width_of b → r ≡ width_question m → r ≡ Ok tt → Sized (record_length m) n → (length b ≡ n → ⊥)
-      → Err Length ≡ tableau_questions b
-  unfolding tableau_questions length_question
-  tableau-short {r} {m} {n} w e h s k =
-      passed first_done refl (passed (e ∙ ap width_question w) h (refused _ (asked_no Length (ne_eqb _ _ (λ z. k (z ∙ sym (s.is ∙ ap record_length w))))) refl))
+    module _ (h : Ok tt ≡ width_question m) {n : ℕ} (s : Sized (record_length m) n) where
+      pub tableau-short : (length b ≡ n → ⊥) → Err Length ≡ tableau_questions b
+      unfolding tableau_questions length_question
+      tableau-short k =
+          first_done some_done
+          (first_done (h ∙ ap width_question w) (first_not _ (asked_no Length (ne_eqb _ _ (λ z. k (z ∙ sym (s.is ∙ ap record_length w)))))))
 
-  pub tableau-rows : {r q : Outcome} {m n : ℕ} → m ≡ width_of b → r ≡ width_question m → r ≡ Ok tt → Sized (record_length m) n → length b ≡ n
-      → q ≡ rows_question (2 * width_of b) b and_then weights_question b → q ≡ tableau_questions b
-  unfolding tableau_questions length_question
-  tableau-rows {r} {q} {m} {n} w e h s k z =
-      passed first_done refl (passed (e ∙ ap width_question w) h (passed (asked_yes Length (eq-eqb _ _ (k ∙ s.is ∙ ap record_length w))) refl z))
+      pub tableau-rows : {q : Outcome} → length b ≡ n → q ≡ rows_question (2 * width_of b) b and_then weights_question b → q ≡ tableau_questions b
+      unfolding tableau_questions length_question
+      tableau-rows k z =
+          first_done some_done
+          (first_done (h ∙ ap width_question w) (first_done (asked_yes Length (eq-eqb _ _ (k ∙ s.is ∙ ap record_length w))) z))
 
-pub tableau-laid : (b : List ℕ) {r : Outcome} {m n : ℕ} → m ≡ width_of b → r ≡ width_question m → r ≡ Ok tt → Sized (record_length m) n → length b ≡ n → Laid b
-tableau-laid b {m = m} w e h s k = record { narrow = omega (arith, width_done e h); long = k ∙ s.is ∙ ap record_length w }
+      pub tableau-laid : length b ≡ n → Laid b
+      tableau-laid k = record { narrow = omega (arith, width_done h); long = k ∙ s.is ∙ ap record_length w }
 
 pub ruleset tableau-questions = (
   questions,
   width-wide,
   width_narrow,
-  width_done,
   slot_in,
   slot-out,
   tableau-none,
@@ -271,7 +274,7 @@ pub ruleset tableau-questions = (
   tableau-laid,
 )
 
-pub ruleset rows-questions = (rows_start, rows_inside, rows_more, rows-refused, rows-weighed, rows-asked, laid-narrow, rules)
+pub ruleset rows-questions = (rows_start, rows_inside, rows_more, rows-weighed, rows-asked, laid-narrow, rules)
 
 -- ---- what is admitted: a tableau's questions let by exactly the records of tableaux of width at most 128
 module _ (b : List ℕ) (e : tableau_questions b ≡ Ok tt) where
@@ -303,13 +306,13 @@ module _ (b : List ℕ) (e : tableau_questions b ≡ Ok tt) where
   }
 
 -- from a check's answer
-pub checked : {b : List ℕ} {r : Outcome} → r ≡ tableau_questions b → r ≡ Ok tt → FormedTableau b
-checked {b} p h = tableau-formed b (sym p ∙ h)
+pub checked : {b : List ℕ} → Ok tt ≡ tableau_questions b → FormedTableau b
+checked {b} h = tableau-formed b (sym h)
 
 pub formed-good : (b : List ℕ) → FormedTableau b → tableau_questions b ≡ Ok tt
 formed-good b f = sym (
-    tableau-rows b (λ z. absurd (no z f.some)) refl (width_narrow f.narrow) refl (record { is = refl; small = record-small (width_of b) f.narrow }) f.long
-    (passed (sym (each_rows (2 * width_of b) b (λ r h. formed-row_question _ (f.rows r h)))) refl (sym (formed_weights b f))))
+    tableau-rows b (λ z. absurd (no z f.some)) refl (width_narrow f.narrow) (record { is = refl; small = record-small (width_of b) f.narrow }) f.long
+    (first_done (sym (each_rows (2 * width_of b) b (λ r h. formed-row_question _ (f.rows r h)))) (sym (formed_weights b f))))
   where
     no : length b ≡ 0 → 0 < length b → ⊥
     no z p = omega arith
@@ -324,10 +327,7 @@ pub admitted_proper : (b : List ℕ) → tableau_questions b ≡ Ok tt → Prope
 admitted_proper b e = proper_of (tableau-formed b e)
 
 -- ---- the size of a record
-pub size_longest : (w : ℕ) → 128 ≤ w → longest_record ≡ record_length (min w 128)
-size_longest w h = let e : 128 ≡ min w 128 = omega arith in sym longest-is ∙ ap record_length e
+pub size_is : (w : ℕ) {n m : ℕ} → m ≡ min w 128 → Sized (record_length m) n → n ≡ record_length (min w 128)
+size_is w e s = s.is ∙ ap record_length e
 
-pub size_own : (w : ℕ) {n : ℕ} → w < 128 → Sized (record_length w) n → n ≡ record_length (min w 128)
-size_own w h s = let e : w ≡ min w 128 = omega arith in s.is ∙ ap record_length e
-
-pub ruleset record_sizes = (size_longest, size_own, rules)
+pub ruleset record_sizes = (size_is, rules)
