@@ -9,10 +9,10 @@ use Rattle.pauli.specs.declared.refusal.Refusal.{Refusal}
 use Rattle.pauli.specs.declared.refusal.Refusal.TheVariants.{Width, Length, BadByte, Slot, FalseWeight}
 use Rattle.pauli.specs.Places.{first_place}
 use Rattle.pauli.specs.Questions.{ask, ◌and_then◌, first_bad, bytes_question}
-use Rattle.pauli.proofs.Asking.{asked_yes, asked_no, ask_done, refused, passed, exit_not, first_not, first_done, done_first, done_second, questions}
+use Rattle.pauli.proofs.Asking.{asked_yes, asked_no, ask_done, exit_not, first_not, first_done, done_first, done_second, questions}
 use Rattle.pauli.proofs.Places.{first-is, first-before, FirstSeen, first_start, first_found, first_held, first_past, first_end}
 use Rattle.clifford.specs.Layout.{weight_place, letter_place, letters_of, decode_row, record_length, row_length, row_offset, row_part, tableau_record, width_of, tableau_of, FormedRow, FormedTableau}
-use Rattle.clifford.specs.Inside.Rows.{Sized, RowIndex, Laid, RowInside, RowChecked, kept_first, FirstFalse}
+use Rattle.clifford.specs.Inside.Rows.{Sized, RowIndex, Laid, RowInside, RowChecked, FirstFalse}
 use Rattle.clifford.specs.declared.layout.RowCheck.{RowCheck}
 use Rattle.clifford.specs.Questions.{width_question, length_question, row_question, rows_question, true_weight, first_false, weights_question, tableau_questions, slot_question}
 use Rattle.clifford.proofs.Rows.{letters-at, letters-long, length_part, row_part_lem}
@@ -86,7 +86,7 @@ row_question-formed w start b long e v = record {
 formed-row_question : {w : ℕ} (start : ℕ) {b : List ℕ} → FormedRow w b → row_question start b ≡ Ok tt
 unfolding row_question
 formed-row_question {w} start {b} f = sym (
-    passed (asked_yes (BadByte start) (le-leb (get_or b 0 0) 3 f.phase)) refl
+    first_done (asked_yes (BadByte start) (le-leb (get_or b 0 0) 3 f.phase))
     (sym (small_bytes (start + letter_place 0) (letters_of b) (λ q h. omega (arith, letters-at b q, f.letters q (omega (arith, letters-long w b f.long)))))))
 
 -- ---- all rows, in their order
@@ -103,26 +103,21 @@ rows_each (suc k) b e r h = elim (ℕ_discrete r k) [
 
 each_rows : (k : ℕ) (b : List ℕ) → ((r : ℕ) → r < k → row_question (row_offset (width_of b) r) (row_part b r) ≡ Ok tt) → rows_question k b ≡ Ok tt
 each_rows zero b h = unfold rows_question in refl
-each_rows (suc k) b h = asked-rows k b ∙ sym (passed (sym (each_rows k b (λ r l. h r (omega arith)))) refl (sym (h k (omega arith))))
+each_rows (suc k) b h = asked-rows k b ∙ sym (first_done (sym (each_rows k b (λ r l. h r (omega arith)))) (sym (h k (omega arith))))
 
 -- a refusal stays
 rows_stay : (k m : ℕ) (b : List ℕ) {x : Refusal} → rows_question k b ≡ Err x → rows_question (k + m) b ≡ Err x
 rows_stay k zero b e = (let z : k + 0 ≡ k = omega arith in ap (λ (j : ℕ). rows_question j b) z) ∙ e
 rows_stay k (suc m) b {x} e =
     let z : k + suc m ≡ suc (k + m) = omega arith in
-    ap (λ (j : ℕ). rows_question j b) z ∙ asked-rows (k + m) b ∙ sym (refused _ (sym (rows_stay k m b e)) refl)
+    ap (λ (j : ℕ). rows_question j b) z ∙ asked-rows (k + m) b ∙ sym (first_not _ (sym (rows_stay k m b e)))
 
 -- the first row whose weight is false, kept
-first_kept : (f : ℕ → Bool) {n i p q : ℕ} → FirstSeen n (λ k. not (f k)) i p → i < n → q ≡ kept_first p n i (f i) → FirstSeen n (λ k. not (f k)) (i + 1) q
-unfolding kept_first
-first_kept f {n} {i} {p} {q} m h e = by (f i) refl e
-  where
-    by : (c : Bool) → f i ≡ c → q ≡ cond c p (cond (ltb p n) p i) → FirstSeen n (λ k. not (f k)) (i + 1) q
-    by true w e = first_past m h (ap not w) e
-    by false w e = elim (dec_lt p n) [
-      | yes l ↦ first_held m h l (e ∙ ap (λ (c : Bool). cond c p i) (lt-ltb p n l))
-      | no l ↦ let z : n ≤ p = omega arith in first_found m h (ap not w) z (e ∙ ap (λ (c : Bool). cond c p i) (le-ltb p n z))
-    ]
+first_kept : {f : ℕ → Bool} {n i p q : ℕ} → FirstSeen n f i p → i < n → f i ≡ true → q ≡ min p i → FirstSeen n f (i + 1) q
+first_kept {f} {n} {i} {p} {q} m h w e = elim (dec_lt p n) [
+  | yes l ↦ first_held m h l (omega (arith, m.before l))
+  | no l ↦ let z : n ≤ p = omega arith in first_found m h w z (omega arith)
+]
 
 -- the rows before r are let by, and p is the first of them whose weight is false, or n
 pub record RowsGood (b : List ℕ) (n p r : ℕ) : Type 0 where
@@ -144,7 +139,7 @@ module _ {b : List ℕ} {n p r : ℕ} (m : RowsGood b n p r) where
   rows-weighed l h = record { narrow = l.narrow; is = first_end m.weighed h ∙ ap (λ (j : ℕ). first_place j (λ k. not (true_weight b k))) m.wide }
 
   pub rows-asked : {v : Outcome} → n ≤ r → v ≡ weights_question b → v ≡ rows_question (2 * width_of b) b and_then weights_question b
-  rows-asked h e = passed (rows_done h) refl e
+  rows-asked h e = first_done (rows_done h) e
 
   module _ (h : r < n) where
     pub rows_inside : Laid b → RowInside b r
@@ -152,35 +147,27 @@ module _ {b : List ℕ} {n p r : ℕ} (m : RowsGood b n p r) where
 
     module _ {c : RowCheck} (e : RowChecked b r c) where
       next : c.codes ≡ rows_question (suc r) b
-      next = passed (sym m.asked) refl e.codes ∙ sym (asked-rows r b)
+      next = first_done (sym m.asked) e.codes ∙ sym (asked-rows r b)
 
-      pub rows_more : c.codes ≡ Ok tt → {q : ℕ} → q ≡ kept_first p n r c.weighed → RowsGood b n q (r + 1)
-      rows_more d {q} k = record {
-        wide = m.wide;
-        within = omega arith;
-        asked = ap (λ (j : ℕ). rows_question j b) (add-one r) ∙ sym next ∙ d;
-        weighed = first_kept (true_weight b) m.weighed h (k ∙ ap (kept_first p n r) e.weighed);
-      }
+      module _ (d : c.codes ≡ Ok tt) {q : ℕ} where
+        more : FirstSeen n (λ k. not (true_weight b k)) (r + 1) q → RowsGood b n q (r + 1)
+        more w = record {
+          wide = m.wide;
+          within = omega arith;
+          asked = ap (λ (j : ℕ). rows_question j b) (add-one r) ∙ sym next ∙ d;
+          weighed = w;
+        }
+
+        pub rows_more : not c.weighed ≡ false → q ≡ p → RowsGood b n q (r + 1)
+        rows_more w k = more (first_past m.weighed h (ap not (sym e.weighed) ∙ w) k)
+
+        pub rows_false : not c.weighed ≡ true → q ≡ min p r → RowsGood b n q (r + 1)
+        rows_false w k = more (first_kept m.weighed h (ap not (sym e.weighed) ∙ w) k)
 
       pub rows-refused : {x : Refusal} → c.codes ≡ Err x → Err x ≡ rows_question (2 * width_of b) b and_then weights_question b
       rows-refused {x} d =
           let z : suc r + (n - suc r) ≡ 2 * width_of b = omega (arith, m.wide) in
           first_not _ (sym (rows_stay (suc r) (n - suc r) b (sym next ∙ d)) ∙ ap (λ (j : ℕ). rows_question j b) z)
-
-kept_true : (p n r : ℕ) {w : Bool} → w ≡ true → p ≡ kept_first p n r w
-unfolding kept_first
-kept_true p n r e = sym (ap (λ (c : Bool). cond c p (cond (ltb p n) p r)) e)
-
-kept_held : {p n : ℕ} (r : ℕ) {w : Bool} → w ≡ false → p < n → p ≡ kept_first p n r w
-unfolding kept_first
-kept_held {p} {n} r e h = sym (ap (λ (c : Bool). cond c p (cond (ltb p n) p r)) e ∙ ap (λ (c : Bool). cond c p r) (lt-ltb p n h))
-
-pub kept_found : {p n : ℕ} (r : ℕ) {w : Bool} → w ≡ false → n ≤ p → r ≡ kept_first p n r w
-unfolding kept_first
-kept_found {p} {n} r e h = sym (ap (λ (c : Bool). cond c p (cond (ltb p n) p r)) e ∙ ap (λ (c : Bool). cond c p r) (le-ltb p n h))
-
-pub kept-first : {p n : ℕ} (r : ℕ) {w : Bool} → (w ≡ true) ⊎ (w ≡ false) × (p < n) → p ≡ kept_first p n r w
-kept-first {p} {n} r h = elim h [ inl e ↦ kept_true p n r e | inr e ↦ kept_held r e.0 e.1 ]
 
 pub laid-narrow : {b : List ℕ} {n : ℕ} → Laid b → n ≡ width_of b → n ≤ 128
 laid-narrow l e = omega (arith, l.narrow)
@@ -229,7 +216,7 @@ pub ruleset false-rows = (false-narrow, false_index, false-row, false-none, rule
 -- ---- all of them
 pub tableau-none : (b : List ℕ) → length b ≡ 0 → Err Length ≡ tableau_questions b
 unfolding tableau_questions
-tableau-none b e = refused _ (asked_no Length (le-ltb 0 (length b) (omega arith))) refl
+tableau-none b e = first_not _ (asked_no Length (le-ltb 0 (length b) (omega arith)))
 
 pub width-none : (b : List ℕ) → length b ≡ 0 → 0 ≡ width_of b
 width-none [] e = refl
@@ -274,7 +261,7 @@ pub ruleset tableau-questions = (
   tableau-laid,
 )
 
-pub ruleset rows-questions = (rows_start, rows_inside, rows_more, rows-weighed, rows-asked, laid-narrow, rules)
+pub ruleset rows-questions = (rows_start, rows_inside, rows-weighed, rows-asked, laid-narrow, rules)
 
 -- ---- what is admitted: a tableau's questions let by exactly the records of tableaux of width at most 128
 module _ (b : List ℕ) (e : tableau_questions b ≡ Ok tt) where
@@ -325,9 +312,3 @@ admitted_tableaux b e = sym (record_there (tableau-formed b e))
 
 pub admitted_proper : (b : List ℕ) → tableau_questions b ≡ Ok tt → Proper (tableau_of b)
 admitted_proper b e = proper_of (tableau-formed b e)
-
--- ---- the size of a record
-pub size_is : (w : ℕ) {n m : ℕ} → m ≡ min w 128 → Sized (record_length m) n → n ≡ record_length (min w 128)
-size_is w e s = s.is ∙ ap record_length e
-
-pub ruleset record_sizes = (size_is, rules)

@@ -136,10 +136,7 @@ module _ {g q r : ℕ} (o : GateOn g q r) where
   pub span_two : 24 ≤ g → {m : ℕ} → m ≡ max q r → GateSpan g q r (m + 1)
   span_two h e = span (omega (arith, e, width_two g q r h))
 
-  pub larger_fits : 24 ≤ g → {m : ℕ} → m ≡ max q r → Fits w64 (m + 1)
-  larger_fits h e = record { fits = omega (arith, e, o.first, o.second h) }
-
-pub ruleset gate_spans = (span_one, span_two, larger_fits, rules)
+pub ruleset gate_spans = (span_one, span_two, rules)
 
 -- ---- a gate at its own width
 module _ (g q r : ℕ) where

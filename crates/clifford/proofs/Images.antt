@@ -29,13 +29,10 @@ pub generator_index : (g : Generator) {w q r : ℕ} → SlotIndex w q → r ≡ 
 generator_index g {w} {q} o e = record { narrow = o.narrow; own = omega (arith, e, generator-row g o.own) }
 
 -- ---- where the questions let by
-pub image_asked : (t : List ℕ) (slot : ℕ) → (tableau_questions t and_then slot_question slot (width_of t)) ≡ image_questions t slot
-unfolding image_questions
-image_asked t slot = refl
-
 module _ (t : List ℕ) (slot : ℕ) (h : Ok tt ≡ image_questions t slot) where
   both : tableau_questions t and_then slot_question slot (width_of t) ≡ Ok tt
-  both = image_asked t slot ∙ sym h
+  unfolding image_questions
+  both = sym h
 
   below : slot < width_of t
   below = slot_is slot (width_of t) (done_second (tableau_questions t) _ both)
@@ -79,6 +76,6 @@ module _ (g : Generator) (t : List ℕ) (slot : ℕ) {x : Refusal} (h : Err x �
   image-refused f (Ok y) e = absurd e
   image-refused f (Err y) e = ap {B = Result (List ℕ) Refusal} Err e ∙ ap (λ q. answer_to q (row_part t (generator_row g (width_of t) slot))) h
 
-pub ruleset images = (in_order, image-slot, image-inside, image-handed, image-refused, rules)
+pub ruleset images = (image-slot, image-inside, image-handed, image-refused, rules)
 
 pub ruleset image_offsets = (generator_index, image-slot, image-offset, answered-exit, rules)

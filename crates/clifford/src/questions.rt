@@ -2,7 +2,7 @@
 ghost use Rattle.std.specs.Prelude.{◌≡◌, ◌*◌, min};
 ghost use Rattle.pauli.specs.Questions.{◌and_then◌};
 ghost use Rattle.clifford.specs.Layout.{record_length, width_of};
-ghost use Rattle.clifford.specs.Inside.Rows.{Laid, kept_first};
+ghost use Rattle.clifford.specs.Inside.Rows.{Laid};
 ghost use Rattle.clifford.specs.Questions.{width_question, slot_question, rows_question, weights_question, tableau_questions, compose_questions};
 ghost use Rattle.clifford.specs.GateQuestions.{gate_question, different_question};
 
@@ -36,13 +36,6 @@ pub fn check_slot(slot: usize, width: usize) -> Result<(), Refusal>
     Err(Refusal::Slot { slot, width })
 }
 
-// The first of n rows that has a false weight, kept: so far there is first, which is n where there is none.
-fn keep_first(first: usize, n: usize, r: usize, weighed: bool) -> usize
-    ensures { result ≡ kept_first first n r weighed }
-{
-    if weighed || first < n { first } else { r }
-}
-
 // Questions 3 and 24, in one pass over the rows: every 3 comes before a 24.
 fn check_rows(t: &[u8]) -> Result<(), Refusal>
     requires { Laid t.now }
@@ -53,7 +46,9 @@ fn check_rows(t: &[u8]) -> Result<(), Refusal>
     for r in 0..rows {
         let row = check_row(t, r);
         row.codes?;
-        first = keep_first(first, rows, r, row.weighed);
+        if !row.weighed {
+            first = first.min(r);
+        }
     }
     check_weights(t, first)
 }

@@ -88,10 +88,6 @@ pub record RowAt (at : ℕ) (p : List ℕ) (m : ℕ) : Type 0 where
   pub short : length p ≤ 130
   pub largest : m ≡ largest_to (length (letters_of p)) (letters_of p)
 
--- the first of n rows that has a false weight, kept: p so far, n where there is none, and then row r
-unfoldable pub kept_first : ℕ → ℕ → ℕ → Bool → ℕ
-kept_first p n r true-weight = cond true-weight p (cond (nat_lt p n) p r)
-
 -- p is its first row with a false weight, or the number of its rows
 pub record FirstFalse (b : List ℕ) (p : ℕ) : Type 0 where
   pub narrow : width_of b ≤ 128

@@ -9,7 +9,7 @@ pub returns-in_err-check_qubit : goal.returns-in_err-check_qubit
 returns-in_err-check_qubit c = search (one_qubit_answers, c.in_err-check_qubit.ensures, c.in_ok-check_gate.ensures)
 
 pub product_number-requires : goal.product_number-requires
-product_number-requires c = search (one_qubit_answers, c.in_ok-check_gate.ensures, c.in_ok-check_qubit.ensures)
+product_number-requires c = search (one_qubit_answers, c.in_ok-check_gate.ensures)
 
 pub overflow_add-qubit : goal.overflow_add-qubit
 overflow_add-qubit c = search (one_qubit_answers, c.in_ok-check_gate.ensures, c.in_ok-check_qubit.ensures)

@@ -9,7 +9,7 @@ pub invariant_of-write_made : goal.invariant_of-write_made
 invariant_of-write_made c = search (compositions, c.in_ok-check_tableaux.ensures)
 
 pub write_made-requires : goal.write_made-requires
-write_made-requires c = search (compositions, c.in_ok-check_tableaux.ensures)
+write_made-requires c = search compositions
 
 pub returns : goal.returns
 returns c = search (compositions, c.in_ok-check_tableaux.ensures)

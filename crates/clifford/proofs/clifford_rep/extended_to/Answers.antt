@@ -12,7 +12,7 @@ pub invariant_of-write_made : goal.invariant_of-write_made
 invariant_of-write_made c = search (extensions, c.in_ok-check_tableau.ensures, c.in_ok-check_width.ensures)
 
 pub write_made-requires : goal.write_made-requires
-write_made-requires c = search (extensions, c.in_ok-check_tableau.ensures, c.in_ok-check_width.ensures)
+write_made-requires c = search extensions
 
 pub returns : goal.returns
 returns c = search (extensions, c.in_ok-check_tableau.ensures, c.in_ok-check_width.ensures)

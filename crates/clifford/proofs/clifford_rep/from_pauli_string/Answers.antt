@@ -12,7 +12,7 @@ pub invariant_of-write_made : goal.invariant_of-write_made
 invariant_of-write_made c = search (pauli-tableaux, c.in_ok-check_string.ensures)
 
 pub write_made-requires : goal.write_made-requires
-write_made-requires c = search (pauli-tableaux, c.in_ok-check_string.ensures)
+write_made-requires c = search pauli-tableaux
 
 pub returns : goal.returns
 returns c = search (pauli-tableaux, c.in_ok-check_string.ensures)
