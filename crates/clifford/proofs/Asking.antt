@@ -1,5 +1,6 @@
 -- The questions put to tableaux: what is let by, and what an answer says of the bytes.
-use Rattle.std.proofs.Common.{◌≡◌, ℕ, zero, suc, ◌+◌, ◌-◌, ◌*◌, ◌<◌, ◌≤◌, min, Bool, true, false, cond, not, ltb, leb, List, [], ◌∷◌, length, get_or, sym, refl, ap, ◌∙◌, ap₂, not-suc-le-zero, add-one, arith, rules, ltb-false, ltb-true, le-ltb, lt-ltb, eq-eqb, ne_eqb, eqb-true, le-leb, leb-true, Ok, Err}
+use mathlib.Core.Logic.{◌⊎◌}
+use Rattle.std.proofs.Common.{inl, inr, ◌≡◌, ℕ, zero, suc, ◌+◌, ◌-◌, ◌*◌, ◌<◌, ◌≤◌, min, Bool, true, false, cond, not, ltb, leb, List, [], ◌∷◌, length, get_or, sym, refl, ap, ◌∙◌, ap₂, not-suc-le-zero, add-one, arith, rules, ltb-false, ltb-true, le-ltb, lt-ltb, eq-eqb, ne_eqb, eqb-true, le-leb, leb-true, Ok, Err}
 use native.Mathlib.Decide.{ℕ_discrete, dec_lt}
 use borrow.Author.Tests.{lt-leb, not-false}
 use Rattle.pauli_group.specs.PauliString.{qubits, weight_to}
@@ -8,14 +9,14 @@ use Rattle.pauli.specs.declared.refusal.Refusal.{Refusal}
 use Rattle.pauli.specs.declared.refusal.Refusal.TheVariants.{Width, Length, BadByte, Slot, FalseWeight}
 use Rattle.pauli.specs.Places.{first_place}
 use Rattle.pauli.specs.Questions.{ask, ◌and_then◌, first_bad, bytes_question}
-use Rattle.pauli.proofs.Asking.{asked_yes, asked_no, ask_done, refused, passed, done_first, done_second, questions}
+use Rattle.pauli.proofs.Asking.{asked_yes, asked_no, ask_done, exit_not, first_not, first_done, done_first, done_second, questions}
 use Rattle.pauli.proofs.Places.{first-is, first-before, FirstSeen, first_start, first_found, first_held, first_past, first_end}
-use Rattle.clifford.specs.Layout.{weight_place, letter_place, letters_of, decode_row, record_length, longest_record, row_length, row_offset, row_part, tableau_record, width_of, tableau_of, FormedRow, FormedTableau}
-use Rattle.clifford.specs.Inside.Rows.{Sized, RowIndex, Laid, RowInside, RowChecked, kept_first, FirstFalse}
+use Rattle.clifford.specs.Layout.{weight_place, letter_place, letters_of, decode_row, record_length, row_length, row_offset, row_part, tableau_record, width_of, tableau_of, FormedRow, FormedTableau}
+use Rattle.clifford.specs.Inside.Rows.{Sized, RowIndex, Laid, RowInside, RowChecked, FirstFalse}
 use Rattle.clifford.specs.declared.layout.RowCheck.{RowCheck}
 use Rattle.clifford.specs.Questions.{width_question, length_question, row_question, rows_question, true_weight, first_false, weights_question, tableau_questions, slot_question}
 use Rattle.clifford.proofs.Rows.{letters-at, letters-long, length_part, row_part_lem}
-use Rattle.clifford.proofs.Records.{record-small, longest-is, record_there, record-formed, proper_of}
+use Rattle.clifford.proofs.Records.{record-small, record_there, record-formed, proper_of}
 use Rattle.pauli.specs.Answers.{Outcome}
 
 -- ---- width, length, slot
@@ -31,8 +32,8 @@ pub width_is : (n : ℕ) → width_question n ≡ Ok tt → n ≤ 128
 unfolding width_question qubits
 width_is n e = leb-true n 128 (ask_done _ _ e)
 
-pub width_done : {n : ℕ} {r : Outcome} → r ≡ width_question n → r ≡ Ok tt → n ≤ 128
-width_done {n} p h = width_is n (sym p ∙ h)
+pub width_done : {n : ℕ} → Ok tt ≡ width_question n → n ≤ 128
+width_done {n} h = width_is n (sym h)
 
 pub slot_in : {slot w : ℕ} → slot < w → Ok tt ≡ slot_question slot w
 unfolding slot_question
@@ -85,7 +86,7 @@ row_question-formed w start b long e v = record {
 formed-row_question : {w : ℕ} (start : ℕ) {b : List ℕ} → FormedRow w b → row_question start b ≡ Ok tt
 unfolding row_question
 formed-row_question {w} start {b} f = sym (
-    passed (asked_yes (BadByte start) (le-leb (get_or b 0 0) 3 f.phase)) refl
+    first_done (asked_yes (BadByte start) (le-leb (get_or b 0 0) 3 f.phase))
     (sym (small_bytes (start + letter_place 0) (letters_of b) (λ q h. omega (arith, letters-at b q, f.letters q (omega (arith, letters-long w b f.long)))))))
 
 -- ---- all rows, in their order
@@ -102,26 +103,21 @@ rows_each (suc k) b e r h = elim (ℕ_discrete r k) [
 
 each_rows : (k : ℕ) (b : List ℕ) → ((r : ℕ) → r < k → row_question (row_offset (width_of b) r) (row_part b r) ≡ Ok tt) → rows_question k b ≡ Ok tt
 each_rows zero b h = unfold rows_question in refl
-each_rows (suc k) b h = asked-rows k b ∙ sym (passed (sym (each_rows k b (λ r l. h r (omega arith)))) refl (sym (h k (omega arith))))
+each_rows (suc k) b h = asked-rows k b ∙ sym (first_done (sym (each_rows k b (λ r l. h r (omega arith)))) (sym (h k (omega arith))))
 
 -- a refusal stays
 rows_stay : (k m : ℕ) (b : List ℕ) {x : Refusal} → rows_question k b ≡ Err x → rows_question (k + m) b ≡ Err x
 rows_stay k zero b e = (let z : k + 0 ≡ k = omega arith in ap (λ (j : ℕ). rows_question j b) z) ∙ e
 rows_stay k (suc m) b {x} e =
     let z : k + suc m ≡ suc (k + m) = omega arith in
-    ap (λ (j : ℕ). rows_question j b) z ∙ asked-rows (k + m) b ∙ sym (refused _ (sym (rows_stay k m b e)) refl)
+    ap (λ (j : ℕ). rows_question j b) z ∙ asked-rows (k + m) b ∙ sym (first_not _ (sym (rows_stay k m b e)))
 
 -- the first row whose weight is false, kept
-first_kept : (f : ℕ → Bool) {n i p q : ℕ} → FirstSeen n (λ k. not (f k)) i p → i < n → q ≡ kept_first p n i (f i) → FirstSeen n (λ k. not (f k)) (i + 1) q
-unfolding kept_first
-first_kept f {n} {i} {p} {q} m h e = by (f i) refl e
-  where
-    by : (c : Bool) → f i ≡ c → q ≡ cond c p (cond (ltb p n) p i) → FirstSeen n (λ k. not (f k)) (i + 1) q
-    by true w e = first_past m h (ap not w) e
-    by false w e = elim (dec_lt p n) [
-      | yes l ↦ first_held m h l (e ∙ ap (λ (c : Bool). cond c p i) (lt-ltb p n l))
-      | no l ↦ let z : n ≤ p = omega arith in first_found m h (ap not w) z (e ∙ ap (λ (c : Bool). cond c p i) (le-ltb p n z))
-    ]
+first_kept : {f : ℕ → Bool} {n i p q : ℕ} → FirstSeen n f i p → i < n → f i ≡ true → q ≡ min p i → FirstSeen n f (i + 1) q
+first_kept {f} {n} {i} {p} {q} m h w e = elim (dec_lt p n) [
+  | yes l ↦ first_held m h l (omega (arith, m.before l))
+  | no l ↦ let z : n ≤ p = omega arith in first_found m h w z (omega arith)
+]
 
 -- the rows before r are let by, and p is the first of them whose weight is false, or n
 pub record RowsGood (b : List ℕ) (n p r : ℕ) : Type 0 where
@@ -143,7 +139,7 @@ module _ {b : List ℕ} {n p r : ℕ} (m : RowsGood b n p r) where
   rows-weighed l h = record { narrow = l.narrow; is = first_end m.weighed h ∙ ap (λ (j : ℕ). first_place j (λ k. not (true_weight b k))) m.wide }
 
   pub rows-asked : {v : Outcome} → n ≤ r → v ≡ weights_question b → v ≡ rows_question (2 * width_of b) b and_then weights_question b
-  rows-asked h e = passed (rows_done h) refl e
+  rows-asked h e = first_done (rows_done h) e
 
   module _ (h : r < n) where
     pub rows_inside : Laid b → RowInside b r
@@ -151,34 +147,27 @@ module _ {b : List ℕ} {n p r : ℕ} (m : RowsGood b n p r) where
 
     module _ {c : RowCheck} (e : RowChecked b r c) where
       next : c.codes ≡ rows_question (suc r) b
-      next = passed (sym m.asked) refl e.codes ∙ sym (asked-rows r b)
+      next = first_done (sym m.asked) e.codes ∙ sym (asked-rows r b)
 
-      pub rows_more : c.codes ≡ Ok tt → {q : ℕ} → q ≡ kept_first p n r c.weighed → RowsGood b n q (r + 1)
-      rows_more d {q} k = record {
-        wide = m.wide;
-        within = omega arith;
-        asked = ap (λ (j : ℕ). rows_question j b) (add-one r) ∙ sym next ∙ d;
-        weighed = first_kept (true_weight b) m.weighed h (k ∙ ap (kept_first p n r) e.weighed);
-      }
+      module _ (d : c.codes ≡ Ok tt) {q : ℕ} where
+        more : FirstSeen n (λ k. not (true_weight b k)) (r + 1) q → RowsGood b n q (r + 1)
+        more w = record {
+          wide = m.wide;
+          within = omega arith;
+          asked = ap (λ (j : ℕ). rows_question j b) (add-one r) ∙ sym next ∙ d;
+          weighed = w;
+        }
 
-      pub rows-refused : {x : Refusal} → c.codes ≡ Err x → c.codes ≡ rows_question (2 * width_of b) b and_then weights_question b
+        pub rows_more : not c.weighed ≡ false → q ≡ p → RowsGood b n q (r + 1)
+        rows_more w k = more (first_past m.weighed h (ap not (sym e.weighed) ∙ w) k)
+
+        pub rows_false : not c.weighed ≡ true → q ≡ min p r → RowsGood b n q (r + 1)
+        rows_false w k = more (first_kept m.weighed h (ap not (sym e.weighed) ∙ w) k)
+
+      pub rows-refused : {x : Refusal} → c.codes ≡ Err x → Err x ≡ rows_question (2 * width_of b) b and_then weights_question b
       rows-refused {x} d =
           let z : suc r + (n - suc r) ≡ 2 * width_of b = omega (arith, m.wide) in
-          refused _ (d ∙ sym (rows_stay (suc r) (n - suc r) b (sym next ∙ d)) ∙ ap (λ (j : ℕ). rows_question j b) z) d
-
-pub kept_true : (p n r : ℕ) {w : Bool} → w ≡ true → p ≡ kept_first p n r w
-unfolding kept_first
-kept_true p n r e = sym (ap (λ (c : Bool). cond c p (cond (ltb p n) p r)) e)
-
-pub kept_held : {p n : ℕ} (r : ℕ) {w : Bool} → w ≡ false → p < n → p ≡ kept_first p n r w
-unfolding kept_first
-kept_held {p} {n} r e h = sym (ap (λ (c : Bool). cond c p (cond (ltb p n) p r)) e ∙ ap (λ (c : Bool). cond c p r) (lt-ltb p n h))
-
-pub kept_found : {p n : ℕ} (r : ℕ) {w : Bool} → w ≡ false → n ≤ p → r ≡ kept_first p n r w
-unfolding kept_first
-kept_found {p} {n} r e h = sym (ap (λ (c : Bool). cond c p (cond (ltb p n) p r)) e ∙ ap (λ (c : Bool). cond c p r) (le-ltb p n h))
-
-pub ruleset keeping_first = (kept_true, kept_held, kept_found, rules)
+          first_not _ (sym (rows_stay (suc r) (n - suc r) b (sym next ∙ d)) ∙ ap (λ (j : ℕ). rows_question j b) z)
 
 pub laid-narrow : {b : List ℕ} {n : ℕ} → Laid b → n ≡ width_of b → n ≤ 128
 laid-narrow l e = omega (arith, l.narrow)
@@ -227,40 +216,41 @@ pub ruleset false-rows = (false-narrow, false_index, false-row, false-none, rule
 -- ---- all of them
 pub tableau-none : (b : List ℕ) → length b ≡ 0 → Err Length ≡ tableau_questions b
 unfolding tableau_questions
-tableau-none b e = refused _ (asked_no Length (le-ltb 0 (length b) (omega arith))) refl
+tableau-none b e = first_not _ (asked_no Length (le-ltb 0 (length b) (omega arith)))
 
 pub width-none : (b : List ℕ) → length b ≡ 0 → 0 ≡ width_of b
 width-none [] e = refl
 width-none (x ∷ b) e = absurd (omega arith)
 
 module _ (b : List ℕ) (some : length b ≡ 0 → ⊥) where
-  first_done : Ok tt ≡ ask (ltb 0 (length b)) Length
-  first_done = asked_yes Length (lt-ltb 0 (length b) (omega arith))
+  some_done : Ok tt ≡ ask (ltb 0 (length b)) Length
+  some_done = asked_yes Length (lt-ltb 0 (length b) (omega arith))
 
-  pub tableau-wide : {r : Outcome} {n : ℕ} {x : Refusal} → n ≡ width_of b → r ≡ width_question n → r ≡ Err x → r ≡ tableau_questions b
-  unfolding tableau_questions
-  tableau-wide w e h = passed first_done refl (refused _ (e ∙ ap width_question w) h)
+  module _ {m : ℕ} (w : m ≡ width_of b) where
+    pub tableau-wide : {x : Refusal} → Err x ≡ width_question m → Err x ≡ tableau_questions b
+    unfolding tableau_questions
+    tableau-wide h = first_done some_done (first_not _ (h ∙ ap width_question w))
 
-  pub tableau-short : {r : Outcome} {m n : ℕ} → m ≡ width_of b → r ≡ width_question m → r ≡ Ok tt → Sized (record_length m) n → (length b ≡ n → ⊥)
-      → Err Length ≡ tableau_questions b
-  unfolding tableau_questions length_question
-  tableau-short {r} {m} {n} w e h s k =
-      passed first_done refl (passed (e ∙ ap width_question w) h (refused _ (asked_no Length (ne_eqb _ _ (λ z. k (z ∙ sym (s.is ∙ ap record_length w))))) refl))
+    module _ (h : Ok tt ≡ width_question m) {n : ℕ} (s : Sized (record_length m) n) where
+      pub tableau-short : (length b ≡ n → ⊥) → Err Length ≡ tableau_questions b
+      unfolding tableau_questions length_question
+      tableau-short k =
+          first_done some_done
+          (first_done (h ∙ ap width_question w) (first_not _ (asked_no Length (ne_eqb _ _ (λ z. k (z ∙ sym (s.is ∙ ap record_length w)))))))
 
-  pub tableau-rows : {r q : Outcome} {m n : ℕ} → m ≡ width_of b → r ≡ width_question m → r ≡ Ok tt → Sized (record_length m) n → length b ≡ n
-      → q ≡ rows_question (2 * width_of b) b and_then weights_question b → q ≡ tableau_questions b
-  unfolding tableau_questions length_question
-  tableau-rows {r} {q} {m} {n} w e h s k z =
-      passed first_done refl (passed (e ∙ ap width_question w) h (passed (asked_yes Length (eq-eqb _ _ (k ∙ s.is ∙ ap record_length w))) refl z))
+      pub tableau-rows : {q : Outcome} → length b ≡ n → q ≡ rows_question (2 * width_of b) b and_then weights_question b → q ≡ tableau_questions b
+      unfolding tableau_questions length_question
+      tableau-rows k z =
+          first_done some_done
+          (first_done (h ∙ ap width_question w) (first_done (asked_yes Length (eq-eqb _ _ (k ∙ s.is ∙ ap record_length w))) z))
 
-pub tableau-laid : (b : List ℕ) {r : Outcome} {m n : ℕ} → m ≡ width_of b → r ≡ width_question m → r ≡ Ok tt → Sized (record_length m) n → length b ≡ n → Laid b
-tableau-laid b {m = m} w e h s k = record { narrow = omega (arith, width_done e h); long = k ∙ s.is ∙ ap record_length w }
+      pub tableau-laid : length b ≡ n → Laid b
+      tableau-laid k = record { narrow = omega (arith, width_done h); long = k ∙ s.is ∙ ap record_length w }
 
 pub ruleset tableau-questions = (
   questions,
   width-wide,
   width_narrow,
-  width_done,
   slot_in,
   slot-out,
   tableau-none,
@@ -271,7 +261,7 @@ pub ruleset tableau-questions = (
   tableau-laid,
 )
 
-pub ruleset rows-questions = (rows_start, rows_inside, rows_more, rows-refused, rows-weighed, rows-asked, laid-narrow, rules)
+pub ruleset rows-questions = (rows_start, rows_inside, rows-weighed, rows-asked, laid-narrow, rules)
 
 -- ---- what is admitted: a tableau's questions let by exactly the records of tableaux of width at most 128
 module _ (b : List ℕ) (e : tableau_questions b ≡ Ok tt) where
@@ -303,13 +293,13 @@ module _ (b : List ℕ) (e : tableau_questions b ≡ Ok tt) where
   }
 
 -- from a check's answer
-pub checked : {b : List ℕ} {r : Outcome} → r ≡ tableau_questions b → r ≡ Ok tt → FormedTableau b
-checked {b} p h = tableau-formed b (sym p ∙ h)
+pub checked : {b : List ℕ} → Ok tt ≡ tableau_questions b → FormedTableau b
+checked {b} h = tableau-formed b (sym h)
 
 pub formed-good : (b : List ℕ) → FormedTableau b → tableau_questions b ≡ Ok tt
 formed-good b f = sym (
-    tableau-rows b (λ z. absurd (no z f.some)) refl (width_narrow f.narrow) refl (record { is = refl; small = record-small (width_of b) f.narrow }) f.long
-    (passed (sym (each_rows (2 * width_of b) b (λ r h. formed-row_question _ (f.rows r h)))) refl (sym (formed_weights b f))))
+    tableau-rows b (λ z. absurd (no z f.some)) refl (width_narrow f.narrow) (record { is = refl; small = record-small (width_of b) f.narrow }) f.long
+    (first_done (sym (each_rows (2 * width_of b) b (λ r h. formed-row_question _ (f.rows r h)))) (sym (formed_weights b f))))
   where
     no : length b ≡ 0 → 0 < length b → ⊥
     no z p = omega arith
@@ -322,12 +312,3 @@ admitted_tableaux b e = sym (record_there (tableau-formed b e))
 
 pub admitted_proper : (b : List ℕ) → tableau_questions b ≡ Ok tt → Proper (tableau_of b)
 admitted_proper b e = proper_of (tableau-formed b e)
-
--- ---- the size of a record
-pub size_longest : (w : ℕ) → 128 ≤ w → longest_record ≡ record_length (min w 128)
-size_longest w h = let e : 128 ≡ min w 128 = omega arith in sym longest-is ∙ ap record_length e
-
-pub size_own : (w : ℕ) {n : ℕ} → w < 128 → Sized (record_length w) n → n ≡ record_length (min w 128)
-size_own w h s = let e : w ≡ min w 128 = omega arith in s.is ∙ ap record_length e
-
-pub ruleset record_sizes = (size_longest, size_own, rules)

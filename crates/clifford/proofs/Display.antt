@@ -18,8 +18,8 @@ use Rattle.pauli.specs.Rows.{letter_at}
 use Rattle.pauli.specs.SparseText.{digits_to, decimal, prefix_text, letter_text, entry_word, words_at, body_text, entry_words, sparse_text_to, sparse_text, row_string, row_text, spaced}
 use Rattle.pauli.specs.TextWriting.{Stored}
 use Rattle.pauli.specs.Inside.TextWriting.{TextWritten}
-use Rattle.pauli.proofs.Answers.{answers_by, number-by}
-use Rattle.pauli.proofs.Asking.{refused, passed, done_first, done_second, room-is}
+use Rattle.pauli.proofs.Answers.{number-done, number-exit}
+use Rattle.pauli.proofs.Asking.{exit_not, first_not, first_done, done_first, done_second, room-is}
 use Rattle.pauli.proofs.Decimals.{decimal-most}
 use Rattle.pauli.proofs.SparseTexts.{text-length}
 use Rattle.pauli.proofs.StringTexts.{words_ext, text-within, copied-whole, text_same}
@@ -253,28 +253,28 @@ module _ {t d e f g : List ℕ} {n h a i k : ℕ} (x : Stored 0 (header_text n) 
 pub ruleset line_loops = (lines_none, lines_fits, lines_next, lines_index, lines_own, lines_more, lines_same, lines_all, stored_same, rules)
 
 -- ---- the questions, and what is written
-pub display_refused : (t : List ℕ) {r : Outcome} {x : Refusal} (room : ℕ) → r ≡ tableau_questions t → r ≡ Err x → r ≡ display_answer t room
+pub display_refused : (t : List ℕ) {x : Refusal} (room : ℕ) → Err x ≡ tableau_questions t → Err x ≡ display_answer t room
 unfolding display_answer
-display_refused t room p h = refused _ p h
+display_refused t room h = first_not _ h
 
-pub display_asked : (t : List ℕ) {r q : Outcome} {n : ℕ} (room : ℕ) → r ≡ tableau_questions t → r ≡ Ok tt → n ≡ length (text_of_tableau t) → q ≡ room_question n room
+pub display_asked : (t : List ℕ) {q : Outcome} {n : ℕ} (room : ℕ) → Ok tt ≡ tableau_questions t → n ≡ length (text_of_tableau t) → q ≡ room_question n room
     → q ≡ display_answer t room
 unfolding display_answer
-display_asked t room p h c q = passed p h (q ∙ ap (λ (k : ℕ). room_question k room) c)
+display_asked t room h c q = first_done h (q ∙ ap (λ (k : ℕ). room_question k room) c)
 
-module _ (t d : List ℕ) {r : Outcome} (p : r ≡ display_answer t (length d)) (h : r ≡ Ok tt) where
+module _ (t d : List ℕ) (h : Ok tt ≡ display_answer t (length d)) where
   pub display_formed : FormedTableau t
   unfolding display_answer
-  display_formed = tableau-formed t (done_first _ _ (sym p ∙ h))
+  display_formed = tableau-formed t (done_first _ _ (sym h))
 
   room : length (text_of_tableau t) ≤ length d
   unfolding display_answer
-  room = room-is _ (length d) (done_second (tableau_questions t) _ (sym p ∙ h))
+  room = room-is _ (length d) (done_second (tableau_questions t) _ (sym h))
 
   pub display_done : {e : List ℕ} {n : ℕ} → TextWritten (text_of_tableau t) d e n → CountWritten (display_answer t (length d)) (text_of_tableau t) d e (Ok n)
-  display_done a = number-by p h a.count (a.bytes ∙ copied-whole (text_of_tableau t) d room)
+  display_done a = number-done h a.count (a.bytes ∙ copied-whole (text_of_tableau t) d room)
 
-pub ruleset displays = (checked, display_refused, display_asked, display_formed, display_done, text_same, answers_by, rules)
+pub ruleset displays = (checked, exit_not, display_refused, display_asked, display_formed, display_done, text_same, number-exit, rules)
 
 -- ---- whether a text starts with another: what is known once i bytes were alike
 pub record Alike (p s : List ℕ) (i : ℕ) : Type 0 where

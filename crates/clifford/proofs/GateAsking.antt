@@ -1,24 +1,23 @@
 -- The questions put to gates, and what they let by.
-use Rattle.std.proofs.Common.{◌≡◌, ℕ, ◌+◌, ◌<◌, ◌≤◌, cond, not, eqb, ltb, ◌≢◌, List, length, sym, refl, ap, ◌∙◌, ap₂, arith, w64, Fits, rules, ltb-true, le-ltb, lt-ltb, eq-eqb, ne_eqb, Ok, Err, true, false}
+use Rattle.std.proofs.Common.{◌≡◌, ℕ, ◌+◌, ◌<◌, ◌≤◌, max, cond, not, eqb, ltb, ◌≢◌, List, length, sym, refl, ap, ◌∙◌, ap₂, arith, w64, Fits, rules, ltb-true, le-ltb, lt-ltb, eq-eqb, ne_eqb, Ok, Err, IsErrAnd, true, false}
 use native.Mathlib.Decide.{dec_lt}
 use borrow.Author.Tests.{eqb-false, not-true}
 use Rattle.pauli.specs.declared.refusal.Refusal.{Refusal}
 use Rattle.pauli.specs.declared.refusal.Refusal.TheVariants.{Gate, Qubit, SameQubit}
-use Rattle.pauli.specs.Answers.{Written, Outcome}
-use Rattle.pauli.specs.Questions.{◌and_then◌, room_question}
-use Rattle.pauli.proofs.Asking.{asked_yes, asked_no, ask_done, and_then_done, done_first, done_second}
+use Rattle.pauli.specs.Answers.{Outcome}
+use Rattle.pauli.specs.Questions.{◌and_then◌}
+use Rattle.pauli.proofs.Asking.{asked_yes, asked_no, ask_done, exit_not, first_not, first_done, and_then_done, done_first, done_second}
 use Rattle.clifford_gates.specs.GateNumbers.{gate_tableau}
-use Rattle.clifford.specs.Layout.{record_length, tableau_record}
 use Rattle.pauli_group.specs.PauliString.{qubits}
 use Rattle.clifford_group.specs.Tableau.{widen}
 use Rattle.clifford_group.proofs.Same.{same_refl}
 use Rattle.clifford.specs.Questions.{width_question}
 use Rattle.clifford.proofs.Asking.{width_done}
-use Rattle.clifford.specs.declared.writing.Made.TheVariants.{OfGate}
 use Rattle.clifford.specs.GateQuestions.{gate_question, different_question, own_qubit_question, qubits_questions, gate_width, on_qubits_questions, on_qubits_answer, on_width_questions, on_width_answer}
 use Rattle.clifford.specs.GateAnswers.{gate_record, width_gate_record}
 use Rattle.clifford.specs.Inside.GateRows.{GateOn, GateSpan}
-use Rattle.clifford.specs.Inside.Made.{made_tableau, MadeFrom, Makes}
+use Rattle.clifford.specs.Inside.Made.{TableauWritten, GateInside}
+use Rattle.clifford.specs.Promises.{GateWritten, WidthGateWritten}
 use Rattle.clifford.proofs.GateWriting.{width_narrow, gate-width, width_one, width_two, widened_own}
 use Rattle.clifford.proofs.Answers.{made-answer, refused-answer}
 
@@ -71,12 +70,32 @@ qubits_of_two w g q r h = sym (ap (λ b. own_qubit_question w q and_then cond b 
 pub qubits-one : (w : ℕ) {g : ℕ} (q r : ℕ) {a : Outcome} → g ≤ 23 → a ≡ own_qubit_question w q → a ≡ qubits_questions w g q r
 qubits-one w {g} q r h e = e ∙ and_then_done (own_qubit_question w q) ∙ qubits_of_one w g q r (omega arith)
 
-pub qubits-two : (w : ℕ) {g : ℕ} (q r : ℕ) {a b c d o : Outcome} → 23 < g → a ≡ own_qubit_question w q → b ≡ own_qubit_question w r
-    → c ≡ different_question q r → d ≡ (b and_then c) → o ≡ (a and_then d)
-    → o ≡ qubits_questions w g q r
-qubits-two w {g} q r h ea eb ec ed eo = eo ∙ ap₂ ◌and_then◌ ea (ed ∙ ap₂ ◌and_then◌ eb ec) ∙ qubits_of_two w g q r (omega arith)
+pub qubits-first : (w g q r : ℕ) {x : Refusal} → Err x ≡ own_qubit_question w q → Err x ≡ qubits_questions w g q r
+unfolding qubits_questions
+qubits-first w g q r h = first_not _ h
 
-pub ruleset gate-questions = (gate_in, gate-out, qubits_equal, qubits_differ, own_in, own_out, qubits-one, qubits-two, rules)
+pub qubits_alone : (w g q r : ℕ) → g < 24 → Ok tt ≡ own_qubit_question w q → Ok tt ≡ qubits_questions w g q r
+qubits_alone w g q r h e = first_done e refl ∙ qubits_of_one w g q r h
+
+pub qubits-two : (w g q r : ℕ) {z : Outcome} → 24 ≤ g → Ok tt ≡ own_qubit_question w q → z ≡ own_qubit_question w r and_then different_question q r
+    → z ≡ qubits_questions w g q r
+qubits-two w g q r h eq e = first_done eq e ∙ qubits_of_two w g q r h
+
+pub ruleset gate-questions = (
+  exit_not,
+  first_not,
+  first_done,
+  gate_in,
+  gate-out,
+  qubits_equal,
+  qubits_differ,
+  own_in,
+  own_out,
+  qubits-first,
+  qubits_alone,
+  qubits-two,
+  rules,
+)
 
 -- ---- what they let by: a gate with a place on w qubits
 module _ (w g q r : ℕ) (n : w ≤ 128) (e : (gate_question 38 g and_then qubits_questions w g q r) ≡ Ok tt) where
@@ -114,67 +133,60 @@ module _ {g q r : ℕ} (o : GateOn g q r) where
   pub span_one : g < 24 → GateSpan g q r (q + 1)
   span_one h = span (omega (arith, width_one g q r h))
 
-  pub span_second : 24 ≤ g → q < r → GateSpan g q r (r + 1)
-  span_second h l = span (omega (arith, width_two g q r h))
+  pub span_two : 24 ≤ g → {m : ℕ} → m ≡ max q r → GateSpan g q r (m + 1)
+  span_two h e = span (omega (arith, e, width_two g q r h))
 
-  pub span_first : 24 ≤ g → r ≤ q → GateSpan g q r (q + 1)
-  span_first h l = span (omega (arith, width_two g q r h))
-
-  pub second_fits : 24 ≤ g → Fits w64 (r + 1)
-  second_fits h = record { fits = omega (arith, o.second h) }
-
-pub ruleset gate_spans = (span_one, span_second, span_first, second_fits, rules)
+pub ruleset gate_spans = (span_one, span_two, rules)
 
 -- ---- a gate at its own width
-module _ (g q r : ℕ) {a b x : Outcome} (ea : a ≡ gate_question 38 g) (eb : b ≡ qubits_questions 128 g q r) (ex : x ≡ (a and_then b)) where
-  asked : x ≡ on_qubits_questions g q r
-  unfolding on_qubits_questions qubits
-  asked = ex ∙ ap₂ ◌and_then◌ ea eb
+module _ (g q r : ℕ) where
+  pub gate-refused : {y : Outcome} {x : Refusal} (d : List ℕ) → Err x ≡ gate_question 38 g → IsErrAnd y (λ e. e ≡ x) → GateWritten g q r d d y
+  unfolding on_qubits_answer on_qubits_questions
+  gate-refused d h e = refused-answer _ _ d (first_not _ h) e
 
-  module _ (h : x ≡ Ok tt) where
-    pub gate-on : GateOn g q r
-    gate-on = placed_on 128 g q r (omega arith) (sym (ex ∙ ap₂ ◌and_then◌ ea eb) ∙ h)
+  module _ (hg : Ok tt ≡ gate_question 38 g) where
+    pub gate_qubits-refused : {y : Outcome} {x : Refusal} (d : List ℕ) → Err x ≡ qubits_questions 128 g q r → IsErrAnd y (λ e. e ≡ x) → GateWritten g q r d d y
+    unfolding on_qubits_answer on_qubits_questions qubits
+    gate_qubits-refused d h e = refused-answer _ _ d (first_done hg h) e
 
-    pub gate-makes : {w : ℕ} (c f : List ℕ) → GateSpan g q r w → Makes (OfGate g q r) c f w
-    unfolding MadeFrom
-    gate-makes c f s = record { from = record { on = gate-on; wide = omega (arith, s.is) }; narrow = s.small }
+    module _ (hq : Ok tt ≡ qubits_questions 128 g q r) where
+      pub gate-on : GateOn g q r
+      gate-on = placed_on 128 g q r (omega arith) (sym (first_done hg hq))
 
-    pub gate_written : {w : ℕ} {y : Outcome} (c f d e : List ℕ) → GateSpan g q r w
-        → Written (room_question (record_length w) (length d)) (tableau_record (made_tableau (OfGate g q r) c f w)) d e y → Written (on_qubits_answer g q r (length d)) (gate_record g q r) d e y
-    unfolding on_qubits_answer gate_record made_tableau
-    gate_written {w} c f d e s o = made-answer asked h s.is (widened_own w (gate_tableau g q r) (omega (arith, s.is, gate-width g q r))) o
+      pub gate-inside : {w : ℕ} → GateSpan g q r w → GateInside g q r w
+      gate-inside s = record { on = gate-on; wide = omega (arith, s.is); narrow = s.small }
 
-  pub gate-refused : {y : Refusal} (d : List ℕ) → x ≡ Err y → Written (on_qubits_answer g q r (length d)) (gate_record g q r) d d x
-  unfolding on_qubits_answer
-  gate-refused d h = refused-answer _ _ d asked h
+      pub gate_written : {w : ℕ} {y : Outcome} (d e : List ℕ) → GateSpan g q r w → TableauWritten w (widen w (gate_tableau g q r)) d e y → GateWritten g q r d e y
+      unfolding on_qubits_answer on_qubits_questions gate_record qubits
+      gate_written {w} d e s o = made-answer (first_done hg hq) s.is (widened_own w (gate_tableau g q r) (omega (arith, s.is, gate-width g q r))) o
 
-pub ruleset gate_answers = (gate-on, gate-makes, gate_written, gate-refused, rules)
+pub ruleset gate_answers = (gate-refused, gate_qubits-refused, gate-on, gate-inside, gate_written, rules)
 
 -- ---- a gate at the width n
-module _ (n g q r : ℕ) {a b c u x : Outcome} (eu : u ≡ (b and_then c)) (ex : x ≡ (a and_then u)) (ea : a ≡ width_question n) (eb : b ≡ gate_question 38 g) (ec : c ≡ qubits_questions n g q r) where
-  asked-width : x ≡ on_width_questions n g q r
-  unfolding on_width_questions
-  asked-width = ex ∙ ap₂ ◌and_then◌ ea (eu ∙ ap₂ ◌and_then◌ eb ec)
+module _ (n g q r : ℕ) where
+  pub width-refused : {y : Outcome} {x : Refusal} (d : List ℕ) → Err x ≡ width_question n → IsErrAnd y (λ e. e ≡ x) → WidthGateWritten n g q r d d y
+  unfolding on_width_answer on_width_questions
+  width-refused d h e = refused-answer _ _ d (first_not _ h) e
 
-  module _ (h : x ≡ Ok tt) where
-    narrow : n ≤ 128
-    narrow = width_done ea (done_first a u (sym ex ∙ h))
+  module _ (hn : Ok tt ≡ width_question n) where
+    pub width_gate-refused : {y : Outcome} {x : Refusal} (d : List ℕ) → Err x ≡ gate_question 38 g → IsErrAnd y (λ e. e ≡ x) → WidthGateWritten n g q r d d y
+    unfolding on_width_answer on_width_questions
+    width_gate-refused d h e = refused-answer _ _ d (first_done hn (first_not _ h)) e
 
-    put : (gate_question 38 g and_then qubits_questions n g q r) ≡ Ok tt
-    put = sym (eu ∙ ap₂ ◌and_then◌ eb ec) ∙ done_second a u (sym ex ∙ h)
+    module _ (hg : Ok tt ≡ gate_question 38 g) where
+      pub width_qubits-refused : {y : Outcome} {x : Refusal} (d : List ℕ) → Err x ≡ qubits_questions n g q r → IsErrAnd y (λ e. e ≡ x) → WidthGateWritten n g q r d d y
+      unfolding on_width_answer on_width_questions
+      width_qubits-refused d h e = refused-answer _ _ d (first_done hn (first_done hg h)) e
 
-    pub width-makes : (d e : List ℕ) → Makes (OfGate g q r) d e n
-    unfolding MadeFrom
-    width-makes d e = record { from = record { on = placed_on n g q r narrow put; wide = placed_inside n g q r narrow put }; narrow = narrow }
+      module _ (hq : Ok tt ≡ qubits_questions n g q r) where
+        put : (gate_question 38 g and_then qubits_questions n g q r) ≡ Ok tt
+        put = sym (first_done hg hq)
 
-    pub width_written : {y : Outcome} (k f d e : List ℕ)
-        → Written (room_question (record_length n) (length d)) (tableau_record (made_tableau (OfGate g q r) k f n)) d e y
-        → Written (on_width_answer n g q r (length d)) (width_gate_record n g q r) d e y
-    unfolding on_width_answer width_gate_record made_tableau
-    width_written k f d e o = made-answer asked-width h refl (same_refl (widen n (gate_tableau g q r))) o
+        pub width-inside : GateInside g q r n
+        width-inside = record { on = placed_on n g q r (width_done hn) put; wide = placed_inside n g q r (width_done hn) put; narrow = width_done hn }
 
-  pub width-refused : {y : Refusal} (d : List ℕ) → x ≡ Err y → Written (on_width_answer n g q r (length d)) (width_gate_record n g q r) d d x
-  unfolding on_width_answer
-  width-refused d h = refused-answer _ _ d asked-width h
+        pub width_written : {y : Outcome} (d e : List ℕ) → TableauWritten n (widen n (gate_tableau g q r)) d e y → WidthGateWritten n g q r d e y
+        unfolding on_width_answer on_width_questions width_gate_record
+        width_written d e o = made-answer (first_done hn (first_done hg hq)) refl (same_refl (widen n (gate_tableau g q r))) o
 
-pub ruleset width_answers = (width-makes, width_written, width-refused, rules)
+pub ruleset width_answers = (width-refused, width_gate-refused, width_qubits-refused, width-inside, width_written, rules)

@@ -1,59 +1,31 @@
 -- Gates found by their images, and the answers that name a gate.
-use Rattle.std.proofs.Common.{◌≡◌, ℕ, zero, suc, ◌+◌, ◌-◌, ◌<◌, ◌≤◌, Bool, true, false, cond, ◌&&◌, eqb, ltb, List, [], ◌∷◌, length, get_or, sym, refl, ap, ◌∙◌, ap₂, le_of_suc-le-suc, not-suc-le-zero, arith, rules, eq-eqb, ne_eqb}
+use Rattle.std.proofs.Common.{◌≡◌, ℕ, zero, suc, ◌+◌, ◌-◌, ◌<◌, ◌≤◌, max, Bool, true, false, cond, ◌&&◌, eqb, ltb, List, [], ◌∷◌, length, get_or, sym, refl, ap, ◌∙◌, ap₂, le_of_suc-le-suc, not-suc-le-zero, arith, rules, eq-eqb, ne_eqb, ltb-true, lt-ltb, le-ltb, Option, Some, None}
 use mathlib.Core.Path.{fun_ext}
 use mathlib.Core.Bool.{and-true, and_assoc}
 use native.Mathlib.Decide.{ℕ_discrete}
 use Rattle.pauli_group.specs.Phase.{Phase, ◌·◌}
 use Rattle.pauli_group.specs.Letter.{Letter}
-use Rattle.pauli_group.specs.PauliString.{PauliString}
+use Rattle.pauli_group.specs.PauliString.{PauliString, qubits}
 use Rattle.pauli_group.proofs.Finite.{letters, phases, bools, law2}
-use Rattle.clifford_group.specs.Tableau.{all_to}
-use Rattle.clifford_group.proofs.Valid.{all_each}
+use Rattle.clifford_group.specs.Tableau.{Tableau, Clifford, compose}
+use Rattle.clifford_group.proofs.Compose.{width-compose, clifford_compose}
 use Rattle.clifford_gates.specs.Gates.{Image, OneQubit, one_qubit, one_qubit_gates}
-use Rattle.clifford_gates.specs.GateTableaux.{unchanged}
-use Rattle.clifford_gates.specs.GateNumbers.{one_qubit_gate, first_with, compose_gate}
+use Rattle.clifford_gates.specs.GateTableaux.{unchanged, on_qubit}
+use Rattle.clifford_gates.specs.GateNumbers.{one_qubit_gate, first_with, name_of, compose_gate}
 use Rattle.clifford_gates.specs.Updates.{letter_image, scaled, sent_image, compose_images}
 use Rattle.clifford_gates.proofs.GateTables.{same_image, same-entry}
-use Rattle.clifford_gates.proofs.GateNames.{images_of, number_of, name_one, name_none, compose_name}
+use Rattle.clifford_gates.proofs.GateNames.{images_of, number_of, name_one, name_none, gate-valid, named-valid, compose_name}
+use Rattle.clifford_gates.proofs.GateTableaux.{clifford_on_qubit}
+use Rattle.clifford_gates.proofs.OneQubitUpdates.{width-on_qubit}
 use Rattle.pauli.specs.declared.algebra.PhasedLetter.{PhasedLetter}
 use Rattle.pauli.specs.Layout.{phase_byte, phase_of, letter_byte, letter_of}
 use Rattle.pauli.specs.Rows.{phase_bytes_product}
 use Rattle.pauli.proofs.Records.{phase-back, letter-back}
 use Rattle.clifford.specs.Layout.{width_of, tableau_of, row_of, read_row, FormedTableau}
-use Rattle.clifford.specs.GateAnswers.{record_name}
+use Rattle.clifford.specs.GateAnswers.{named, record_name}
 use Rattle.clifford.specs.GateRows.{image_bytes, ImageOf}
-use Rattle.clifford.specs.Inside.GateRows.{image_held, same_entry, first_entry, NameIs, BothSmall}
+use Rattle.clifford.specs.Inside.GateRows.{image_held, same_entry, first_entry, BothSmall}
 use Rattle.clifford.proofs.Rows.{read_own, width_of_lem}
-
--- ---- entries
-module _ (a b : List ℕ) where
-  abbrev same : ℕ → Bool
-  same k = eqb (get_or a k 0) (get_or b k 0)
-
-  differs : (k : ℕ) → k < 4 → (get_or a k 0 ≡ get_or b k 0 → ⊥) → false ≡ same_entry a b
-  unfolding same_entry
-  differs k l h = by (all_to 4 same) refl
-    where
-      by : (t : Bool) → all_to 4 same ≡ t → false ≡ t
-      by true e = sym (ne_eqb _ _ h) ∙ all_each 4 same e k l
-      by false e = refl
-
-  pub letter_x_differs : (get_or a 1 0 ≡ get_or b 1 0 → ⊥) → false ≡ same_entry a b
-  letter_x_differs = differs 1 (omega arith)
-
-  pub letter_z_differs : (get_or a 3 0 ≡ get_or b 3 0 → ⊥) → false ≡ same_entry a b
-  letter_z_differs = differs 3 (omega arith)
-
-  pub phase_x_differs : (get_or a 0 0 ≡ get_or b 0 0 → ⊥) → false ≡ same_entry a b
-  phase_x_differs = differs 0 (omega arith)
-
-  pub phase_z_decides : {r : Bool} → get_or a 1 0 ≡ get_or b 1 0 → get_or a 3 0 ≡ get_or b 3 0 → get_or a 0 0 ≡ get_or b 0 0
-      → r ≡ eqb (get_or a 2 0) (get_or b 2 0) → r ≡ same_entry a b
-  unfolding same_entry all_to
-  phase_z_decides xl zl xp e =
-      e ∙ sym (ap₂ (λ x y. ((x && y) && same 2) && same 3) (eq-eqb _ _ xp) (eq-eqb _ _ xl) ∙ ap (λ x. same 2 && x) (eq-eqb _ _ zl) ∙ and-true (same 2))
-
-pub ruleset entries = (letter_x_differs, letter_z_differs, phase_x_differs, phase_z_decides, rules)
 
 -- ---- the first gate with an entry
 pub record NoneBefore (e : List ℕ) (g : ℕ) : Type 0 where
@@ -77,36 +49,40 @@ gates_count : length one_qubit_gates ≡ 24
 unfolding one_qubit_gates
 gates_count = refl
 
+named_some : {n : ℕ} → n < 24 → Some n ≡ named n
+unfolding named
+named_some {n} h = sym (ap (λ b. cond b (Some n) None) (lt-ltb n 24 h))
+
+named_none : {n : ℕ} → 24 ≤ n → None ≡ named n
+unfolding named
+named_none {n} h = sym (ap (λ b. cond b (Some n) None) (le-ltb n 24 h))
+
 pub none_before : (e : List ℕ) → NoneBefore e 0
 none_before e = record { within = omega arith; none = λ k h. absurd (not-suc-le-zero h) }
 
-module _ {e : List ℕ} {g : ℕ} (n : NoneBefore e g) where
-  pub one_more : {a : List ℕ} {r : Bool} → g < 24 → a ≡ image_bytes (one_qubit_gate g) → r ≡ same_entry a e → r ≡ false → NoneBefore e (g + 1)
-  one_more {a} {r} h ea er f = record { within = omega arith; none = none }
+module _ {e : List ℕ} {g : ℕ} (m : NoneBefore e g) where
+  pub one_more : {a : List ℕ} {n : ℕ} {r : Bool} → g < 24 → n ≡ g → a ≡ image_bytes (one_qubit_gate n) → r ≡ same_entry a e → r ≡ false → NoneBefore e (g + 1)
+  one_more {a} {n} {r} h en ea er f = record { within = omega arith; none = none }
     where
       none : (k : ℕ) → k < g + 1 → same_entry (image_bytes (one_qubit_gate k)) e ≡ false
       none k l = elim (ℕ_discrete k g) [
-        | yes q ↦ ap (λ (j : ℕ). same_entry (image_bytes (one_qubit_gate j)) e) q ∙ sym (ap (λ x. same_entry x e) ea) ∙ sym er ∙ f
-        | no d ↦ n.none k (omega arith)
+        | yes q ↦ ap (λ (j : ℕ). same_entry (image_bytes (one_qubit_gate j)) e) (q ∙ sym en) ∙ sym (ap (λ x. same_entry x e) ea) ∙ sym er ∙ f
+        | no d ↦ m.none k (omega arith)
       ]
 
-  pub gate_found : {a : List ℕ} {r : Bool} → g < 24 → a ≡ image_bytes (one_qubit_gate g) → r ≡ same_entry a e → r ≡ true → NameIs (first_entry e) g
+  pub gate_found : {a : List ℕ} {n : ℕ} {r : Bool} → g < 24 → n ≡ g → a ≡ image_bytes (one_qubit_gate n) → r ≡ same_entry a e → r ≡ true → Some g ≡ named (first_entry e)
   unfolding first_entry one_qubit_gate
-  gate_found {a} {r} h ea er t = record {
-    is =
-        first-at (λ k. same_entry (image_bytes k) e) one_qubit_gates unchanged g (omega (arith, gates_count)) n.none
-        (sym (ap (λ x. same_entry x e) ea) ∙ sym er ∙ t);
-    small = omega arith;
-  }
+  gate_found {a} {n} {r} h en ea er t =
+      named_some h
+      ∙ ap named (first-at (λ k. same_entry (image_bytes k) e) one_qubit_gates unchanged g (omega (arith, gates_count)) m.none
+      (ap (λ (j : ℕ). same_entry (image_bytes (one_qubit_gate j)) e) (sym en) ∙ sym (ap (λ x. same_entry x e) ea) ∙ sym er ∙ t))
 
-  pub none_found : 24 ≤ g → NameIs (first_entry e) g
+  pub none_found : 24 ≤ g → None ≡ named (first_entry e)
   unfolding first_entry one_qubit_gate
-  none_found h = record {
-    is =
-        let last : g ≡ length one_qubit_gates = omega (arith, n.within, gates_count) in
-        last ∙ first-none (λ k. same_entry (image_bytes k) e) one_qubit_gates unchanged (λ k l. n.none k (omega (arith, last)));
-    small = n.within;
-  }
+  none_found h =
+      let last : g ≡ length one_qubit_gates = omega (arith, m.within, gates_count) in
+      named_none h
+      ∙ ap named (last ∙ first-none (λ k. same_entry (image_bytes k) e) one_qubit_gates unchanged (λ k l. m.none k (omega (arith, last))))
 
 pub ruleset gate_searches = (none_before, one_more, gate_found, none_found, rules)
 
@@ -123,14 +99,16 @@ unfolding first_entry
 first-named k = ap (λ f. first_with f one_qubit_gates) (fun_ext each)
   where
     each : (g : OneQubit) → same_entry (image_bytes g) (image_bytes k) ≡ same-entry g k
-    each g = unfold same_entry all_to image_bytes in
-        and_assoc (same (image_bytes g) (image_bytes k) 0 && same (image_bytes g) (image_bytes k) 1) _ _
+    each g = unfold image_bytes in
+        ap (λ b. ◌&&◌ (eqb (phase_byte g.x.phase) (phase_byte k.x.phase)) (◌&&◌ (eqb (letter_byte g.x.letter) (letter_byte k.x.letter)) (◌&&◌ (eqb (phase_byte g.z.phase) (phase_byte k.z.phase)) b)))
+        (and-true (eqb (letter_byte g.z.letter) (letter_byte k.z.letter)))
+        ∙ sym (and_assoc (eqb (phase_byte g.x.phase) (phase_byte k.x.phase)) _ _)
         ∙ ap₂ ◌&&◌ (image_test g.x k.x) (image_test g.z k.z)
 
 -- ---- the name of a record
-pub no_name : (t : List ℕ) {w : ℕ} → w ≡ width_of t → (w ≡ 1 → ⊥) → NameIs (record_name t) 24
+pub no_name : (t : List ℕ) {w : ℕ} → w ≡ width_of t → (w ≡ 1 → ⊥) → None ≡ named (record_name t)
 unfolding record_name
-no_name t e h = record { is = sym (name_none (tableau_of t) (λ q. h (e ∙ sym (width_of_lem t) ∙ q))); small = omega arith }
+no_name t e h = named_none (omega arith) ∙ ap named (sym (name_none (tableau_of t) (λ q. h (e ∙ sym (width_of_lem t) ∙ q))))
 
 module _ {t : List ℕ} (f : FormedTableau t) {w : ℕ} (e : w ≡ width_of t) (one : w ≡ 1) where
   wide : (tableau_of t).width ≡ 1
@@ -144,13 +122,11 @@ module _ {t : List ℕ} (f : FormedTableau t) {w : ℕ} (e : w ≡ width_of t) (
   z_read = read_own t 1 f.narrow (omega (arith, e, one))
       ∙ (unfold row_of in ap (λ (j : ℕ). cond (ltb 1 j) ((tableau_of t).x_image 1) ((tableau_of t).z_image (1 - j))) wide)
 
-  pub name_found : {a b c d r : ℕ} → a ≡ phase_byte (read_row t 0).phase → b ≡ letter_byte ((read_row t 0).letters 0)
-      → c ≡ phase_byte (read_row t 1).phase → d ≡ letter_byte ((read_row t 1).letters 0) → NameIs (first_entry (a ∷ b ∷ c ∷ d ∷ [])) r → NameIs (record_name t) r
+  pub name_found : {a b c d : ℕ} {r : Option ℕ} → a ≡ phase_byte (read_row t 0).phase → b ≡ letter_byte ((read_row t 0).letters 0)
+      → c ≡ phase_byte (read_row t 1).phase → d ≡ letter_byte ((read_row t 1).letters 0) → r ≡ named (first_entry (a ∷ b ∷ c ∷ d ∷ [])) → r ≡ named (record_name t)
   unfolding record_name
-  name_found {a} {b} {c} {d} ha hb hc hd n = record {
-    is = n.is ∙ ap first_entry entry ∙ first-named (images_of (tableau_of t)) ∙ sym (name_one (tableau_of t) wide);
-    small = n.small;
-  }
+  name_found {a} {b} {c} {d} ha hb hc hd n =
+      n ∙ ap named (ap first_entry entry ∙ first-named (images_of (tableau_of t)) ∙ sym (name_one (tableau_of t) wide))
     where
       entry : (a ∷ b ∷ c ∷ d ∷ []) ≡ image_bytes (images_of (tableau_of t))
       entry = unfold image_bytes in
@@ -171,15 +147,35 @@ held_image i r h =
     ap₂ (λ (p : Phase) (l : Letter). record { phase = p; letter = l }) (ap phase_of h.phase ∙ phase-back i.phase)
     (ap letter_of h.letter ∙ letter-back i.letter)
 
-pub name_composed : {g h r : ℕ} {i j x z : PhasedLetter} → BothSmall g h
+module _ {g h : ℕ} (b : BothSmall g h) where
+  abbrev product : Tableau
+  product = compose (on_qubit (one_qubit_gate g) 0) (on_qubit (one_qubit_gate h) 0)
+
+  clifford : Clifford product
+  unfolding qubits
+  clifford =
+      clifford_compose (on_qubit (one_qubit_gate g) 0) (on_qubit (one_qubit_gate h) 0)
+      (clifford_on_qubit (one_qubit_gate g) (gate-valid g b.first) 0 (omega arith))
+      (clifford_on_qubit (one_qubit_gate h) (gate-valid h b.second) 0 (omega arith))
+
+  one : product.width ≡ 1
+  one =
+      width-compose (on_qubit (one_qubit_gate g) 0) (on_qubit (one_qubit_gate h) 0)
+      ∙ ap₂ max (width-on_qubit (one_qubit_gate g) 0) (width-on_qubit (one_qubit_gate h) 0)
+
+  compose_small : compose_gate g h < 24
+  unfolding compose_gate
+  compose_small = ltb-true (name_of product) 24 (named-valid product clifford.proper ∙ ap₂ ◌&&◌ (eq-eqb product.width 1 one) clifford.valid)
+
+pub name_composed : {g h : ℕ} {r : Option ℕ} {i j x z : PhasedLetter} → BothSmall g h
     → ImageOf (letter_image (one_qubit_gate h) (letter_of 1)) i → ImageOf (letter_image (one_qubit_gate h) (letter_of 2)) j
     → ImageOf (sent_image (one_qubit_gate g) (image_held i)) x → ImageOf (sent_image (one_qubit_gate g) (image_held j)) z
-    → NameIs (first_entry (x.0 ∷ x.1 ∷ z.0 ∷ z.1 ∷ [])) r → NameIs (compose_gate g h) r
+    → r ≡ named (first_entry (x.0 ∷ x.1 ∷ z.0 ∷ z.1 ∷ [])) → r ≡ Some (compose_gate g h)
 unfolding letter_image letter_of
-name_composed {g} {h} {r} {i} {j} {x} {z} b hi hj hx hz n = record {
-  is = n.is ∙ ap first_entry entry ∙ first-named (compose_images (one_qubit_gate g) (one_qubit_gate h)) ∙ sym (compose_name g h b.first b.second);
-  small = n.small;
-}
+name_composed {g} {h} {r} {i} {j} {x} {z} b hi hj hx hz n =
+    n
+    ∙ ap named (ap first_entry entry ∙ first-named (compose_images (one_qubit_gate g) (one_qubit_gate h)) ∙ sym (compose_name g h b.first b.second))
+    ∙ sym (named_some (compose_small b))
   where
     entry : (x.0 ∷ x.1 ∷ z.0 ∷ z.1 ∷ []) ≡ image_bytes (compose_images (one_qubit_gate g) (one_qubit_gate h))
     entry = unfold image_bytes compose_images in

@@ -1,7 +1,9 @@
 -- Tableaux made row by row: their widths, each row as a work row, and all of them written.
-use Rattle.std.proofs.Common.{◌≡◌, ℕ, suc, ◌*◌, ◌<◌, ◌≤◌, max, List, length, set, sym, refl, ap, ◌∙◌, subst, ap₂, arith, rules, Ok}
+use borrow.Rule.Slice.PartMut.{put_mid}
+use Rattle.std.proofs.Common.{◌≡◌, ℕ, suc, ◌+◌, ◌-◌, ◌*◌, ◌<◌, ◌≤◌, max, List, length, replicate, take, drop, set, sym, refl, ap, ◌∙◌, subst, ap₂, arith, length-take, rules, Ok}
+use Rattle.pauli_group.specs.Letter.{Letter, X, Z}
 use Rattle.pauli_group.specs.PauliString.{PauliString, qubits, single, Within}
-use Rattle.clifford_group.specs.Tableau.{Tableau, image_of, apply, widen, compose, inverse, Proper}
+use Rattle.clifford_group.specs.Tableau.{Tableau, image_of, apply, widen, compose, inverse}
 use Rattle.clifford_group.specs.Conjugation.{of_x, of_z}
 use Rattle.clifford_group.proofs.Images.{within_image, proper-widen}
 use Rattle.clifford_group.proofs.Compose.{row-compose, width-compose, proper-compose}
@@ -10,127 +12,123 @@ use Rattle.clifford_gates.specs.GateNumbers.{gate_tableau}
 use Rattle.pauli.specs.Answers.{written, Outcome}
 use Rattle.pauli.specs.Layout.{letter_byte, letter_of, encode_string, string_of}
 use Rattle.pauli.specs.Questions.{room_question}
-use Rattle.pauli.proofs.Answers.{answers_by}
+use Rattle.pauli.proofs.Answers.{written-done}
 use Rattle.pauli.proofs.Asking.{room-is}
 use Rattle.pauli.proofs.Places.{from}
 use Rattle.pauli.proofs.Records.{length_encode}
 use Rattle.clifford.specs.declared.gates.RowImage.{RowImage}
-use Rattle.clifford.specs.declared.writing.Made.{Made}
-use Rattle.clifford.specs.declared.writing.Made.TheVariants.{Widened, Composite, Inverse, OfPauli, OfGate}
-use Rattle.clifford.specs.Layout.{row_length, row_offset, record_length, row_of, tableau_of, tableau_record, row_qubit, row_letter}
+use Rattle.clifford.specs.Layout.{row_length, row_offset, record_length, row_of, width_of, tableau_of, tableau_record, row_qubit, row_letter, FormedTableau}
+use Rattle.clifford.specs.Images.{pauli_tableau}
 use Rattle.clifford.specs.GateQuestions.{gate_width}
-use Rattle.clifford.specs.Inside.Rows.{Sized, Finished, AppliesRow, AppliesLetter, row_written, letters_in, string_in}
+use Rattle.clifford.specs.Inside.Rows.{Sized, Finished, AppliesString, AppliesLetter, row_written, letters_in, string_in}
 use Rattle.clifford.specs.Inside.Writing.{PauliRow, conjugated}
 use Rattle.clifford.specs.Inside.InverseRows.{InvertsRow}
 use Rattle.clifford.specs.Inside.GateRows.{row_image_string, RowImageOf, ImageAsked, PutsImage}
-use Rattle.clifford.specs.Inside.Made.{made_tableau, Widens, Composes, Inverts, Spans, GateInside, MadeFrom, Makes, MakesAll, MakesRow, MakesBy}
+use Rattle.clifford.specs.Inside.Made.{Made, MakesRow, WritesRow, WritesAll, Widens, Composes, Spans, GateInside}
 use Rattle.clifford.proofs.Rows.{width_of_lem, rows-within, some_bytes}
 use Rattle.clifford.proofs.Records.{proper_of}
 use Rattle.clifford.proofs.RowWriting.{RowsTo, rows_none, rows-room, rows_start, rows_index, rows-length, rows_more, rows_all, letter_of-row, qubit-below, row_made, encoded_row, encoded_formed, put_row, put_room}
 use Rattle.clifford.proofs.PauliTableau.{generator-is, width_pauli, row_pauli, proper_pauli}
 use Rattle.clifford.proofs.GateWriting.{gate-width, gate-proper}
 
--- ---- what each is made from
-module _ {m : Made} {a b : List ℕ} {w : ℕ} (o : Makes m a b w) where
-  taken : {n : Made} → m ≡ n → MadeFrom n a b w
-  taken e = subst (λ x. MadeFrom x a b w) e o.from
-
-  as_widened : m ≡ Widened → Widens a w
-  unfolding MadeFrom
-  as_widened e = taken e
-
-  as_composite : m ≡ Composite → Composes a b w
-  unfolding MadeFrom
-  as_composite e = taken e
-
-  as_inverse : m ≡ Inverse → Inverts a w
-  unfolding MadeFrom
-  as_inverse e = taken e
-
-  as_pauli : m ≡ OfPauli → Spans a w
-  unfolding MadeFrom
-  as_pauli e = taken e
-
-  as_gate : {g q r : ℕ} → m ≡ OfGate g q r → GateInside g q r w
-  unfolding MadeFrom
-  as_gate e = taken e
-
-  pub makes-narrow : w ≤ 128
-  makes-narrow = o.narrow
-
 -- ---- the width, and rows of that width
 width_widened : (t : Tableau) (w : ℕ) → t.width ≤ w → (widen w t).width ≡ w
 unfolding widen
 width_widened t w h = omega arith
 
-pub made_width : (m : Made) (a b : List ℕ) (w : ℕ) → Makes m a b w → (made_tableau m a b w).width ≡ w
-unfolding made_tableau
-made_width Widened a b w o = width_widened (tableau_of a) w (omega (arith, (as_widened o refl).wide, width_of_lem a))
-made_width Composite a b w o = width-compose (tableau_of a) (tableau_of b) ∙ ap₂ max (width_of_lem a) (width_of_lem b) ∙ sym (as_composite o refl).wide
-made_width Inverse a b w o = width-inverse (tableau_of a) ∙ width_of_lem a ∙ sym (as_inverse o refl).wide
-made_width OfPauli a b w o = width_pauli (string_of a) ∙ sym (as_pauli o refl).wide.is
-made_width (OfGate g q r) a b w o = width_widened (gate_tableau g q r) w (omega (arith, (as_gate o refl).wide, gate-width g q r))
+widens_width : {t : List ℕ} {w : ℕ} → Widens t w → (widen w (tableau_of t)).width ≡ w
+widens_width {t} {w} o = width_widened (tableau_of t) w (omega (arith, o.wide, width_of_lem t))
 
-made_proper : (m : Made) (a b : List ℕ) (w : ℕ) → Makes m a b w → Proper (made_tableau m a b w)
-unfolding made_tableau qubits
-made_proper Widened a b w o = proper-widen w o.narrow (tableau_of a) (proper_of (as_widened o refl).tableau)
-made_proper Composite a b w o = proper-compose (tableau_of a) (tableau_of b) (proper_of (as_composite o refl).first) (proper_of (as_composite o refl).second)
-made_proper Inverse a b w o = proper-inverse (tableau_of a) (proper_of (as_inverse o refl).tableau).narrow
-made_proper OfPauli a b w o = proper_pauli (string_of a) (omega (arith, (as_pauli o refl).wide.is, o.narrow))
-made_proper (OfGate g q r) a b w o = proper-widen w o.narrow (gate_tableau g q r) (gate-proper (as_gate o refl).on)
+composes_width : {a b : List ℕ} {w : ℕ} → Composes a b w → (compose (tableau_of a) (tableau_of b)).width ≡ w
+composes_width {a} {b} o = width-compose (tableau_of a) (tableau_of b) ∙ ap₂ max (width_of_lem a) (width_of_lem b) ∙ sym o.wide
 
-made_within : (m : Made) (a b : List ℕ) (w r : ℕ) → Makes m a b w → r < 2 * w → Within w (row_of (made_tableau m a b w) r)
-made_within m a b w r o h =
-    subst (λ (j : ℕ). Within j (row_of (made_tableau m a b w) r)) (made_width m a b w o)
-    (rows-within (made_tableau m a b w) (made_proper m a b w o) r (omega (arith, made_width m a b w o)))
+gate_inside_width : {g p v w : ℕ} → GateInside g p v w → (widen w (gate_tableau g p v)).width ≡ w
+gate_inside_width {g} {p} {v} {w} o = width_widened (gate_tableau g p v) w (omega (arith, o.wide, gate-width g p v))
 
--- ---- a row by way of a work row
-module _ {m : Made} {a b : List ℕ} {w r : ℕ} {s k out : List ℕ} (o : MakesBy m a b w r s k out) where
+pub widened-made : {t : List ℕ} {w : ℕ} → Widens t w → Made w (widen w (tableau_of t))
+unfolding qubits
+widened-made {t} {w} o = record { wide = widens_width o; narrow = o.narrow; proper = proper-widen w o.narrow (tableau_of t) (proper_of o.tableau) }
+
+pub composite-made : {a b : List ℕ} {w : ℕ} → Composes a b w → Made w (compose (tableau_of a) (tableau_of b))
+composite-made {a} {b} o = record {
+  wide = composes_width o;
+  narrow = omega (arith, o.wide, o.first.narrow, o.second.narrow);
+  proper = proper-compose (tableau_of a) (tableau_of b) (proper_of o.first) (proper_of o.second);
+}
+
+pub inverse-made : {t : List ℕ} → FormedTableau t → Made (width_of t) (inverse (tableau_of t))
+inverse-made {t} o = record {
+  wide = width-inverse (tableau_of t) ∙ width_of_lem t;
+  narrow = o.narrow;
+  proper = proper-inverse (tableau_of t) (proper_of o).narrow;
+}
+
+pub pauli-made : {s : List ℕ} {w : ℕ} → Spans s w → Made w (pauli_tableau (string_of s))
+unfolding qubits
+pauli-made {s} o = record {
+  wide = width_pauli (string_of s) ∙ sym o.wide.is;
+  narrow = o.wide.small;
+  proper = proper_pauli (string_of s) (omega (arith, o.wide.is, o.wide.small));
+}
+
+pub gate-made : {g p v w : ℕ} → GateInside g p v w → Made w (widen w (gate_tableau g p v))
+unfolding qubits
+gate-made {g} {p} {v} {w} o = record {
+  wide = gate_inside_width o;
+  narrow = o.narrow;
+  proper = proper-widen w o.narrow (gate_tableau g p v) (gate-proper o.on);
+}
+
+-- ---- a row made as a work row
+module _ {w r : ℕ} {s k : List ℕ} (o : MakesRow w r s k) where
   letters_k : letters_in k ≡ w
   letters_k = omega (arith, o.work)
 
-  abbrev row : PauliString
-  row = row_of (made_tableau m a b w) r
-
   -- a work row holds a string that is the row
-  held : {x : PauliString} {k' : List ℕ} → k' ≡ encode_string (letters_in k) x → x ≡ row → k' ≡ encode_string w row
+  held : {x row : PauliString} {k' : List ℕ} → k' ≡ encode_string (letters_in k) x → x ≡ row → k' ≡ encode_string w row
   held e h = e ∙ ap₂ encode_string letters_k h
+
+  pub inverse_here : {t : List ℕ} → FormedTableau t → w ≡ width_of t → InvertsRow t w r s k
+  inverse_here f e = record {
+    row = record { old = record { tableau = f; own = omega (arith, o.own) }; wide = e };
+    source = o.source;
+    work = o.work;
+  }
 
   module _ {q : ℕ} (eq : q ≡ row_qubit w r) where
     below : q < w
-    below = qubit-below w r eq o.row.own
+    below = qubit-below w r eq o.own
 
-    pub widened_letter : m ≡ Widened → AppliesLetter a k q
-    widened_letter e = record {
-      tableau = (as_widened o.row.makes e).tableau;
-      wide = omega (arith, o.work, (as_widened o.row.makes e).wide);
+    pub widened_letter : {t : List ℕ} → Widens t w → AppliesLetter t k q
+    widened_letter d = record {
+      tableau = d.tableau;
+      wide = omega (arith, o.work, d.wide);
       place = omega (arith, o.work, below);
-      narrow = omega (arith, o.work, o.row.makes.narrow);
+      narrow = omega (arith, o.work, d.narrow);
     }
 
-    pub composite_letter : m ≡ Composite → AppliesLetter b s q
-    composite_letter e = record {
-      tableau = (as_composite o.row.makes e).second;
-      wide = omega (arith, o.source, (as_composite o.row.makes e).wide);
+    pub composite_letter : {a b : List ℕ} → Composes a b w → AppliesLetter b s q
+    composite_letter c = record {
+      tableau = c.second;
+      wide = omega (arith, o.source, c.wide);
       place = omega (arith, o.source, below);
-      narrow = omega (arith, o.source, o.row.makes.narrow);
+      narrow = omega (arith, o.source, c.wide, c.first.narrow, c.second.narrow);
     }
 
     module _ {l : ℕ} (el : l ≡ letter_byte (row_letter w r)) where
-      pub widened_made : {k' : List ℕ} → m ≡ Widened → k' ≡ encode_string (letters_in k) (image_of (tableau_of a) q (letter_of l)) → k' ≡ encode_string w row
-      unfolding made_tableau widen
-      widened_made e ek =
-          held ek
-          (ap₂ (image_of (tableau_of a)) eq (letter_of-row w r el)
-          ∙ sym (row_made (widen w (tableau_of a)) (image_of (tableau_of a)) (λ q. refl) (λ q. refl) w r (width_widened (tableau_of a) w (omega (arith, (as_widened o.row.makes e).wide, width_of_lem a))) o.row.own)
-          ∙ ap (λ x. row_of (made_tableau x a b w) r) (sym e))
+      -- the row is what f makes of the letter and the qubit
+      by_letter : (t : Tableau) (f : ℕ → Letter → PauliString) → ((q : ℕ) → t.x_image q ≡ f q X) → ((q : ℕ) → t.z_image q ≡ f q Z)
+          → t.width ≡ w → f q (letter_of l) ≡ row_of t r
+      by_letter t f x z e = ap₂ f eq (letter_of-row w r el) ∙ sym (row_made t f x z w r e o.own)
 
-      abbrev image : PauliString
-      image = image_of (tableau_of b) q (letter_of l)
+      pub widened_row : {t k' : List ℕ} → Widens t w → k' ≡ encode_string (letters_in k) (image_of (tableau_of t) q (letter_of l))
+          → k' ≡ encode_string w (row_of (widen w (tableau_of t)) r)
+      unfolding widen
+      widened_row {t} d ek = held ek (by_letter (widen w (tableau_of t)) (image_of (tableau_of t)) (λ q. refl) (λ q. refl) (widens_width d))
 
-      module _ (e : m ≡ Composite) {s' : List ℕ} (es : s' ≡ encode_string (letters_in s) image) where
-        c : Composes a b w
-        c = as_composite o.row.makes e
+      module _ {a b s' : List ℕ} (c : Composes a b w) (es : s' ≡ encode_string (letters_in s) (image_of (tableau_of b) q (letter_of l))) where
+        abbrev image : PauliString
+        image = image_of (tableau_of b) q (letter_of l)
 
         es_w : s' ≡ encode_string w image
         es_w = let same : letters_in s ≡ w = omega (arith, o.source) in es ∙ ap (λ (j : ℕ). encode_string j image) same
@@ -141,49 +139,39 @@ module _ {m : Made} {a b : List ℕ} {w r : ℕ} {s k out : List ℕ} (o : Makes
         image_in_lem : Within w image
         image_in_lem = within_image (tableau_of b) (proper_of c.second) w (omega (arith, c.wide, width_of_lem b)) q (letter_of l) below
 
-        pub composite_applies : AppliesRow a s' k out
+        pub composite_applies : AppliesString a s' k
         composite_applies = record {
-          applies = record {
-            tableau = c.first;
-            string = encoded_formed w image es_w;
-            wide = omega (arith, o.work, c.wide);
-            reach = omega (arith, o.work, long_s);
-            narrow = omega (arith, o.work, o.row.makes.narrow);
-          };
-          room = subst (λ (j : ℕ). row_length j ≤ length out) (sym letters_k) o.row.room;
+          tableau = c.first;
+          string = encoded_formed w image es_w;
+          wide = omega (arith, o.work, c.wide);
+          reach = omega (arith, o.work, long_s);
+          narrow = omega (arith, o.work, c.wide, c.first.narrow, c.second.narrow);
         }
 
-        pub composite_made : {e' : List ℕ} → e' ≡ row_written (letters_in k) (apply (tableau_of a) (string_in s')) out → e' ≡ row_written w row out
-        unfolding made_tableau
-        composite_made ee =
+        pub composite_row : {k' : List ℕ} → k' ≡ encode_string (letters_in k) (apply (tableau_of a) (string_in s'))
+            → k' ≡ encode_string w (row_of (compose (tableau_of a) (tableau_of b)) r)
+        composite_row ek =
             let A : Tableau = tableau_of a in
             let B : Tableau = tableau_of b in
-            ee
-            ∙ ap₂ (λ (j : ℕ) (x : PauliString). row_written j x out) letters_k
-            (ap (apply A) (encoded_row w image long_s es_w image_in_lem ∙ ap₂ (image_of B) eq (letter_of-row w r el))
-            ∙ sym (row_made (compose A B) (λ q l. apply A (image_of B q l)) (row-compose A B of_x) (row-compose A B of_z) w r
-            (width-compose A B ∙ ap₂ max (width_of_lem a) (width_of_lem b) ∙ sym c.wide) o.row.own)
-            ∙ ap (λ x. row_of (made_tableau x a b w) r) (sym e))
+            held ek
+            (ap (apply A) (encoded_row w image long_s es_w image_in_lem)
+            ∙ by_letter (compose A B) (λ q l. apply A (image_of B q l)) (row-compose A B of_x) (row-compose A B of_z) (composes_width c))
 
-      pub pauli_here : m ≡ OfPauli → PauliRow a q l k
-      pauli_here e = record {
-        string = (as_pauli o.row.makes e).string;
-        letter = generator-is w r el;
-        place = omega (arith, o.work, below);
-        narrow = omega (arith, o.work, o.row.makes.narrow);
-      }
+      module _ {t : List ℕ} (d : Spans t w) where
+        pub pauli_here : PauliRow t q l k
+        pauli_here = record {
+          string = d.string;
+          letter = generator-is w r el;
+          place = omega (arith, o.work, below);
+          narrow = omega (arith, o.work, d.wide.small);
+        }
 
-      pub pauli_made : {k' : List ℕ} → m ≡ OfPauli → k' ≡ encode_string (letters_in k) (conjugated (string_of a) (single (letter_of l) q)) → k' ≡ encode_string w row
-      unfolding made_tableau
-      pauli_made e ek =
-          held ek
-          (ap (conjugated (string_of a)) (ap₂ single (letter_of-row w r el) eq) ∙ sym (row_pauli (string_of a) w r (as_pauli o.row.makes e).wide.is o.row.own)
-          ∙ ap (λ x. row_of (made_tableau x a b w) r) (sym e))
+        pub pauli_made : {k' : List ℕ} → k' ≡ encode_string (letters_in k) (conjugated (string_of t) (single (letter_of l) q))
+            → k' ≡ encode_string w (row_of (pauli_tableau (string_of t)) r)
+        pauli_made ek =
+            held ek (ap (conjugated (string_of t)) (ap₂ single (letter_of-row w r el) eq) ∙ sym (row_pauli (string_of t) w r d.wide.is o.own))
 
-      module _ {g p v : ℕ} (e : m ≡ OfGate g p v) where
-        i : GateInside g p v w
-        i = as_gate o.row.makes e
-
+      module _ {g p v : ℕ} (i : GateInside g p v w) where
         pub gate-asked : ImageAsked g p v l
         gate-asked = record { on = i.on; letter = generator-is w r el }
 
@@ -193,81 +181,91 @@ module _ {m : Made} {a b : List ℕ} {w r : ℕ} {s k out : List ℕ} (o : Makes
             sign = im.sign;
             first = omega (arith, im.first, i.wide, below, o.work);
             second = omega (arith, im.second, i.wide, below, o.work);
-            narrow = omega (arith, o.work, o.row.makes.narrow);
+            narrow = omega (arith, o.work, i.narrow);
           }
 
-          pub gate_made : {k' : List ℕ} → k' ≡ encode_string (letters_in k) (row_image_string x) → k' ≡ encode_string w row
-          unfolding made_tableau widen
-          gate_made ek =
+          pub gate_row : {k' : List ℕ} → k' ≡ encode_string (letters_in k) (row_image_string x) → k' ≡ encode_string w (row_of (widen w (gate_tableau g p v)) r)
+          unfolding widen
+          gate_row ek =
               held ek
-              (im.string ∙ ap₂ (image_of (gate_tableau g p v)) eq (letter_of-row w r el)
-              ∙ sym (row_made (widen w (gate_tableau g p v)) (image_of (gate_tableau g p v)) (λ q. refl) (λ q. refl) w r (width_widened (gate_tableau g p v) w (omega (arith, i.wide, gate-width g p v))) o.row.own)
-              ∙ ap (λ x. row_of (made_tableau x a b w) r) (sym e))
-
-  pub inverse_here : m ≡ Inverse → InvertsRow a w r s k
-  inverse_here e = record {
-    row = record { old = record { tableau = (as_inverse o.row.makes e).tableau; own = omega (arith, (as_inverse o.row.makes e).wide, o.row.own) }; wide = (as_inverse o.row.makes e).wide };
-    source = o.source;
-    work = o.work;
-  }
-
-  pub inverse_made : {k' : List ℕ} → m ≡ Inverse → k' ≡ encode_string w (row_of (inverse (tableau_of a)) r) → k' ≡ encode_string w row
-  unfolding made_tableau
-  inverse_made e ek = ek ∙ ap (λ x. encode_string w (row_of (made_tableau x a b w) r)) (sym e)
-
-  -- the work row written
-  module _ {k' : List ℕ} (ek : k' ≡ encode_string w row) where
-    pub made_finished : Finished k' out
-    made_finished = put_room w row ek o.row.makes.narrow o.row.room
-
-    pub made_put : {e' : List ℕ} → e' ≡ row_written (letters_in k') (string_in k') out → e' ≡ row_written w row out
-    made_put ee = put_row w out row ek (made_within m a b w r o.row.makes o.row.own) ee
+              (im.string ∙ by_letter (widen w (gate_tableau g p v)) (image_of (gate_tableau g p v)) (λ q. refl) (λ q. refl) (gate_inside_width i))
 
 pub ruleset made_rows = (
   widened_letter,
-  widened_made,
+  widened_row,
   composite_letter,
   composite_applies,
-  composite_made,
+  composite_row,
   inverse_here,
-  inverse_made,
   pauli_here,
   pauli_made,
   gate-asked,
   gate_puts,
-  gate_made,
-  made_finished,
-  made_put,
+  gate_row,
   rules,
 )
 
--- ---- all rows written
-module _ {m : Made} {a b : List ℕ} {w : ℕ} {d : List ℕ} (o : MakesAll m a b w d) where
-  pub all_narrow : w ≤ 128
-  all_narrow = o.makes.narrow
+-- ---- a row made and written
+module _ {w : ℕ} {t : Tableau} {r : ℕ} {out : List ℕ} (o : WritesRow w t r out) where
+  m : Made w t
+  m = o.made
 
+  module _ {n : ℕ} (en : n ≡ w) where
+    pub row_end : n + 1 ≤ 129
+    row_end = omega (arith, m.narrow)
+
+    abbrev zeros : List ℕ
+    zeros = take (n + 1 - 0) (drop 0 (replicate 129 0))
+
+    part : length zeros ≡ w + 1
+    part = (let all : List ℕ = replicate 129 0 in length-take (n + 1 - 0) all) ∙ omega (arith, m.narrow)
+
+    pub row_makes : MakesRow w r zeros zeros
+    row_makes = record { own = o.own; source = part; work = part }
+
+  module _ {k : List ℕ} (ek : k ≡ encode_string w (row_of t r)) where
+    pub row_finished : Finished k out
+    row_finished = put_room w (row_of t r) ek m.narrow o.room
+
+    pub row_put : {e : List ℕ} → e ≡ row_written (letters_in k) (string_in k) out → e ≡ row_written w (row_of t r) out
+    row_put ee = put_row w out (row_of t r) ek
+        (subst (λ (j : ℕ). Within j (row_of t r)) m.wide (rows-within t m.proper r (omega (arith, m.wide, o.own)))) ee
+
+pub ruleset written_rows = (row_end, row_makes, row_finished, row_put, rules)
+
+-- ---- all rows written
+module _ {w : ℕ} {t : Tableau} {d : List ℕ} (o : WritesAll w t d) where
   pub all_first : 0 < length d
   all_first = omega (arith, o.room, some_bytes w)
 
-  pub all_none : RowsTo w (row_of (made_tableau m a b w)) (set d 0 w) 0 (set d 0 w)
-  all_none = rows_none w (row_of (made_tableau m a b w)) d all_narrow o.room
+  module _ {n : ℕ} (en : n ≡ w) where
+    pub all_narrow : n ≤ 128
+    all_narrow = omega (arith, o.made.narrow)
 
-  pub all_here : {f : ℕ → PauliString} {d₀ : List ℕ} {r : ℕ} {e : List ℕ} {at : ℕ} → RowsTo w f d₀ r e → r < 2 * w
-      → Sized (row_offset w r) at → MakesRow m a b w r (from at e)
-  all_here {e = e} {at = at} rows h z = record { makes = o.makes; own = h; room = rows-room e at rows h z }
+    pub all_none : RowsTo n (row_of t) (set d 0 n) 0 (set d 0 n)
+    all_none = subst (λ (j : ℕ). RowsTo j (row_of t) (set d 0 j) 0 (set d 0 j)) (sym en) (rows_none w (row_of t) d o.made.narrow o.room)
 
-  pub all_written : {r : ℕ} {e : List ℕ} → RowsTo w (row_of (made_tableau m a b w)) (set d 0 w) r e → 2 * w ≤ r
-      → e ≡ written (Ok tt) (tableau_record (made_tableau m a b w)) d
-  all_written rows h = rows_all (made_tableau m a b w) d (made_width m a b w o.makes) rows h
+    module _ {d₀ : List ℕ} {r : ℕ} {e : List ℕ} (rows : RowsTo n (row_of t) d₀ r e) where
+      module _ (h : r < 2 * n) {at : ℕ} (z : Sized (row_offset n r) at) where
+        pub all_here : WritesRow w t r (from at e)
+        all_here = record { made = o.made; own = omega arith; room = subst (λ (j : ℕ). row_length j ≤ length (from at e)) en (rows-room e at rows h z) }
 
-pub ruleset all_rows = (all_narrow, all_first, all_none, all_here, all_written, rows_start, rows_index, rows_more, rows-length, rules)
+        pub all_more : {ys : List ℕ} → ys ≡ row_written w (row_of t r) (from at e) → RowsTo n (row_of t) d₀ (r + 1) (put_mid at (length e - at) e ys)
+        all_more k = rows_more rows h z (k ∙ ap (λ (j : ℕ). row_written j (row_of t r) (from at e)) (sym en))
+
+    pub all_written : {r : ℕ} {e : List ℕ} → RowsTo n (row_of t) (set d 0 n) r e → 2 * n ≤ r → e ≡ written (Ok tt) (tableau_record t) d
+    all_written rows h = rows_all t d (o.made.wide ∙ sym en) rows h
+
+pub ruleset all_rows = (all_narrow, all_first, all_none, all_here, all_more, all_written, rows_start, rows_index, rows-length, rules)
 
 -- ---- where there is room
-pub made_asked : (w : ℕ) {r : Outcome} {n : ℕ} (room : ℕ) → Sized (record_length w) n → r ≡ room_question n room → r ≡ room_question (record_length w) room
-made_asked w room s e = e ∙ ap (λ (j : ℕ). room_question j room) s.is
+pub made_narrow : {w : ℕ} {t : Tableau} {n : ℕ} → Made w t → n ≡ w → n ≤ 128
+made_narrow m e = omega (arith, m.narrow)
 
-pub made_let : {m : Made} {a b : List ℕ} {w : ℕ} (d : List ℕ) {r : Outcome} {n : ℕ} → Makes m a b w → Sized (record_length w) n
-    → r ≡ room_question n (length d) → r ≡ Ok tt → MakesAll m a b w d
-made_let {w = w} d o s e h = record { makes = o; room = room-is (record_length w) (length d) (sym (made_asked w (length d) s e) ∙ h) }
+pub made_asked : (w room : ℕ) {n k : ℕ} {q : Outcome} → q ≡ room_question k room → Sized (record_length n) k → n ≡ w → q ≡ room_question (record_length w) room
+made_asked w room e s en = e ∙ ap (λ (j : ℕ). room_question j room) (s.is ∙ ap record_length en)
 
-pub ruleset made_answers = (makes-narrow, made_asked, made_let, answers_by, rules)
+pub made_let : (w : ℕ) {t : Tableau} (d : List ℕ) → Made w t → Ok tt ≡ room_question (record_length w) (length d) → WritesAll w t d
+made_let w d m e = record { made = m; room = room-is _ (length d) (sym e) }
+
+pub ruleset made_answers = (made_narrow, made_asked, made_let, written-done, rules)

@@ -1,20 +1,19 @@
 -- Records written row by row: what a loop over the rows has written before row r, and a row written from a work row.
-use Rattle.std.proofs.Common.{◌≡◌, ℕ, zero, suc, ◌+◌, ◌-◌, ◌*◌, ◌<◌, ◌≤◌, cond, ltb, List, ◌∷◌, ◌++◌, length, take, drop, set, sym, refl, ap, ◌∙◌, subst, ap₂, le_refl, arith, length-set, get_or-set_same, drop-set-lt, rules, le-ltb, lt-ltb, Ok}
+use Rattle.std.proofs.Common.{◌≡◌, ℕ, zero, suc, ◌+◌, ◌-◌, ◌*◌, ◌<◌, ◌≤◌, cond, ltb, List, ◌∷◌, ◌++◌, length, take, drop, set, sym, refl, ap, ◌∙◌, subst, ap₂, le_refl, arith, length-set, get_or-set_same, drop-set-lt, le-ltb, lt-ltb, Ok}
 use native.Mathlib.Decide.{dec_lt}
 use borrow.Rule.Slice.PartMut.{put_mid}
 use Rattle.pauli_group.specs.Letter.{Letter, X, Z}
-use Rattle.pauli_group.specs.PauliString.{PauliString, Within, qubits}
-use Rattle.clifford_group.specs.Tableau.{Tableau, apply}
-use Rattle.clifford_group.proofs.Apply.{within-apply}
+use Rattle.pauli_group.specs.PauliString.{PauliString, Within}
+use Rattle.clifford_group.specs.Tableau.{Tableau}
 use Rattle.pauli.specs.Answers.{written}
 use Rattle.pauli.specs.Layout.{letter_byte, letter_of, encode_string, decode_string, WellFormed}
 use Rattle.pauli.proofs.Places.{from}
-use Rattle.pauli.proofs.Records.{letter-back, length_encode, encode_formed, decode_encode, decode_within}
-use Rattle.clifford.specs.Layout.{row_length, encode_row, row_offset, record_length, row_of, joined, width_of, tableau_of, tableau_record, FormedTableau, row_qubit, row_letter}
-use Rattle.clifford.specs.Inside.Rows.{Sized, RowIndex, Finished, AppliesString, AppliesRow, row_written, letters_in, string_in}
-use Rattle.clifford.proofs.Rows.{length-row, some_bytes, width_of_lem}
+use Rattle.pauli.proofs.Records.{letter-back, length_encode, encode_formed, decode_encode}
+use Rattle.clifford.specs.Layout.{row_length, encode_row, row_offset, record_length, row_of, joined, width_of, tableau_record, FormedTableau, row_qubit, row_letter}
+use Rattle.clifford.specs.Inside.Rows.{Sized, RowIndex, Finished, row_written, letters_in, string_in}
+use Rattle.clifford.proofs.Rows.{length-row, some_bytes}
 use Rattle.clifford.proofs.RowBytes.{BytesTo, bytes-none, bytes-room, bytes_start, bytes_index, bytes-more, bytes_kept, bytes_all, bytes_end}
-use Rattle.clifford.proofs.Records.{length-record, proper_of}
+use Rattle.clifford.proofs.Records.{length-record}
 
 -- ---- the rows before r stand in d, and then what stood in d₀
 pub record RowsTo (w : ℕ) (f : ℕ → PauliString) (d₀ : List ℕ) (r : ℕ) (d : List ℕ) : Type 0 where
@@ -123,26 +122,3 @@ put_room w {k} {out} s ek n h =
     let long : length k ≡ suc w = ap length ek ∙ length_encode w s in
     let same : w ≡ letters_in k = omega arith in
     record { row = encoded_formed w s ek; narrow = omega arith; room = subst (λ (j : ℕ). row_length j ≤ length out) same h }
-
--- ---- the apply routine for rows
-module _ {t s k out : List ℕ} (o : AppliesRow t s k out) where
-  abbrev S : PauliString
-  S = apply (tableau_of t) (string_in s)
-
-  inside_s : Within (letters_in k) S
-  unfolding qubits
-  inside_s =
-      within-apply (tableau_of t) (proper_of o.applies.tableau) (letters_in k) (omega (arith, o.applies.wide, width_of_lem t)) (string_in s)
-      (λ q h l. decode_within (letters_in s) s q (omega (arith, o.applies.reach)))
-
-  pub image_applies : AppliesString t s k
-  image_applies = o.applies
-
-  pub image_room : {k' : List ℕ} → k' ≡ encode_string (letters_in k) S → Finished k' out
-  image_room e = put_room (letters_in k) S e (omega (arith, o.applies.narrow)) o.room
-
-  pub image_written_lem : {k' e' : List ℕ} → k' ≡ encode_string (letters_in k) S → e' ≡ row_written (letters_in k') (string_in k') out
-      → e' ≡ row_written (letters_in k) S out
-  image_written_lem e f = put_row (letters_in k) out S e inside_s f
-
-pub ruleset row-images = (image_applies, image_room, image_written_lem, rules)

@@ -8,23 +8,24 @@ use Rattle.pauli_group.specs.PauliString.{PauliString, qubits, has_letter, Withi
 use Rattle.pauli_group.proofs.Strings.{string_ext}
 use Rattle.pauli_group.proofs.PlacesTaken.{is-I}
 use Rattle.clifford_group.specs.Tableau.{Tableau, Same}
+use Rattle.clifford_group.specs.Conjugation.{Generator, of_x, of_z}
 use Rattle.pauli.specs.declared.refusal.Refusal.{Refusal}
 use Rattle.pauli.specs.declared.refusal.Refusal.TheVariants.{ImageWidth}
 use Rattle.pauli.specs.Answers.{written, Outcome}
 use Rattle.pauli.specs.Layout.{phase_of, letter_of, string_of}
 use Rattle.pauli.specs.Questions.{◌and_then◌, string_questions}
-use Rattle.pauli.proofs.Answers.{answers_by}
-use Rattle.pauli.proofs.Asking.{asked_yes, asked_no, ask_done, refused, passed, done_first, done_second, string-formed}
+use Rattle.pauli.proofs.Answers.{written-exit, written-done}
+use Rattle.pauli.proofs.Asking.{asked_yes, asked_no, ask_done, exit_not, first_not, first_done, done_first, done_second, string-formed}
 use Rattle.pauli.proofs.Places.{NoneBefore, none_more, none_found, none_left_lem, first-before, from, length_from}
 use Rattle.pauli.proofs.Records.{decode_within, decode_letter, decode_phase, letter_of_lem, has_none, has_one}
-use Rattle.clifford.specs.Layout.{row_length, encode_row, row_offset, record_length, row_of, row_part, width_of, tableau_of, tableau_record, FormedTableau}
+use Rattle.clifford.specs.Layout.{row_length, encode_row, row_offset, record_length, row_of, row_part, width_of, tableau_of, tableau_record, generator_row, FormedTableau}
 use Rattle.clifford.specs.Images.{with_x_image, with_z_image}
 use Rattle.clifford.specs.Questions.{tableau_questions, apply_questions, lowest_outside, inside_question, slot_question, set_questions}
-use Rattle.clifford.specs.Inside.Rows.{Sized, RowIndex, Finished, Beside, with_row, row_written, letters_in, string_in}
-use Rattle.clifford.specs.Tableaux.{set_x_record, set_z_record}
+use Rattle.clifford.specs.Inside.Rows.{Sized, RowIndex, SlotIndex, Finished, Beside, with_row, row_written, letters_in, string_in}
+use Rattle.clifford.specs.Tableaux.{set_x_record, set_z_record, set_record}
 use Rattle.clifford.specs.Inside.Writing.{SetsRow, Sets}
 use Rattle.clifford.proofs.RowWriting.{RowsTo, rows-own, rows_kept_to, rows_more, rows_end}
-use Rattle.clifford.proofs.Asking.{tableau-formed, slot_is}
+use Rattle.clifford.proofs.Asking.{tableau-formed, checked, slot_is}
 use Rattle.clifford.proofs.Rows.{row_there, row-x, row-z, row_room, row_part_lem, width_of_lem}
 use Rattle.clifford.proofs.Records.{length-record, same-record}
 
@@ -63,8 +64,6 @@ outside-left m h = none_left_lem m.none h
 pub beside_place : {s : List ℕ} {w : ℕ} (q : ℕ) → Beside s w → q < 128 → q + 1 < length s
 beside_place q o h = omega (arith, o.string.long)
 
-pub ruleset outsides = (outside_start, outside-more, outside_found, outside-left, beside_place, rules)
-
 pub inside_no : (w : ℕ) (s : PauliString) {q : ℕ} → q ≡ lowest_outside w s → q < 128 → Err (ImageWidth q w) ≡ inside_question w s
 unfolding inside_question qubits
 inside_no w s e h = ap (λ (k : ℕ). Err (ImageWidth k w)) e ∙ asked_no (ImageWidth (lowest_outside w s) w) (lt-leb 128 (lowest_outside w s) (omega arith))
@@ -89,31 +88,29 @@ inside-within w s e q h = elim (dec_lt q 128) [
     above q h = unfold string_of in decode_within 128 s q h
 
 -- ---- the questions in their order
-pub set_asked : (t s : List ℕ) {a b r : Outcome} → a ≡ tableau_questions t → b ≡ string_questions s → r ≡ (a and_then b) → r ≡ apply_questions t s
-unfolding apply_questions
-set_asked t s ea eb er = er ∙ ap₂ ◌and_then◌ ea eb
+module _ (t : List ℕ) (slot : ℕ) (s : List ℕ) where
+  pub set-first : {x : Refusal} → Err x ≡ tableau_questions t → Err x ≡ set_questions t slot s
+  unfolding set_questions apply_questions
+  set-first h = first_not _ (first_not _ h)
 
-module _ (t : List ℕ) (slot : ℕ) (s : List ℕ) {r : Outcome} (p : r ≡ apply_questions t s) where
-  pub set_first : {x : Refusal} → r ≡ Err x → r ≡ set_questions t slot s
-  unfolding set_questions
-  set_first h = refused _ p h
+  module _ (ht : Ok tt ≡ tableau_questions t) where
+    pub set-second : {x : Refusal} → Err x ≡ string_questions s → Err x ≡ set_questions t slot s
+    unfolding set_questions apply_questions
+    set-second h = first_not _ (first_done ht h)
 
-  module _ (h : r ≡ Ok tt) {n : ℕ} (en : n ≡ width_of t) where
-    pub set_beside : Beside s n
-    unfolding apply_questions
-    set_beside =
-        let both : tableau_questions t and_then string_questions s ≡ Ok tt = sym p ∙ h in
-        record { string = string-formed s (done_second (tableau_questions t) _ both); narrow = omega (arith, (tableau-formed t (done_first _ _ both)).narrow) }
+    module _ (hs : Ok tt ≡ string_questions s) {n : ℕ} (en : n ≡ width_of t) where
+      pub set_beside : Beside s n
+      set_beside = record { string = string-formed s (sym hs); narrow = omega (arith, en, (checked ht).narrow) }
 
-    pub set_then : {q z a : Outcome} → q ≡ inside_question n (string_of s) → z ≡ slot_question slot n → a ≡ (q and_then z) → a ≡ set_questions t slot s
-    unfolding set_questions
-    set_then pq pz e =
-        passed p h (e ∙ ap₂ ◌and_then◌ (pq ∙ ap (λ (j : ℕ). inside_question j (string_of s)) en) (pz ∙ ap (slot_question slot) en))
+      -- 14, and then 15
+      pub set_then : {z : Outcome} → z ≡ inside_question n (string_of s) and_then slot_question slot n → z ≡ set_questions t slot s
+      unfolding set_questions apply_questions
+      set_then e = first_done (first_done ht hs) (e ∙ ap (λ (j : ℕ). inside_question j (string_of s) and_then slot_question slot j) en)
 
-pub sets : {t : List ℕ} {slot : ℕ} {s : List ℕ} {r : Outcome} → r ≡ set_questions t slot s → r ≡ Ok tt → Sets t slot s
+pub sets : {t : List ℕ} {slot : ℕ} {s : List ℕ} → Ok tt ≡ set_questions t slot s → Sets t slot s
 unfolding set_questions apply_questions
-sets {t} {slot} {s} p h =
-    let all : (tableau_questions t and_then string_questions s) and_then inside_question (width_of t) (string_of s) and_then slot_question slot (width_of t) ≡ Ok tt = sym p ∙ h in
+sets {t} {slot} {s} h =
+    let all : (tableau_questions t and_then string_questions s) and_then inside_question (width_of t) (string_of s) and_then slot_question slot (width_of t) ≡ Ok tt = sym h in
     let both : tableau_questions t and_then string_questions s ≡ Ok tt = done_first _ _ all in
     let rest : inside_question (width_of t) (string_of s) and_then slot_question slot (width_of t) ≡ Ok tt = done_second (tableau_questions t and_then string_questions s) _ all in
     record {
@@ -233,11 +230,12 @@ pub ruleset row_setting = (set_index, set_string, set_start, set_room, set_made,
 
 -- ---- an image replaced is a row replaced
 module _ {t : List ℕ} {slot : ℕ} {s : List ℕ} (o : Sets t slot s) where
-  pub set_x_row : SetsRow t slot s
-  set_x_row = record { sets = o.sets; own = omega (arith, o.slot) }
+  pub set-slot : {n : ℕ} → n ≡ width_of t → SlotIndex n slot
+  set-slot e = record { narrow = omega (arith, e, o.sets.tableau.narrow); own = omega (arith, e, o.slot) }
 
-  pub set_z_row : {n : ℕ} → n ≡ width_of t → SetsRow t (n + slot) s
-  set_z_row e = record { sets = o.sets; own = omega (arith, o.slot) }
+  pub set-row : (g : Generator) {n r : ℕ} → n ≡ width_of t → r ≡ generator_row g n slot → SetsRow t r s
+  set-row of_x en er = record { sets = o.sets; own = omega (arith, o.slot, er) }
+  set-row of_z en er = record { sets = o.sets; own = omega (arith, o.slot, en, er) }
 
   -- bytes that are a record of t's length are all that is written
   whole : {out : List ℕ} → length out ≡ length t → out ≡ written (Ok tt) out t
@@ -272,25 +270,19 @@ module _ {t : List ℕ} {slot : ℕ} {s : List ℕ} (o : Sets t slot s) where
         | no n ↦ ne_eqb ((tableau_of t).width + q) (width_of t + slot) (λ e. n (omega (arith, width_of_lem t))) ∙ sym (ne_eqb q slot n)
       ]
 
-  pub x_written : {e : List ℕ} → e ≡ tableau_record (with_row (tableau_of t) slot (string_of s)) → e ≡ written (Ok tt) (set_x_record t slot s) t
-  unfolding set_x_record
-  x_written h =
-      h ∙ whole (set_length set_x_row)
+  pub set-written : (g : Generator) {e : List ℕ} {n r : ℕ} → n ≡ width_of t → r ≡ generator_row g n slot
+      → e ≡ tableau_record (with_row (tableau_of t) r (string_of s)) → e ≡ written (Ok tt) (set_record g t slot s) t
+  unfolding set_x_record set_z_record
+  set-written of_x en er h =
+      h ∙ ap (λ (j : ℕ). tableau_record (with_row (tableau_of t) j (string_of s))) er ∙ whole (set_length (set-row of_x refl refl))
       ∙ ap (λ (l : List ℕ). written (Ok tt) l t) (same-record (with_row (tableau_of t) slot (string_of s)) (with_x_image (tableau_of t) slot (string_of s)) x-same)
-
-  pub z_written : {e : List ℕ} {n : ℕ} → n ≡ width_of t → e ≡ tableau_record (with_row (tableau_of t) (n + slot) (string_of s))
-      → e ≡ written (Ok tt) (set_z_record t slot s) t
-  unfolding set_z_record
-  z_written en h =
-      h ∙ ap (λ (j : ℕ). tableau_record (with_row (tableau_of t) (j + slot) (string_of s))) en ∙ whole (set_length (set_z_row refl))
+  set-written of_z en er h =
+      h ∙ ap (λ (j : ℕ). tableau_record (with_row (tableau_of t) j (string_of s))) (er ∙ ap (λ (j : ℕ). j + slot) en) ∙ whole (set_length (set-row of_z refl refl))
       ∙ ap (λ (l : List ℕ). written (Ok tt) l t)
       (same-record (with_row (tableau_of t) (width_of t + slot) (string_of s)) (with_z_image (tableau_of t) slot (string_of s)) z-same)
 
-pub set_fits : (t : List ℕ) (slot : ℕ) (s : List ℕ) {r : Outcome} {n : ℕ} → r ≡ set_questions t slot s → r ≡ Ok tt → n ≡ width_of t → Fits w64 (n + slot)
-set_fits t slot s p h e = let o : Sets t slot s = sets p h in record { fits = omega (arith, o.slot, o.sets.tableau.narrow) }
+pub ruleset insides = (outside_start, outside-more, outside_found, outside-left, beside_place, inside_no, inside_yes, rules)
 
-pub ruleset insides = (inside_no, inside_yes, rules)
+pub ruleset image_questions_lem = (exit_not, first_not, first_done, set-first, set-second, set_beside, set_then, rules)
 
-pub ruleset image_questions_lem = (set_asked, set_first, set_beside, set_then, rules)
-
-pub ruleset image_setting = (sets, set_x_row, set_z_row, set_fits, set_length, x_written, z_written, answers_by, rules)
+pub ruleset image_setting = (written-exit, written-done, sets, set-slot, set-row, set-written, rules)

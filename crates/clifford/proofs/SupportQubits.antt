@@ -8,8 +8,8 @@ use Rattle.clifford_group.specs.Tableau.{Tableau, all_to}
 use Rattle.pauli.specs.declared.refusal.Refusal.{Refusal}
 use Rattle.pauli.specs.Answers.{written, CountWritten, Outcome}
 use Rattle.pauli.specs.Questions.{room_question}
-use Rattle.pauli.proofs.Asking.{refused, passed, done_first, done_second, room-is}
-use Rattle.pauli.proofs.Answers.{number-by, answers_by}
+use Rattle.pauli.proofs.Asking.{exit_not, first_not, first_done, done_first, done_second, room-is}
+use Rattle.pauli.proofs.Answers.{number-done, number-exit}
 use Rattle.clifford.specs.Questions.{tableau_questions, support_answer}
 use Rattle.clifford.specs.Tableaux.{support_bytes}
 use Rattle.clifford.proofs.Asking.{tableau-formed, checked}
@@ -421,29 +421,29 @@ wrote_small m = omega (arith, m.count.wide, m.fits.tableau.narrow)
 pub ruleset support_writing = (wrote_start, wrote_more, wrote_here, wrote_all, wrote_same, wrote_small, rules)
 
 -- ---- the answer
-pub support_room : (t : List ℕ) (room : ℕ) {r q : Outcome} {c : ℕ} → r ≡ tableau_questions t → r ≡ Ok tt → SupportCount t c
+pub support_room : (t : List ℕ) (room : ℕ) {q : Outcome} {c : ℕ} → Ok tt ≡ tableau_questions t → SupportCount t c
     → q ≡ room_question c room → q ≡ support_answer t room
 unfolding support_answer
-support_room t room p h c e = passed p h (e ∙ ap (λ (j : ℕ). room_question j room) c.is)
+support_room t room h c e = first_done h (e ∙ ap (λ (j : ℕ). room_question j room) c.is)
 
-pub support_refused : (t : List ℕ) (room : ℕ) {r : Outcome} {x : Refusal} → r ≡ tableau_questions t → r ≡ Err x → r ≡ support_answer t room
+pub support_refused : (t : List ℕ) (room : ℕ) {x : Refusal} → Err x ≡ tableau_questions t → Err x ≡ support_answer t room
 unfolding support_answer
-support_refused t room p h = refused _ p h
+support_refused t room h = first_not _ h
 
-pub support_fits : {t d : List ℕ} {r : Outcome} → r ≡ support_answer t (length d) → r ≡ Ok tt → SupportFits t d
+pub support_fits : {t d : List ℕ} → Ok tt ≡ support_answer t (length d) → SupportFits t d
 unfolding support_answer
-support_fits {t} {d} p h = record {
-  tableau = tableau-formed t (done_first _ _ (sym p ∙ h));
-  room = room-is (length (support_qubits (tableau_of t))) (length d) (done_second (tableau_questions t) _ (sym p ∙ h));
+support_fits {t} {d} h = record {
+  tableau = tableau-formed t (done_first _ _ (sym h));
+  room = room-is (length (support_qubits (tableau_of t))) (length d) (done_second (tableau_questions t) _ (sym h));
 }
 
-pub support_formed : {t : List ℕ} (room : ℕ) {r : Outcome} → r ≡ support_answer t room → r ≡ Ok tt → FormedTableau t
+pub support_formed : {t : List ℕ} (room : ℕ) → Ok tt ≡ support_answer t room → FormedTableau t
 unfolding support_answer
-support_formed {t} room p h = tableau-formed t (done_first _ _ (sym p ∙ h))
+support_formed {t} room h = tableau-formed t (done_first _ _ (sym h))
 
-pub support_done : (t d : List ℕ) {e : List ℕ} {q r : Outcome} {c : ℕ} → r ≡ q → r ≡ Ok tt → e ≡ written (Ok tt) (support_qubits (tableau_of t)) d → SupportCount t c
+pub support_done : (t d : List ℕ) {e : List ℕ} {q : Outcome} {c : ℕ} → Ok tt ≡ q → e ≡ written (Ok tt) (support_qubits (tableau_of t)) d → SupportCount t c
     → CountWritten q (support_bytes t) d e (Ok c)
 unfolding support_bytes
-support_done t d p h w k = number-by p h k.is w
+support_done t d h w k = number-done h k.is w
 
-pub ruleset support_answers = (checked, support_room, support_refused, support_fits, support_formed, support_done, answers_by, rules)
+pub ruleset support_answers = (checked, exit_not, support_room, support_refused, support_fits, support_formed, support_done, number-exit, rules)

@@ -5,6 +5,7 @@ use Rattle.pauli_group.specs.Phase.{◌·◌}
 use Rattle.pauli_group.specs.Letter.{Letter, I, X, Z, not_i}
 use Rattle.pauli_group.specs.PauliString.{PauliString, qubits, identity_string, weight_to}
 use Rattle.clifford_group.specs.Tableau.{Tableau}
+use Rattle.clifford_group.specs.Conjugation.{Generator, of_x, of_z}
 use Rattle.clifford_gates.specs.Gates.{Image, PairImage}
 use Rattle.pauli.specs.Places.{listed}
 use Rattle.pauli.specs.Layout.{phase_byte, phase_of, letter_byte, letter_of}
@@ -96,6 +97,11 @@ row_qubit w r = cond (nat_lt r w) r (r - w)
 
 unfoldable pub row_letter : ℕ → ℕ → Letter
 row_letter w r = cond (nat_lt r w) X Z
+
+-- and the row of the image of X or Z on qubit q
+abbrev pub generator_row : Generator → ℕ → ℕ → ℕ
+generator_row of_x w q = q
+generator_row of_z w q = w + q
 
 -- the lists f 0 to f (k - 1), one after another
 unfoldable pub joined : ℕ → (ℕ → List ℕ) → List ℕ

@@ -1,7 +1,6 @@
 pub mod Layout
 pub mod Images
 pub mod Support
-pub mod Answers
 pub mod Questions
 pub mod Tableaux
 pub mod Display

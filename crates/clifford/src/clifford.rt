@@ -1,19 +1,21 @@
 // Gates by number: their tableaux, their names, their products and inverses. Ports clifford.rs of PECOS, changed:
 // Copyright 2026 The PECOS Developers, Apache License, Version 2.0.
-ghost use Rattle.std.specs.Prelude.{◌≡◌};
-ghost use Rattle.clifford_gates.specs.GateNumbers.{compose_gate};
+ghost use Rattle.std.specs.Prelude.{◌≡◌, Some};
+ghost use Rattle.clifford_group.specs.Tableau.{widen};
+ghost use Rattle.clifford_gates.specs.GateNumbers.{gate_tableau, compose_gate};
 ghost use Rattle.clifford.specs.Layout.{FormedTableau};
 ghost use Rattle.clifford.specs.GateQuestions.{own_qubit_question, qubits_questions};
-ghost use Rattle.clifford.specs.GateAnswers.{record_name};
-ghost use Rattle.clifford.specs.Inside.GateRows.{GateOn, GateSpan, BothSmall, NameIs};
+ghost use Rattle.clifford.specs.GateAnswers.{named, record_name};
+ghost use Rattle.clifford.specs.Inside.GateRows.{GateOn, GateSpan, BothSmall};
+ghost use Rattle.clifford.specs.Inside.Made.{GateInside, TableauWritten};
 ghost use Rattle.clifford.specs.Promises.{GateWritten, WidthGateWritten, OneQubitGateWritten, SingleQubitCliffordWritten, GateNamed, GatesComposed, GateInverted};
 
 use crate::gates::{first_gate, inverse_number, letter_image, product_number, sent_image};
 use crate::layout::{letter_at, phase_at, width};
 use crate::questions::{check_different, check_gate, check_tableau, check_width};
-use crate::writing::{Made, write_made};
+use crate::writing::{OfGate, write_made};
 use pauli::QUBITS;
-use pauli::questions::{and_then, check_qubit};
+use pauli::questions::check_qubit;
 use pauli::refusal::Refusal;
 
 // ---- questions
@@ -32,13 +34,12 @@ fn check_own_qubit(width: usize, qubit: usize) -> Result<(), Refusal>
 pub fn check_qubits(width: usize, gate: usize, q: usize, r: usize) -> Result<(), Refusal>
     ensures { result ≡ qubits_questions width gate q r }
 {
-    let first = check_own_qubit(width, q);
-    if gate <= 23 {
-        return first;
+    check_own_qubit(width, q)?;
+    if gate < 24 {
+        return Ok(());
     }
-    let second = check_own_qubit(width, r);
-    let different = check_different(q, r);
-    and_then(first, and_then(second, different))
+    check_own_qubit(width, r)?;
+    check_different(q, r)
 }
 
 // ---- tableaux of gates
@@ -47,94 +48,78 @@ fn gate_width(gate: usize, q: usize, r: usize) -> usize
     requires { GateOn gate q r }
     ensures { GateSpan gate q r result }
 {
-    if gate < 24 {
-        return q + 1;
-    }
-    if q < r { r + 1 } else { q + 1 }
+    if gate < 24 { q + 1 } else { q.max(r) + 1 }
+}
+
+// The record of a gate on its qubits, at this width.
+fn write_gate(
+    gate: usize,
+    first: usize,
+    second: usize,
+    width: usize,
+    dst: &mut [u8],
+) -> Result<(), Refusal>
+    requires { GateInside gate first second width }
+    ensures { TableauWritten width (widen width (gate_tableau gate first second)) dst.old dst.new result }
+{
+    let made = OfGate {
+        gate,
+        first,
+        second,
+        width,
+    };
+    write_made(&made, dst)
 }
 
 // A gate on its qubits; the second is not looked at for gates 0 to 23.
 pub fn on_qubits(gate: u8, q0: usize, q1: usize, dst: &mut [u8]) -> Result<(), Refusal>
     ensures { GateWritten gate q0 q1 dst.old dst.new result }
 {
-    let g = gate as usize;
-    let known = check_gate(38, g);
-    let answer = and_then(known, check_qubits(QUBITS, g, q0, q1));
-    if let Ok(()) = answer {
-        let made = Made::OfGate {
-            gate: g,
-            first: q0,
-            second: q1,
-        };
-        return write_made(made, b"", b"", gate_width(g, q0, q1), dst);
-    }
-    answer
+    let g = usize::from(gate);
+    check_gate(38, g)?;
+    check_qubits(QUBITS, g, q0, q1)?;
+    write_gate(g, q0, q1, gate_width(g, q0, q1), dst)
 }
 
 // A gate on its qubits, at the width n; the second is not looked at for gates 0 to 23.
 pub fn on_width(n: usize, gate: u8, q0: usize, q1: usize, dst: &mut [u8]) -> Result<(), Refusal>
     ensures { WidthGateWritten n gate q0 q1 dst.old dst.new result }
 {
-    let g = gate as usize;
-    let known = check_gate(38, g);
-    let placed = and_then(known, check_qubits(n, g, q0, q1));
-    let narrow = check_width(n);
-    let answer = and_then(narrow, placed);
-    if let Ok(()) = answer {
-        let made = Made::OfGate {
-            gate: g,
-            first: q0,
-            second: q1,
-        };
-        return write_made(made, b"", b"", n, dst);
-    }
-    answer
+    let g = usize::from(gate);
+    check_width(n)?;
+    check_gate(38, g)?;
+    check_qubits(n, g, q0, q1)?;
+    write_gate(g, q0, q1, n, dst)
 }
 
 // A one-qubit gate on its qubit.
 pub fn on_qubit(gate: u8, q: usize, dst: &mut [u8]) -> Result<(), Refusal>
     ensures { OneQubitGateWritten gate q dst.old dst.new result }
 {
-    let g = gate as usize;
-    let known = check_gate(24, g);
-    let answer = and_then(known, check_qubit(q));
-    if let Ok(()) = answer {
-        let made = Made::OfGate {
-            gate: g,
-            first: q,
-            second: q,
-        };
-        return write_made(made, b"", b"", q + 1, dst);
-    }
-    answer
+    let g = usize::from(gate);
+    check_gate(24, g)?;
+    check_qubit(q)?;
+    write_gate(g, q, q, q + 1, dst)
 }
 
 // One of the 24 products of H and SZ, by its index.
 pub fn single_qubit_clifford(index: usize, qubit: usize, dst: &mut [u8]) -> Result<(), Refusal>
     ensures { SingleQubitCliffordWritten index qubit dst.old dst.new result }
 {
-    let known = check_gate(24, index);
-    let answer = and_then(known, check_qubit(qubit));
-    if let Ok(()) = answer {
-        let made = Made::OfGate {
-            gate: product_number(index),
-            first: qubit,
-            second: qubit,
-        };
-        return write_made(made, b"", b"", qubit + 1, dst);
-    }
-    answer
+    check_gate(24, index)?;
+    check_qubit(qubit)?;
+    write_gate(product_number(index), qubit, qubit, qubit + 1, dst)
 }
 
 // ---- names
 
-// The number of the gate that a tableau is, or 24.
-fn name_of(t: &[u8]) -> usize
+// The number of the gate that a tableau is.
+fn name_of(t: &[u8]) -> Option<u8>
     requires { FormedTableau t.now }
-    ensures { NameIs (record_name t.now) result }
+    ensures { result ≡ named (record_name t.now) }
 {
     if width(t) != 1 {
-        return 24;
+        return None;
     }
     first_gate([
         phase_at(t, 0),
@@ -148,22 +133,16 @@ fn name_of(t: &[u8]) -> usize
 pub fn from_clifford_rep(t: &[u8]) -> Result<Option<u8>, Refusal>
     ensures { GateNamed t.now result }
 {
-    let answer = check_tableau(t);
-    match answer {
-        Ok(()) => {
-            let n = name_of(t);
-            if n < 24 { Ok(Some(n as u8)) } else { Ok(None) }
-        }
-        Err(why) => Err(why),
-    }
+    check_tableau(t)?;
+    Ok(name_of(t))
 }
 
 // ---- products and inverses by number
 
 // The number of the gate that g after h is.
-fn composed(g: usize, h: usize) -> usize
+fn composed(g: usize, h: usize) -> Option<u8>
     requires { BothSmall g h }
-    ensures { NameIs (compose_gate g h) result }
+    ensures { result ≡ Some (compose_gate g h) }
 {
     let x = sent_image(g, letter_image(h, 1));
     let z = sent_image(g, letter_image(h, 2));
@@ -174,21 +153,18 @@ fn composed(g: usize, h: usize) -> usize
 pub fn compose(g: u8, h: u8) -> Result<Option<u8>, Refusal>
     ensures { GatesComposed g h result }
 {
-    let first = check_gate(24, g as usize);
-    let answer = and_then(first, check_gate(24, h as usize));
-    match answer {
-        Ok(()) => Ok(Some(composed(g as usize, h as usize) as u8)),
-        Err(why) => Err(why),
-    }
+    let first = usize::from(g);
+    let second = usize::from(h);
+    check_gate(24, first)?;
+    check_gate(24, second)?;
+    Ok(composed(first, second))
 }
 
 // The inverse of a gate.
 pub fn inverse(g: u8) -> Result<Option<u8>, Refusal>
     ensures { GateInverted g result }
 {
-    let answer = check_gate(38, g as usize);
-    match answer {
-        Ok(()) => Ok(Some(inverse_number(g as usize))),
-        Err(why) => Err(why),
-    }
+    let gate = usize::from(g);
+    check_gate(38, gate)?;
+    Ok(Some(inverse_number(gate)))
 }

@@ -1,10 +1,14 @@
 // Tableaux: their action on strings, their composition, their images. Ports clifford_rep.rs of PECOS, changed:
 // Copyright 2024 The PECOS Developers, Apache License, Version 2.0.
-ghost use Rattle.std.specs.Prelude.{◌≡◌, max};
+ghost use Rattle.std.specs.Prelude.{◌≡◌};
+ghost use Rattle.std.specs.Result.{result_map_both};
+ghost use Rattle.clifford_group.specs.Conjugation.{Generator, of_x, of_z};
+ghost use Rattle.clifford.specs.Layout.{generator_row};
 ghost use Rattle.clifford.specs.Display.{name_text, display_answer, starts_with};
 ghost use Rattle.clifford.specs.Questions.{image_questions, set_questions, support_answer};
-ghost use Rattle.clifford.specs.Tableaux.{x_image_part, z_image_part};
-ghost use Rattle.clifford.specs.Promises.{XImageAt, ZImageAt, XImageSet, ZImageSet, IdentityWritten, Applied, Composed, Extended, Inverted, ValidityTold, FromPauliString, SupportWritten, Displayed};
+ghost use Rattle.clifford.specs.Tableaux.{image_part};
+ghost use Rattle.clifford.specs.Inside.Rows.{SlotIndex};
+ghost use Rattle.clifford.specs.Promises.{ImageAt, ImageSet, IdentityWritten, Applied, Composed, Extended, Inverted, ValidityTold, FromPauliString, SupportWritten, Displayed};
 
 use crate::applying::apply_string;
 use crate::displaying::{display_length, starts_with, write_display};
@@ -14,116 +18,85 @@ use crate::questions::{check_slot, check_tableau, check_tableaux, check_width};
 use crate::setting::{check_inside, set_row};
 use crate::support::{support_count, write_support};
 use crate::validity::valid_rows;
-use crate::writing::{Made, write_made};
+use crate::writing::{Composite, Inverse, OfPauli, Widened, write_made};
 use pauli::STRING_LENGTH;
-use pauli::questions::{and_then, check_room, check_string};
+use pauli::questions::{check_room, check_string};
 use pauli::refusal::Refusal;
-
-fn larger(a: usize, b: usize) -> usize
-    ensures { result ≡ max a b }
-{
-    if a < b { b } else { a }
-}
 
 // ---- images
 
-// Whether X of this qubit has an image to hand out: Done, or the refusal.
-pub fn x_image_answer(t: &[u8], slot: usize) -> Result<(), Refusal>
+// A letter whose images a tableau has, one for each qubit: X or Z.
+pub trait Generator {
+    ghost letter: { Generator };
+
+    // The row of its image on this qubit: X rows come first.
+    fn row(width: usize, slot: usize) -> usize
+        requires { SlotIndex width slot }
+        ensures { result ≡ generator_row letter width slot };
+}
+
+pub struct X;
+
+pub struct Z;
+
+impl Generator for X {
+    ghost letter = { of_x };
+
+    fn row(_width: usize, slot: usize) -> usize {
+        slot
+    }
+}
+
+impl Generator for Z {
+    ghost letter = { of_z };
+
+    fn row(width: usize, slot: usize) -> usize {
+        width + slot
+    }
+}
+
+// Whether a qubit has images to hand out.
+fn check_image(t: &[u8], slot: usize) -> Result<(), Refusal>
     ensures { result ≡ image_questions t.now slot }
 {
-    let whole = check_tableau(t);
-    and_then(whole, check_slot(slot, width(t)))
+    check_tableau(t)?;
+    check_slot(slot, width(t))
 }
 
-// The image of X on this qubit, the row's own part of the record; no bytes where the answer is a refusal.
-pub fn x_image(t: &[u8], slot: usize) -> &[u8]
-    ensures { result.now ≡ x_image_part t.now slot }
+// The image of X or Z on this qubit, the row's own part of the record.
+pub fn image<G: Generator>(t: &[u8], slot: usize) -> Result<&[u8], Refusal>
+    ensures { result_map_both (λ part. part.now) (λ why. why) result ≡ image_part G.letter t.now slot }
 {
-    let answer = x_image_answer(t, slot);
-    if let Ok(()) = answer {
-        return row(t, slot);
-    }
-    &t[0..0]
+    check_image(t, slot)?;
+    Ok(row(t, G::row(width(t), slot)))
 }
 
-// Whether Z of this qubit has an image to hand out: Done, or the refusal.
-pub fn z_image_answer(t: &[u8], slot: usize) -> Result<(), Refusal>
-    ensures { result ≡ image_questions t.now slot }
+// Where in the record that image starts.
+pub fn image_offset<G: Generator>(t: &[u8], slot: usize) -> Result<usize, Refusal>
+    ensures { ImageAt G.letter t.now slot result }
 {
-    let whole = check_tableau(t);
-    and_then(whole, check_slot(slot, width(t)))
+    check_image(t, slot)?;
+    let n = width(t);
+    Ok(row_offset(n, G::row(n, slot)))
 }
 
-// The image of Z on this qubit, the row's own part of the record; no bytes where the answer is a refusal.
-pub fn z_image(t: &[u8], slot: usize) -> &[u8]
-    ensures { result.now ≡ z_image_part t.now slot }
-{
-    let answer = z_image_answer(t, slot);
-    if let Ok(()) = answer {
-        return row(t, width(t) + slot);
-    }
-    &t[0..0]
-}
-
-// Where in the record the image of X on this qubit starts.
-pub fn x_image_offset(t: &[u8], slot: usize) -> Result<usize, Refusal>
-    ensures { XImageAt t.now slot result }
-{
-    let answer = x_image_answer(t, slot);
-    match answer {
-        Ok(()) => Ok(row_offset(width(t), slot)),
-        Err(why) => Err(why),
-    }
-}
-
-// Where in the record the image of Z on this qubit starts.
-pub fn z_image_offset(t: &[u8], slot: usize) -> Result<usize, Refusal>
-    ensures { ZImageAt t.now slot result }
-{
-    let answer = z_image_answer(t, slot);
-    match answer {
-        Ok(()) => {
-            let n = width(t);
-            Ok(row_offset(n, n + slot))
-        }
-        Err(why) => Err(why),
-    }
-}
-
-fn set_answer(t: &[u8], slot: usize, s: &[u8]) -> Result<(), Refusal>
+fn check_set(t: &[u8], slot: usize, s: &[u8]) -> Result<(), Refusal>
     ensures { result ≡ set_questions t.now slot s.now }
 {
-    let whole = check_tableau(t);
-    let first = and_then(whole, check_string(s));
-    let Ok(()) = first else {
-        return first;
-    };
+    check_tableau(t)?;
+    check_string(s)?;
     let n = width(t);
-    let inside = check_inside(s, n);
-    let in_slot = check_slot(slot, n);
-    and_then(inside, in_slot)
+    check_inside(s, n)?;
+    check_slot(slot, n)
 }
 
-// The image of X on this qubit, replaced by the string s.
-pub fn set_x_image(t: &mut [u8], slot: usize, s: &[u8]) -> Result<(), Refusal>
-    ensures { XImageSet slot s.now t.old t.new result }
+// The image of X or Z on this qubit, replaced by the string s.
+pub fn set_image<G: Generator>(t: &mut [u8], slot: usize, s: &[u8]) -> Result<(), Refusal>
+    ensures { ImageSet G.letter slot s.now t.old t.new result }
 {
-    let answer = set_answer(t, slot, s);
-    if let Ok(()) = answer {
-        set_row(t, slot, s);
-    }
-    answer
-}
-
-// The image of Z on this qubit, replaced by the string s.
-pub fn set_z_image(t: &mut [u8], slot: usize, s: &[u8]) -> Result<(), Refusal>
-    ensures { ZImageSet slot s.now t.old t.new result }
-{
-    let answer = set_answer(t, slot, s);
-    if let Ok(()) = answer {
-        set_row(t, width(t) + slot, s);
-    }
-    answer
+    check_set(t, slot, s)?;
+    set_row(t, G::row(width(t), slot), s);
+    Ok(())
 }
 
 // ---- identity
@@ -132,12 +105,9 @@ pub fn set_z_image(t: &mut [u8], slot: usize, s: &[u8]) -> Result<(), Refusal>
 pub fn identity(n: usize, dst: &mut [u8]) -> Result<(), Refusal>
     ensures { IdentityWritten n dst.old dst.new result }
 {
-    let answer = check_width(n);
-    if let Ok(()) = answer {
-        let none = [0u8; 1];
-        return write_made(Made::Widened, &none, &none, n, dst);
-    }
-    answer
+    check_width(n)?;
+    let none = [0u8; 1];
+    write_made(&Widened { t: &none, width: n }, dst)
 }
 
 // ---- apply
@@ -146,13 +116,11 @@ pub fn identity(n: usize, dst: &mut [u8]) -> Result<(), Refusal>
 pub fn apply(t: &[u8], s: &[u8], dst: &mut [u8]) -> Result<(), Refusal>
     ensures { Applied t.now s.now dst.old dst.new result }
 {
-    let whole = check_tableau(t);
-    let both = and_then(whole, check_string(s));
-    let answer = and_then(both, check_room(STRING_LENGTH, dst.len()));
-    if let Ok(()) = answer {
-        apply_string(t, s, &mut dst[0..STRING_LENGTH]);
-    }
-    answer
+    check_tableau(t)?;
+    check_string(s)?;
+    check_room(STRING_LENGTH, dst.len())?;
+    apply_string(t, s, &mut dst[0..STRING_LENGTH]);
+    Ok(())
 }
 
 // ---- compose
@@ -161,11 +129,9 @@ pub fn apply(t: &[u8], s: &[u8], dst: &mut [u8]) -> Result<(), Refusal>
 pub fn compose(a: &[u8], b: &[u8], dst: &mut [u8]) -> Result<(), Refusal>
     ensures { Composed a.now b.now dst.old dst.new result }
 {
-    let answer = check_tableaux(a, b);
-    if let Ok(()) = answer {
-        return write_made(Made::Composite, a, b, larger(width(a), width(b)), dst);
-    }
-    answer
+    check_tableaux(a, b)?;
+    let width = width(a).max(width(b));
+    write_made(&Composite { a, b, width }, dst)
 }
 
 // ---- extended_to
@@ -174,12 +140,10 @@ pub fn compose(a: &[u8], b: &[u8], dst: &mut [u8]) -> Result<(), Refusal>
 pub fn extended_to(t: &[u8], n: usize, dst: &mut [u8]) -> Result<(), Refusal>
     ensures { Extended t.now n dst.old dst.new result }
 {
-    let whole = check_tableau(t);
-    let answer = and_then(whole, check_width(n));
-    if let Ok(()) = answer {
-        return write_made(Made::Widened, t, t, larger(width(t), n), dst);
-    }
-    answer
+    check_tableau(t)?;
+    check_width(n)?;
+    let width = width(t).max(n);
+    write_made(&Widened { t, width }, dst)
 }
 
 // ---- inverse
@@ -188,11 +152,8 @@ pub fn extended_to(t: &[u8], n: usize, dst: &mut [u8]) -> Result<(), Refusal>
 pub fn inverse(t: &[u8], dst: &mut [u8]) -> Result<(), Refusal>
     ensures { Inverted t.now dst.old dst.new result }
 {
-    let answer = check_tableau(t);
-    if let Ok(()) = answer {
-        return write_made(Made::Inverse, t, t, width(t), dst);
-    }
-    answer
+    check_tableau(t)?;
+    write_made(&Inverse { t }, dst)
 }
 
 // ---- is_valid
@@ -211,60 +172,44 @@ pub fn is_valid(t: &[u8]) -> Result<bool, Refusal>
 pub fn from_pauli_string(s: &[u8], dst: &mut [u8]) -> Result<(), Refusal>
     ensures { FromPauliString s.now dst.old dst.new result }
 {
-    let answer = check_string(s);
-    if let Ok(()) = answer {
-        return write_made(Made::OfPauli, s, s, span(s), dst);
-    }
-    answer
+    check_string(s)?;
+    let width = span(s);
+    write_made(&OfPauli { s, width }, dst)
 }
 
 // ---- support_qubits
 
-fn support_answer(t: &[u8], room: usize) -> Result<(), Refusal>
+fn check_support(t: &[u8], room: usize) -> Result<(), Refusal>
     ensures { result ≡ support_answer t.now room }
 {
-    let first = check_tableau(t);
-    if let Ok(()) = first {
-        return check_room(support_count(t), room);
-    }
-    first
+    check_tableau(t)?;
+    check_room(support_count(t), room)
 }
 
 // The qubits of the support, rising, and their number.
 pub fn support_qubits(t: &[u8], dst: &mut [u8]) -> Result<usize, Refusal>
     ensures { SupportWritten t.now dst.old dst.new result }
 {
-    let answer = support_answer(t, dst.len());
-    match answer {
-        Ok(()) => {
-            write_support(t, dst);
-            Ok(support_count(t))
-        }
-        Err(why) => Err(why),
-    }
+    check_support(t, dst.len())?;
+    write_support(t, dst);
+    Ok(support_count(t))
 }
 
 // ---- display
 
-fn display_answer(t: &[u8], room: usize) -> Result<(), Refusal>
+fn check_display(t: &[u8], room: usize) -> Result<(), Refusal>
     ensures { result ≡ display_answer t.now room }
 {
-    let first = check_tableau(t);
-    if let Ok(()) = first {
-        return check_room(display_length(t), room);
-    }
-    first
+    check_tableau(t)?;
+    check_room(display_length(t), room)
 }
 
 // The text that shows a tableau; the answer is its length.
 pub fn display(t: &[u8], dst: &mut [u8]) -> Result<usize, Refusal>
     ensures { Displayed t.now dst.old dst.new result }
 {
-    let answer = display_answer(t, dst.len());
-    match answer {
-        Ok(()) => Ok(write_display(t, dst)),
-        Err(why) => Err(why),
-    }
+    check_display(t, dst.len())?;
+    Ok(write_display(t, dst))
 }
 
 // Whether a text starts as every display text does.

@@ -8,11 +8,11 @@ ghost use Rattle.clifford_gates.specs.Updates.{letter_image, sent_image};
 ghost use Rattle.pauli.specs.Layout.{letter_of, encode_string};
 ghost use Rattle.clifford.specs.Inside.Rows.{letters_in};
 ghost use Rattle.clifford.specs.GateQuestions.{gate_width};
+ghost use Rattle.clifford.specs.GateAnswers.{named};
 ghost use Rattle.clifford.specs.GateRows.{image_bytes, y_bytes, ImageOf};
-ghost use Rattle.clifford.specs.Inside.GateRows.{pair_bytes, image_held, same_entry, first_entry, NameIs, TakesTwo, EntryPlace, entry_pair, OneRow, ImageAsked, RowImageOf, row_image_string, PutsImage};
+ghost use Rattle.clifford.specs.Inside.GateRows.{pair_bytes, image_held, first_entry, TakesTwo, EntryPlace, entry_pair, OneRow, ImageAsked, RowImageOf, row_image_string, PutsImage};
 
 use crate::applying::{clear_row, multiply_letter};
-use crate::layout::wide;
 use pauli::algebra::{PhasedLetter, multiply_paulis};
 use pauli::rows::phase_times;
 
@@ -135,37 +135,20 @@ pub(crate) fn sent_image(gate: usize, image: PhasedLetter) -> PhasedLetter
     PhasedLetter(phase_times(image.0, i.0), i.1)
 }
 
-// Letters first, then phases.
-fn same_images(a: [u8; 4], b: [u8; 4]) -> bool
-    ensures { result ≡ same_entry a b }
+// The first gate, by number, whose images of X and of Z, phase and letter, are these.
+pub(crate) fn first_gate(images: [u8; 4]) -> Option<u8>
+    ensures { result ≡ named (first_entry images) }
 {
-    if a[1] != b[1] {
-        return false;
-    }
-    if a[3] != b[3] {
-        return false;
-    }
-    if a[0] != b[0] {
-        return false;
-    }
-    a[2] == b[2]
-}
-
-// The first gate, by number, whose images of X and of Z, phase and letter, are these, or 24.
-pub(crate) fn first_gate(images: [u8; 4]) -> usize
-    ensures { NameIs (first_entry images) result }
-{
-    let mut gate = 0;
-    let found = loop {
+    let mut gate: u8 = 0;
+    loop {
         if 24 <= gate {
-            break gate;
+            break None;
         }
-        if same_images(images_1q(gate), images) {
-            break gate;
+        if images_1q(usize::from(gate)) == images {
+            break Some(gate);
         }
         gate += 1;
-    };
-    found
+    }
 }
 
 // The gate that a product of H and SZ is.
@@ -173,7 +156,7 @@ pub(crate) fn product_number(index: usize) -> usize
     requires { index < 24 }
     ensures { result ≡ slice_index product_gates index }
 {
-    wide(PRODUCTS[index])
+    usize::from(PRODUCTS[index])
 }
 
 pub(crate) fn inverse_number(gate: usize) -> u8
@@ -226,7 +209,7 @@ pub(crate) fn gate_image(gate: usize, q: usize, r: usize, k: usize, letter: u8) 
         }
         return on_one(0, k, letter);
     }
-    let row = 6 * wide(letter);
+    let row = 6 * usize::from(letter);
     if k == q {
         return on_two(gate, row - 6, q, r);
     }

@@ -2,11 +2,11 @@
 ghost use Rattle.std.specs.Prelude.{◌≡◌, ◌*◌, min};
 ghost use Rattle.pauli.specs.Questions.{◌and_then◌};
 ghost use Rattle.clifford.specs.Layout.{record_length, width_of};
-ghost use Rattle.clifford.specs.Inside.Rows.{Laid, kept_first};
+ghost use Rattle.clifford.specs.Inside.Rows.{Laid};
 ghost use Rattle.clifford.specs.Questions.{width_question, slot_question, rows_question, weights_question, tableau_questions, compose_questions};
 ghost use Rattle.clifford.specs.GateQuestions.{gate_question, different_question};
 
-use crate::layout::{LONGEST_RECORD, check_row, check_weights, record_length, width};
+use crate::layout::{check_row, check_weights, record_length, width};
 use pauli::QUBITS;
 use pauli::refusal::Refusal;
 
@@ -23,10 +23,7 @@ pub fn check_width(width: usize) -> Result<(), Refusal>
 pub fn record_size(width: usize) -> usize
     ensures { result ≡ record_length (min width 128) }
 {
-    if QUBITS <= width {
-        return LONGEST_RECORD;
-    }
-    record_length(width)
+    record_length(width.min(QUBITS))
 }
 
 // A qubit of a tableau whose image is meant.
@@ -39,19 +36,6 @@ pub fn check_slot(slot: usize, width: usize) -> Result<(), Refusal>
     Err(Refusal::Slot { slot, width })
 }
 
-// The first of n rows that has a false weight, kept: so far there is first, which is n where there is none.
-fn keep_first(first: usize, n: usize, r: usize, weighed: bool) -> usize
-    ensures { result ≡ kept_first first n r weighed }
-{
-    if weighed {
-        return first;
-    }
-    if first < n {
-        return first;
-    }
-    r
-}
-
 // Questions 3 and 24, in one pass over the rows: every 3 comes before a 24.
 fn check_rows(t: &[u8]) -> Result<(), Refusal>
     requires { Laid t.now }
@@ -59,15 +43,12 @@ fn check_rows(t: &[u8]) -> Result<(), Refusal>
 {
     let rows = 2 * width(t);
     let mut first = rows;
-    let mut r = 0;
-    while r < rows {
+    for r in 0..rows {
         let row = check_row(t, r);
-        let codes = row.codes;
-        let Ok(()) = codes else {
-            return codes;
-        };
-        first = keep_first(first, rows, r, row.weighed);
-        r += 1;
+        row.codes?;
+        if !row.weighed {
+            first = first.min(r);
+        }
     }
     check_weights(t, first)
 }
@@ -76,14 +57,11 @@ fn check_rows(t: &[u8]) -> Result<(), Refusal>
 pub fn check_tableau(t: &[u8]) -> Result<(), Refusal>
     ensures { result ≡ tableau_questions t.now }
 {
-    if t.len() == 0 {
+    if t.is_empty() {
         return Err(Refusal::Length);
     }
     let n = width(t);
-    let first = check_width(n);
-    let Ok(()) = first else {
-        return first;
-    };
+    check_width(n)?;
     if t.len() != record_length(n) {
         return Err(Refusal::Length);
     }
@@ -94,11 +72,8 @@ pub fn check_tableau(t: &[u8]) -> Result<(), Refusal>
 pub fn check_tableaux(a: &[u8], b: &[u8]) -> Result<(), Refusal>
     ensures { result ≡ compose_questions a.now b.now }
 {
-    let first = check_tableau(a);
-    if let Ok(()) = first {
-        return check_tableau(b);
-    }
-    first
+    check_tableau(a)?;
+    check_tableau(b)
 }
 
 // A gate, or an index of the 24 products, below the limit.

@@ -3,7 +3,7 @@
 ghost use Rattle.std.specs.Prelude.{◌≡◌};
 ghost use Rattle.pauli.specs.Layout.{string_of};
 ghost use Rattle.clifford.specs.Layout.{tableau_of, tableau_record};
-ghost use Rattle.clifford.specs.Questions.{lowest_outside, inside_question};
+ghost use Rattle.clifford.specs.Questions.{inside_question};
 ghost use Rattle.clifford.specs.Inside.Rows.{Beside, with_row};
 ghost use Rattle.clifford.specs.Inside.Writing.{SetsRow};
 
@@ -11,29 +11,15 @@ use crate::layout::{row_offset, width, write_row};
 use pauli::QUBITS;
 use pauli::refusal::Refusal;
 
-// The lowest qubit at the width or above that has a letter, or 128.
-fn lowest_outside(s: &[u8], width: usize) -> usize
-    requires { Beside s.now width }
-    ensures { result ≡ lowest_outside width (string_of s.now) }
-{
-    let mut q = width;
-    while q < QUBITS {
-        if s[q + 1] != 0 {
-            return q;
-        }
-        q += 1;
-    }
-    q
-}
-
-// Question 14.
+// Question 14: the lowest qubit at the width or above that has a letter.
 pub(crate) fn check_inside(s: &[u8], width: usize) -> Result<(), Refusal>
     requires { Beside s.now width }
     ensures { result ≡ inside_question width (string_of s.now) }
 {
-    let qubit = lowest_outside(s, width);
-    if qubit < QUBITS {
-        return Err(Refusal::ImageWidth { qubit, width });
+    for qubit in width..QUBITS {
+        if s[qubit + 1] != 0 {
+            return Err(Refusal::ImageWidth { qubit, width });
+        }
     }
     Ok(())
 }

@@ -1,134 +1,189 @@
 // Tableaux written row by row: each row is made in the part of the destination that starts at its offset.
-ghost use Rattle.std.specs.Prelude.{◌≡◌};
+ghost use Rattle.std.specs.Prelude.{◌≡◌, ℕ, Ok};
+ghost use Rattle.clifford_group.specs.Tableau.{Tableau, widen, compose, inverse};
+ghost use Rattle.clifford_gates.specs.GateNumbers.{gate_tableau};
 ghost use Rattle.pauli.specs.Answers.{written};
-ghost use Rattle.clifford.specs.Layout.{row_of, tableau_record};
-ghost use Rattle.clifford.specs.Inside.Rows.{AppliesRow, image_written, row_written};
-ghost use Rattle.clifford.specs.Inside.Made.{made_tableau, Makes, MakesAll, MakesRow, MakesBy, MadeWritten};
+ghost use Rattle.pauli.specs.Layout.{encode_string, string_of};
+ghost use Rattle.clifford.specs.Layout.{row_of, tableau_of, tableau_record, width_of, FormedTableau};
+ghost use Rattle.clifford.specs.Images.{pauli_tableau};
+ghost use Rattle.clifford.specs.Inside.Rows.{row_written};
+ghost use Rattle.clifford.specs.Inside.Made.{Made, MakesRow, WritesRow, WritesAll, TableauWritten, Widens, Composes, Spans, GateInside};
 
 use crate::applying::{apply_letter, apply_string};
 use crate::gates::{gate_image, put_image};
 use crate::inverting::inverse_row;
-use crate::layout::{record_length, row_letter, row_offset, row_qubit, write_row};
+use crate::layout::{record_length, row_letter, row_offset, row_qubit, width, write_row};
 use crate::pauli_tableau::pauli_row;
 use pauli::STRING_LENGTH;
 use pauli::questions::check_room;
 use pauli::refusal::Refusal;
 
-// Which tableau is made from the bytes a and b: the tableau a widened, a composed with b, the inverse of a, the tableau of the
-// string a, or that of a gate, widened, which needs no bytes.
+// A tableau that is made row by row.
+pub(crate) trait RowMaker {
+    ghost wide: { Self → ℕ };
+
+    ghost made: { Self → Tableau };
+
+    fn width(&self) -> usize
+        ensures { result ≡ wide self.now };
+
+    // Row r of it, as a work row; source is room for one row more on the way there.
+    fn make_row(&self, r: usize, source: &mut [u8], work: &mut [u8])
+        requires { MakesRow (wide self.now) r source.old work.old }
+        ensures { work.new ≡ encode_string (wide self.now) (row_of (made self.now) r) };
+}
+
+// The tableau t, widened.
 #[derive(Clone, Copy)]
-pub(crate) enum Made {
-    Widened,
-    Composite,
-    Inverse,
-    OfPauli,
-    OfGate {
-        gate: usize,
-        first: usize,
-        second: usize,
-    },
+pub(crate) struct Widened<'a> {
+    pub(crate) t: &'a [u8],
+    pub(crate) width: usize,
+    ghost widens: { Widens t.now width },
 }
 
-// The apply routine for rows: the image of the string s, as the row at the front of dst.
-fn apply_to_row(t: &[u8], s: &[u8], work: &mut [u8], dst: &mut [u8])
-    requires { AppliesRow t.now s.now work.old dst.old }
-    ensures { dst.new ≡ image_written t.now s.now work.old dst.old }
-{
-    apply_string(t, s, work);
-    write_row(work, dst);
+impl<'a> RowMaker for Widened<'a> {
+    ghost wide = { λ m. m.width };
+
+    ghost made = { λ m. widen m.width (tableau_of m.t.now) };
+
+    fn width(&self) -> usize {
+        self.width
+    }
+
+    fn make_row(&self, r: usize, _source: &mut [u8], work: &mut [u8]) {
+        let letter = row_letter(self.width, r);
+        apply_letter(self.t, row_qubit(self.width, r), letter, work);
+    }
 }
 
-// Row r of it over the front of dst, by way of a work row; source is room for one row more on the way there.
-fn make_row(
-    made: Made,
-    a: &[u8],
-    b: &[u8],
-    width: usize,
-    r: usize,
-    source: &mut [u8],
-    work: &mut [u8],
-    dst: &mut [u8],
-)
-    requires { MakesBy made a.now b.now width r source.old work.old dst.old }
-    ensures { dst.new ≡ row_written width (row_of (made_tableau made a.now b.now width) r) dst.old }
-{
-    let q = row_qubit(width, r);
-    let letter = row_letter(width, r);
-    match made {
-        Made::Widened => {
-            apply_letter(a, q, letter, work);
-            write_row(work, dst);
-        }
-        Made::Composite => {
-            apply_letter(b, q, letter, source);
-            apply_to_row(a, source, work, dst);
-        }
-        Made::Inverse => {
-            inverse_row(a, width, r, source, work);
-            write_row(work, dst);
-        }
-        Made::OfPauli => {
-            pauli_row(a, q, letter, work);
-            write_row(work, dst);
-        }
-        Made::OfGate {
-            gate,
-            first,
-            second,
-        } => {
-            put_image(gate_image(gate, first, second, q, letter), work);
-            write_row(work, dst);
-        }
+// a composed with b: b acts first.
+#[derive(Clone, Copy)]
+pub(crate) struct Composite<'a> {
+    pub(crate) a: &'a [u8],
+    pub(crate) b: &'a [u8],
+    pub(crate) width: usize,
+    ghost composes: { Composes a.now b.now width },
+}
+
+impl<'a> RowMaker for Composite<'a> {
+    ghost wide = { λ m. m.width };
+
+    ghost made = { λ m. compose (tableau_of m.a.now) (tableau_of m.b.now) };
+
+    fn width(&self) -> usize {
+        self.width
+    }
+
+    fn make_row(&self, r: usize, source: &mut [u8], work: &mut [u8]) {
+        let letter = row_letter(self.width, r);
+        apply_letter(self.b, row_qubit(self.width, r), letter, source);
+        apply_string(self.a, source, work);
+    }
+}
+
+// The inverse of the tableau t.
+#[derive(Clone, Copy)]
+pub(crate) struct Inverse<'a> {
+    pub(crate) t: &'a [u8],
+    ghost formed: { FormedTableau t.now },
+}
+
+impl<'a> RowMaker for Inverse<'a> {
+    ghost wide = { λ m. width_of m.t.now };
+
+    ghost made = { λ m. inverse (tableau_of m.t.now) };
+
+    fn width(&self) -> usize {
+        width(self.t)
+    }
+
+    fn make_row(&self, r: usize, source: &mut [u8], work: &mut [u8]) {
+        inverse_row(self.t, width(self.t), r, source, work);
+    }
+}
+
+// The tableau of the string s.
+#[derive(Clone, Copy)]
+pub(crate) struct OfPauli<'a> {
+    pub(crate) s: &'a [u8],
+    pub(crate) width: usize,
+    ghost spans: { Spans s.now width },
+}
+
+impl<'a> RowMaker for OfPauli<'a> {
+    ghost wide = { λ m. m.width };
+
+    ghost made = { λ m. pauli_tableau (string_of m.s.now) };
+
+    fn width(&self) -> usize {
+        self.width
+    }
+
+    fn make_row(&self, r: usize, _source: &mut [u8], work: &mut [u8]) {
+        let letter = row_letter(self.width, r);
+        pauli_row(self.s, row_qubit(self.width, r), letter, work);
+    }
+}
+
+// The tableau of a gate, widened.
+#[derive(Clone, Copy)]
+pub(crate) struct OfGate {
+    pub(crate) gate: usize,
+    pub(crate) first: usize,
+    pub(crate) second: usize,
+    pub(crate) width: usize,
+    ghost inside: { GateInside gate first second width },
+}
+
+impl RowMaker for OfGate {
+    ghost wide = { λ m. m.width };
+
+    ghost made = { λ m. widen m.width (gate_tableau m.gate m.first m.second) };
+
+    fn width(&self) -> usize {
+        self.width
+    }
+
+    fn make_row(&self, r: usize, _source: &mut [u8], work: &mut [u8]) {
+        let qubit = row_qubit(self.width, r);
+        let letter = row_letter(self.width, r);
+        let image = gate_image(self.gate, self.first, self.second, qubit, letter);
+        put_image(image, work);
     }
 }
 
 // Row r of it, over the front of dst.
-fn write_made_row(made: Made, a: &[u8], b: &[u8], width: usize, r: usize, dst: &mut [u8])
-    requires { MakesRow made a.now b.now width r dst.old }
-    ensures { dst.new ≡ row_written width (row_of (made_tableau made a.now b.now width) r) dst.old }
+fn write_made_row<M: RowMaker>(made: &M, r: usize, dst: &mut [u8])
+    requires { WritesRow (M.wide made.now) (M.made made.now) r dst.old }
+    ensures { dst.new ≡ row_written (M.wide made.now) (row_of (M.made made.now) r) dst.old }
 {
     let mut source = [0u8; STRING_LENGTH];
     let mut work = [0u8; STRING_LENGTH];
-    make_row(
-        made,
-        a,
-        b,
-        width,
-        r,
-        &mut source[0..width + 1],
-        &mut work[0..width + 1],
-        dst,
-    );
+    let end = made.width() + 1;
+    let work = &mut work[0..end];
+    made.make_row(r, &mut source[0..end], work);
+    write_row(work, dst);
 }
 
 // All rows, each at its own offset.
-fn write_rows(made: Made, a: &[u8], b: &[u8], width: usize, dst: &mut [u8])
-    requires { MakesAll made a.now b.now width dst.old }
-    ensures { dst.new ≡ written (Ok tt) (tableau_record (made_tableau made a.now b.now width)) dst.old }
+fn write_rows<M: RowMaker>(made: &M, dst: &mut [u8])
+    requires { WritesAll (M.wide made.now) (M.made made.now) dst.old }
+    ensures { dst.new ≡ written (Ok tt) (tableau_record (M.made made.now)) dst.old }
 {
+    let width = made.width();
     dst[0] = width as u8;
-    let mut r = 0;
-    while r < 2 * width {
+    for r in 0..2 * width {
         let at = row_offset(width, r);
-        write_made_row(made, a, b, width, r, &mut dst[at..]);
-        r += 1;
+        write_made_row(made, r, &mut dst[at..]);
     }
 }
 
 // The record of the tableau, where there is room for it.
-pub(crate) fn write_made(
-    made: Made,
-    a: &[u8],
-    b: &[u8],
-    width: usize,
-    dst: &mut [u8],
-) -> Result<(), Refusal>
-    requires { Makes made a.now b.now width }
-    ensures { MadeWritten made a.now b.now width dst.old dst.new result }
+pub(crate) fn write_made<M: RowMaker>(made: &M, dst: &mut [u8]) -> Result<(), Refusal>
+    requires { Made (M.wide made.now) (M.made made.now) }
+    ensures { TableauWritten (M.wide made.now) (M.made made.now) dst.old dst.new result }
 {
-    let answer = check_room(record_length(width), dst.len());
-    if let Ok(()) = answer {
-        write_rows(made, a, b, width, dst);
-    }
-    answer
+    check_room(record_length(made.width()), dst.len())?;
+    write_rows(made, dst);
+    Ok(())
 }

@@ -1,7 +1,7 @@
 -- The entries of the gates' tables and the rows made from them, as the functions on them promise one another.
 use Rattle.std.specs.Prelude.{◌≡◌, ℕ, zero, suc, ◌+◌, ◌<◌, ◌≤◌, Bool, ◌≢◌, List, [], ◌∷◌, length, nat_eq, slice_index}
+use lib.Pointwise.{pointwise}
 use Rattle.pauli_group.specs.PauliString.{PauliString, mul, scale, single}
-use Rattle.clifford_group.specs.Tableau.{all_to}
 use Rattle.clifford_gates.specs.Gates.{Image, one_qubit_gates, PairImage, TwoQubit}
 use Rattle.clifford_gates.specs.GateNumbers.{first_with}
 use Rattle.pauli.specs.Layout.{phase_byte, phase_of, letter_byte, letter_of}
@@ -48,17 +48,12 @@ unfoldable pub image_held : PhasedLetter → Image
 image_held p = record { phase = phase_of p.0; letter = letter_of p.1 }
 
 -- two entries are the same
-unfoldable pub same_entry : List ℕ → List ℕ → Bool
-same_entry a b = all_to 4 (λ k. nat_eq (slice_index a k) (slice_index b k))
+abbrev pub same_entry : List ℕ → List ℕ → Bool
+same_entry a b = pointwise nat_eq a b
 
 -- the first gate with this entry
 unfoldable pub first_entry : List ℕ → ℕ
 first_entry e = first_with (λ g. same_entry (image_bytes g) e) one_qubit_gates
-
--- r is the number n of a gate, or 24
-pub record NameIs (n r : ℕ) : Type 0 where
-  pub is : r ≡ n
-  pub small : r ≤ 24
 
 -- ---- rows of a gate's tableau
 

@@ -3,12 +3,12 @@ use Rattle.std.specs.Prelude.{◌≡◌, ℕ, ◌+◌, ◌-◌, ◌*◌, ◌<◌
 use Rattle.pauli_group.specs.Phase.{sign}
 use Rattle.pauli_group.specs.Letter.{anticommute}
 use Rattle.pauli_group.specs.PauliString.{PauliString, mul, scale, identity_string}
-use Rattle.clifford_group.specs.Tableau.{Tableau, apply}
+use Rattle.clifford_group.specs.Tableau.{Tableau}
 use Rattle.pauli.specs.Layout.{phase_byte, phase_of, letter_byte, letter_of, encode_string, decode_string, WellFormed}
 use Rattle.pauli.specs.Rows.{largest_to}
 use Rattle.clifford.specs.declared.layout.RowCheck.{RowCheck}
 use Rattle.clifford.specs.Questions.{row_question, true_weight, first_false}
-use Rattle.clifford.specs.Layout.{row_length, encode_row, letter_in, letters_of, row_part, row_offset, record_length, longest_record, width_of, tableau_of, FormedTableau}
+use Rattle.clifford.specs.Layout.{row_length, encode_row, letter_in, letters_of, row_part, row_offset, record_length, longest_record, width_of, FormedTableau}
 
 -- r is the size or offset n in a record
 pub record Sized (n r : ℕ) : Type 0 where
@@ -38,10 +38,6 @@ cleared_row n p = encode_string (n - 1) (scale (phase_of p) identity_string)
 unfoldable pub row_written : ℕ → PauliString → List ℕ → List ℕ
 row_written w s d = encode_row w s ++ drop (row_length w) d
 
--- the image of the string in s through the record b, as a row of as many letters as the work row k has, over the front of d
-abbrev pub image_written : (b s k d : List ℕ) → List ℕ
-image_written b s k d = row_written (letters_in k) (apply (tableau_of b) (string_in s)) d
-
 -- a tableau with row r replaced
 unfoldable pub with_row : Tableau → ℕ → PauliString → Tableau
 with_row t r s = record {
@@ -60,6 +56,11 @@ sign_byte a l = phase_byte (sign (anticommute (letter_of a) (letter_of l)))
 pub record RowIndex (w r : ℕ) : Type 0 where
   pub narrow : w ≤ 128
   pub own : r < 2 * w
+
+-- a qubit of some record of width w
+pub record SlotIndex (w q : ℕ) : Type 0 where
+  pub narrow : w ≤ 128
+  pub own : q < w
 
 -- a row of the record b
 pub record OwnRow (b : List ℕ) (r : ℕ) : Type 0 where
@@ -86,10 +87,6 @@ pub record RowAt (at : ℕ) (p : List ℕ) (m : ℕ) : Type 0 where
   pub long : 1 < length p
   pub short : length p ≤ 130
   pub largest : m ≡ largest_to (length (letters_of p)) (letters_of p)
-
--- the first of n rows that has a false weight, kept: p so far, n where there is none, and then row r
-unfoldable pub kept_first : ℕ → ℕ → ℕ → Bool → ℕ
-kept_first p n r true-weight = cond true-weight p (cond (nat_lt p n) p r)
 
 -- p is its first row with a false weight, or the number of its rows
 pub record FirstFalse (b : List ℕ) (p : ℕ) : Type 0 where
@@ -182,11 +179,6 @@ pub record AppliesString (b s d : List ℕ) : Type 0 where
   pub wide : width_of b < length d
   pub reach : length s ≤ length d
   pub narrow : length d ≤ 129
-
--- the same, and room for the image as a row
-pub record AppliesRow (b s d out : List ℕ) : Type 0 where
-  pub applies : AppliesString b s d
-  pub room : row_length (letters_in d) ≤ length out
 
 -- the same, to a letter on qubit q
 pub record AppliesLetter (b d : List ℕ) (q : ℕ) : Type 0 where

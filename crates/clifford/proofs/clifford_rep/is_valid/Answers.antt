@@ -6,7 +6,7 @@ pub returns-in_err-check_tableau : goal.returns-in_err-check_tableau
 returns-in_err-check_tableau c = search (validity, c.in_err-check_tableau.ensures)
 
 pub valid_rows-requires : goal.valid_rows-requires
-valid_rows-requires c = search (validity, c.in_ok-check_tableau.was)
+valid_rows-requires c = search (validity, c.in_ok-check_tableau.ensures)
 
 pub returns : goal.returns
 returns c = search (validity, c.in_ok-check_tableau.ensures)

@@ -1,0 +1,18 @@
+-- `clifford_rep::extended_to` meets its contract.
+use Rattle.clifford.proofs.Answers.{extensions}
+use Rattle.clifford.proofs.clifford_rep.extended_to.Goals as goal
+
+pub returns-in_err-check_tableau : goal.returns-in_err-check_tableau
+returns-in_err-check_tableau c = search (extensions, c.in_err-check_tableau.ensures)
+
+pub returns-in_err-check_width : goal.returns-in_err-check_width
+returns-in_err-check_width c = search (extensions, c.in_err-check_width.ensures, c.in_ok-check_tableau.ensures)
+
+pub invariant_of-write_made : goal.invariant_of-write_made
+invariant_of-write_made c = search (extensions, c.in_ok-check_tableau.ensures, c.in_ok-check_width.ensures)
+
+pub write_made-requires : goal.write_made-requires
+write_made-requires c = search extensions
+
+pub returns : goal.returns
+returns c = search (extensions, c.in_ok-check_tableau.ensures, c.in_ok-check_width.ensures)
