@@ -26,9 +26,10 @@ use Rattle.pauli_laws.specs.DenseTexts.{◌among◌, prefixes, spellings, White,
 use Rattle.pauli_laws.proofs.Spellings.{each_among, Spelled, spelled, known_spelled, identity_unnamed}
 use Rattle.pauli_laws.proofs.TrimmedText.{white_append, Ends, blank-body, Between, Trimmed, trimmed}
 use Rattle.pauli_laws.proofs.Prefixes.{Prefixed, space-small, blank-phase, phase-is, dense-is, PrefixSplit, prefixed_none, prefix_split}
+use Rattle.std.specs.Prelude.{Ok}
+
 -- ---- the questions
 -- the byte c is known, and I where q is not below 128
-use Rattle.std.specs.Prelude.{Ok}
 
 record LetterFits (c q : ℕ) : Type 0 where
   known : (is_identity c || ltb 0 (letter_named c)) ≡ true

@@ -21,9 +21,9 @@ use Rattle.pauli.proofs.EntryMarks.{entries-even, letters-good, qubits-good, let
 use Rattle.pauli.proofs.Places.{none_left_lem, first-before}
 use Rattle.pauli.proofs.Records.{letter-back, letter_there, letter-small}
 use Rattle.pauli_laws.specs.EntryLists.{Entry, entry_bytes, Unnamed, NamedOnce, EntriesGiven, letter_for, named_string}
--- ---- one entry in front
 use Rattle.std.specs.Prelude.{Ok, None}
 
+-- ---- one entry in front
 module _ (x y : ℕ) (b : List ℕ) where
   count_front : entry_count (x ∷ y ∷ b) ≡ suc (entry_count b)
   unfolding entry_count

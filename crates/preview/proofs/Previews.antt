@@ -34,9 +34,9 @@ use Rattle.clifford.proofs.Records.{record-back}
 use Rattle.preview.specs.Inside.Sending.{letter_record, sent_through, LetterSent, LetterPreviewed, Sends}
 use Rattle.preview.specs.Previews.{preview_questions, preview_answer, composed_image}
 use Rattle.preview.specs.Promises.{Previewed}
--- ---- one letter
 use Rattle.std.specs.Prelude.{Ok, Err}
 
+-- ---- one letter
 length-blank : length {A = ℕ} (replicate 129 0) ≡ string_length
 length-blank = length-replicate {A = ℕ} 129 0
 

@@ -6,9 +6,9 @@ use Rattle.pauli.specs.Questions.{◌and_then◌, room_question}
 use Rattle.clifford.specs.Layout.{width_of, tableau_of}
 use Rattle.clifford.specs.Questions.{slot_question, compose_questions}
 use Rattle.clifford.specs.Tableaux.{compose_record}
--- "those of composing other than 7, then 15 for a row's qubit outside the larger width"
 use Rattle.pauli.specs.Answers.{Outcome}
 
+-- "those of composing other than 7, then 15 for a row's qubit outside the larger width"
 unfoldable pub preview_questions : List ℕ → List ℕ → ℕ → Outcome
 preview_questions a b q = compose_questions a b and_then slot_question q (max (width_of a) (width_of b))
 

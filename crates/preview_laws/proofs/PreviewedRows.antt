@@ -39,9 +39,9 @@ use Rattle.preview.specs.Promises.{Previewed}
 use Rattle.preview.specs.Inside.Sending.{sent_through}
 use Rattle.preview.proofs.Previews.{row-sent}
 use Rattle.preview_laws.specs.PreviewedRows.{row_index, row_as_string, ShowsRow, PreviewSentence}
--- ---- a row as a string
 use Rattle.std.specs.Prelude.{Ok, Err}
 
+-- ---- a row as a string
 listed_parts : (m n : ℕ) (f : ℕ → ℕ) → listed (m + n) f ≡ listed m f ++ listed n (λ k. f (m + k))
 unfolding listed
 listed_parts m zero f = let e : m + 0 ≡ m = omega arith in ap (λ (k : ℕ). listed k f) e ∙ sym (append-nil (listed m f))

@@ -13,6 +13,7 @@ ghost use Rattle.gate_list.specs.Promises.{ListRun, Reported};
 ghost use Rattle.refusal_lines.specs.Promises.{LineWritten};
 ghost use Rattle.renetcleat.specs.Replies.{Replied};
 
+use clifford::clifford_rep::{X, Z};
 use clifford::{clifford as gates, clifford_rep};
 use gate_list::gate_list as lists;
 use pauli::refusal::Reply;
@@ -126,28 +127,28 @@ pub extern "C" fn rc_identity(n: usize, dst: &mut [u8]) -> Reply
 pub extern "C" fn rc_x_image(t: &[u8], slot: usize) -> Reply
     ensures { Replied number_value (XImageAt t.now slot) result }
 {
-    Reply::from(clifford_rep::x_image_offset(t, slot))
+    Reply::from(clifford_rep::image_offset::<X>(t, slot))
 }
 
 #[unsafe(no_mangle)]
 pub extern "C" fn rc_z_image(t: &[u8], slot: usize) -> Reply
     ensures { Replied number_value (ZImageAt t.now slot) result }
 {
-    Reply::from(clifford_rep::z_image_offset(t, slot))
+    Reply::from(clifford_rep::image_offset::<Z>(t, slot))
 }
 
 #[unsafe(no_mangle)]
 pub extern "C" fn rc_set_x_image(t: &mut [u8], slot: usize, s: &[u8]) -> Reply
     ensures { Replied no_value (XImageSet slot s.now t.old t.new) result }
 {
-    Reply::from(clifford_rep::set_x_image(t, slot, s))
+    Reply::from(clifford_rep::set_image::<X>(t, slot, s))
 }
 
 #[unsafe(no_mangle)]
 pub extern "C" fn rc_set_z_image(t: &mut [u8], slot: usize, s: &[u8]) -> Reply
     ensures { Replied no_value (ZImageSet slot s.now t.old t.new) result }
 {
-    Reply::from(clifford_rep::set_z_image(t, slot, s))
+    Reply::from(clifford_rep::set_image::<Z>(t, slot, s))
 }
 
 #[unsafe(no_mangle)]

@@ -1,6 +1,7 @@
 // Replays vectors from standard input on the functions of `clifford`, `gate_play`, `preview` and `gate_list`.
 #![tactic(auto)]
 
+use clifford::clifford_rep::{Generator, X, Z};
 use clifford::{clifford as gates, clifford_rep};
 use gate_list::gate_list as lists;
 use gate_play::play;
@@ -35,10 +36,11 @@ fn is_row(t: &[u8], at: usize, part: &[u8]) -> bool {
 }
 
 // The value is the offset of the part handed out, so the part is compared with what stands there.
-fn image(case: &Case, answer: Result<(), Refusal>, part: &[u8]) -> Option<Reply> {
-    if answer.is_err() {
-        return told(answer);
-    }
+fn image<G: Generator>(case: &Case, slot: usize) -> Option<Reply> {
+    let part = match clifford_rep::image::<G>(case.a, slot) {
+        Ok(part) => part,
+        Err(why) => return told(Err::<(), _>(why)),
+    };
     let Expected::Exactly(Reply { value, .. }) = case.expected else {
         return None;
     };
@@ -117,23 +119,15 @@ fn call(case: &mut Case) -> Option<Reply> {
         "composed_z_image" => told(preview::composed_z_image(case.a, case.b, n, case.d)),
         "identity" => told(clifford_rep::identity(n, case.d)),
         "from_pauli_string" => told(clifford_rep::from_pauli_string(case.a, case.d)),
-        "set_x_image" => told(clifford_rep::set_x_image(case.d, n, case.a)),
-        "set_z_image" => told(clifford_rep::set_z_image(case.d, n, case.a)),
+        "set_x_image" => told(clifford_rep::set_image::<X>(case.d, n, case.a)),
+        "set_z_image" => told(clifford_rep::set_image::<Z>(case.d, n, case.a)),
         "is_valid" => told(clifford_rep::is_valid(case.a)),
         "extended_to" => told(clifford_rep::extended_to(case.a, n, case.d)),
         "inverse" => told(clifford_rep::inverse(case.a, case.d)),
         "support_qubits" => told(clifford_rep::support_qubits(case.a, case.d)),
         "display" => display(case.a, case.d),
-        "x_image" => image(
-            case,
-            clifford_rep::x_image_answer(case.a, n),
-            clifford_rep::x_image(case.a, n),
-        ),
-        "z_image" => image(
-            case,
-            clifford_rep::z_image_answer(case.a, n),
-            clifford_rep::z_image(case.a, n),
-        ),
+        "x_image" => image::<X>(case, n),
+        "z_image" => image::<Z>(case, n),
         _ => call_gates(case),
     }
 }
