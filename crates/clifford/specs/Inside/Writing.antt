@@ -1,17 +1,11 @@
 -- What a function that writes may count on once the questions have let it by.
 use Rattle.std.specs.Prelude.{◌≡◌, ℕ, ◌+◌, ◌*◌, ◌<◌, ◌≤◌, true, cond, List, length, slice_set}
 use Rattle.pauli_group.specs.PauliString.{PauliString, scale, commutation_sign, Within}
-use Rattle.pauli.specs.Layout.{string_length, string_of, WellFormed}
+use Rattle.pauli.specs.Layout.{string_of, WellFormed}
 use Rattle.clifford.specs.Layout.{width_of, tableau_of, FormedTableau}
 use Rattle.clifford.specs.Images.{pauli_width}
 use Rattle.clifford.specs.Support.{in_support, support_qubits}
 use Rattle.clifford.specs.Inside.Rows.{OwnRow, OwnQubit}
-
--- a tableau and a string, and room for a string
-pub record Applies (t s d : List ℕ) : Type 0 where
-  pub tableau : FormedTableau t
-  pub string : WellFormed 128 s
-  pub room : string_length ≤ length d
 
 -- ---- an image set
 
