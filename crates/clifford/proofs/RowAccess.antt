@@ -1,6 +1,6 @@
 -- The functions of `layout.rt` by their code: the places where it reads and writes are those of the layout. No other file of laws
 -- knows these places.
-use Rattle.std.proofs.Common.{◌≡◌, ℕ, suc, ◌+◌, ◌-◌, ◌*◌, ◌%◌, ◌<◌, ◌≤◌, min, cond, eqb, leb, List, [], ◌∷◌, ◌++◌, length, get_or, take, drop, set, sym, refl, ap, ◌∙◌, subst, ap₂, append-nil, not-suc-le-zero, arith, length-append, length-drop, length-set, drop_of_length-le, length-take, take_all, w64, Fits, rules, le-ltb, lt-ltb, le-leb, Ok, Err, true}
+use Rattle.std.proofs.Common.{◌≡◌, ℕ, suc, ◌+◌, ◌-◌, ◌*◌, ◌%◌, ◌<◌, ◌≤◌, min, cond, eqb, leb, List, [], ◌∷◌, ◌++◌, length, get_or, take, drop, set, sym, refl, ap, ◌∙◌, subst, ap₂, append-nil, not-suc-le-zero, arith, length-append, length-drop, length-set, drop_of_length-le, length-take, take_all, ext_get_or, w64, Fits, rules, le-ltb, lt-ltb, le-leb, Ok, Err, true}
 use lib.ListN.{get_or-eq_default}
 use borrow.Rule.Slice.PartMut.{put_mid}
 use borrow.Author.Tests.{lt-leb}
@@ -8,10 +8,11 @@ use Rattle.pauli_group.specs.Letter.{X, Z}
 use Rattle.pauli_group.specs.PauliString.{qubits, mul, identity_string, weight_to}
 use Rattle.pauli.specs.Layout.{phase_byte, phase_of, letter_byte, encode_string}
 use Rattle.pauli.specs.Rows.{phase_bytes_product, RowTimes, letter_count, largest_to, Scanned, copied, shorter}
-use Rattle.pauli.proofs.Places.{from, from_is, length_from, none_bad}
+use Rattle.pauli.proofs.Places.{length-listed, get_d_listed, from, from_is, length_from, none_bad}
 use Rattle.pauli.proofs.StringProducts.{row-product, row_product-is}
-use Rattle.clifford.specs.Layout.{letter_place, row_length, letters_of, decode_row, row_offset, record_length, longest_record, row_of, width_of, row_part, tableau_of, row_qubit, row_letter, read_row, letter_in, row_with, row_with_pair}
-use Rattle.clifford.specs.Inside.Rows.{Sized, RowIndex, RowInside, RowAt, RowChecked, OwnRow, OnRow, PairOnRow, LetterIndex, PairIndex, WorkOnRow, Finished, row_times, row_written, letters_in, string_in, row_letters, OwnLetter}
+use Rattle.clifford.specs.Layout.{letter_place, row_length, letters_of, decode_row, row_offset, record_length, longest_record, row_of, width_of, row_part, tableau_of, row_qubit, row_letter, read_row, letter_in, row_with, row_with_pair, FormedTableau}
+use Rattle.pauli.specs.Places.{listed}
+use Rattle.clifford.specs.Inside.Rows.{letter_bytes, Sized, RowIndex, RowInside, RowAt, RowChecked, OwnRow, OnRow, PairOnRow, LetterIndex, PairIndex, WorkOnRow, Finished, row_times, row_written, letters_in, string_in, row_letters, OwnLetter}
 use Rattle.clifford.proofs.Records.{record-small}
 use Rattle.pauli.specs.declared.refusal.Refusal.TheVariants.{BadByte}
 use Rattle.pauli.specs.declared.rows.LetterScan.{LetterScan}
@@ -20,7 +21,7 @@ use Rattle.pauli.proofs.Asking.{asked_yes, asked_no, refused, passed}
 use Rattle.clifford.specs.Questions.{row_question, true_weight}
 use lib.Bits.{bit_xor}
 use Rattle.clifford.specs.Playing.{table_entry, letter_table_on_row, pair_table_on_row}
-use Rattle.clifford.proofs.Rows.{place_is, row-some, letter_in-row, letters-from, row-letter, row-phase, row_inside, row_part_lem, row_room, row-string, row_as_string_lem, row_of-work, get_d_part, capped_letter, capped_phase, read_own, read_wide, read_over, length_part, own_row, own-some, own-more, own-letter, weight_counted}
+use Rattle.clifford.proofs.Rows.{place_is, row-some, letter_in-row, letters-from, row-letter, row-phase, row_inside, row_part_lem, row_room, row-string, row_as_string_lem, row_of-work, own_letters_long, own-letter_byte, get_d_part, capped_letter, capped_phase, read_own, read_wide, read_over, length_part, own_row, own-some, own-more, own-letter, weight_counted}
 use Rattle.clifford.proofs.Asking.{bytes_bad, bytes_good}
 use Rattle.pauli.specs.Answers.{Outcome}
 
@@ -89,6 +90,23 @@ unfolding row_letters
 letters_read b {p} r e = letters-from p ∙ ap letters_of e
 
 pub ruleset row_reads = (own-more, letters_read, own-inside, rules)
+
+-- of a record that has passed the questions
+module _ {b : List ℕ} {r : ℕ} (f : FormedTableau b) (h : r < 2 * width_of b) where
+  pub formed-phase : {p : ℕ} → p ≡ phase_byte (read_row b r).phase → p ≡ phase_byte (row_of (tableau_of b) r).phase
+  formed-phase e = e ∙ ap (λ s. phase_byte s.phase) (read_own b r f.narrow h)
+
+  pub formed_letters : {l : List ℕ} → l ≡ row_letters b r → l ≡ letter_bytes (tableau_of b) r
+  unfolding letter_bytes tableau_of
+  formed_letters {l} e =
+      let o : OwnRow b r = record { tableau = f; own = h } in
+      let w : ℕ = width_of b in
+      let long : length (row_letters b r) ≡ w = own_letters_long o in
+      let byte : ℕ → ℕ = λ q. letter_byte ((row_of (tableau_of b) r).letters q) in
+      e ∙ ext_get_or 0 (row_letters b r) (listed w byte) (long ∙ sym (length-listed w byte))
+      (λ q k. own-letter_byte o q (omega arith) ∙ sym (get_d_listed w byte q 0 (omega arith)))
+
+pub ruleset formed_rows = (formed-phase, formed_letters, rules)
 
 -- ---- one letter of a row
 pub letter-row : {b : List ℕ} {r q : ℕ} → OwnLetter b r q → OwnRow b r

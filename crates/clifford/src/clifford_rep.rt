@@ -7,13 +7,11 @@ ghost use Rattle.clifford.specs.Tableaux.{x_image_part, z_image_part};
 ghost use Rattle.clifford.specs.Promises.{XImageAt, ZImageAt, XImageSet, ZImageSet, IdentityWritten, Applied, Composed, Extended, Inverted, ValidityTold, FromPauliString, SupportWritten, Displayed};
 
 use crate::applying::apply_string;
-use crate::displaying::{display_length, starts_with, write_display};
 use crate::layout::{row, row_offset, width};
 use crate::pauli_tableau::span;
 use crate::questions::{check_slot, check_tableau, check_tableaux, check_width};
 use crate::setting::{check_inside, set_row};
-use crate::support::{support_count, write_support};
-use crate::validity::valid_rows;
+use crate::tableau::TableauRecord;
 use crate::writing::{Made, write_made};
 use pauli::STRING_LENGTH;
 use pauli::questions::{and_then, check_room, check_string};
@@ -202,7 +200,7 @@ pub fn is_valid(t: &[u8]) -> Result<bool, Refusal>
     ensures { ValidityTold t.now result }
 {
     check_tableau(t)?;
-    Ok(valid_rows(t))
+    Ok(TableauRecord::of(t).is_valid())
 }
 
 // ---- the tableau of a Pauli string
@@ -225,7 +223,7 @@ fn support_answer(t: &[u8], room: usize) -> Result<(), Refusal>
 {
     let first = check_tableau(t);
     if let Ok(()) = first {
-        return check_room(support_count(t), room);
+        return check_room(TableauRecord::of(t).support_count(), room);
     }
     first
 }
@@ -237,8 +235,9 @@ pub fn support_qubits(t: &[u8], dst: &mut [u8]) -> Result<usize, Refusal>
     let answer = support_answer(t, dst.len());
     match answer {
         Ok(()) => {
-            write_support(t, dst);
-            Ok(support_count(t))
+            let tableau = TableauRecord::of(t);
+            tableau.write_support(dst);
+            Ok(tableau.support_count())
         }
         Err(why) => Err(why),
     }
@@ -251,7 +250,7 @@ fn display_answer(t: &[u8], room: usize) -> Result<(), Refusal>
 {
     let first = check_tableau(t);
     if let Ok(()) = first {
-        return check_room(display_length(t), room);
+        return check_room(TableauRecord::of(t).display_length(), room);
     }
     first
 }
@@ -262,7 +261,7 @@ pub fn display(t: &[u8], dst: &mut [u8]) -> Result<usize, Refusal>
 {
     let answer = display_answer(t, dst.len());
     match answer {
-        Ok(()) => Ok(write_display(t, dst)),
+        Ok(()) => Ok(TableauRecord::of(t).write_display(dst)),
         Err(why) => Err(why),
     }
 }
@@ -271,5 +270,5 @@ pub fn display(t: &[u8], dst: &mut [u8]) -> Result<usize, Refusal>
 pub fn starts_with_name(text: &[u8]) -> bool
     ensures { result ≡ starts_with name_text text.now }
 {
-    starts_with(text, b"CliffordRep(")
+    text.starts_with(b"CliffordRep(")
 }

@@ -8,7 +8,8 @@ use Rattle.pauli.specs.Layout.{phase_byte, phase_of, letter_byte, letter_of, enc
 use Rattle.pauli.specs.Rows.{largest_to}
 use Rattle.clifford.specs.declared.layout.RowCheck.{RowCheck}
 use Rattle.clifford.specs.Questions.{row_question, true_weight, first_false}
-use Rattle.clifford.specs.Layout.{row_length, encode_row, letter_in, letters_of, row_part, row_offset, record_length, longest_record, width_of, tableau_of, FormedTableau}
+use Rattle.clifford.specs.Layout.{row_length, encode_row, letter_in, letters_of, row_part, row_offset, record_length, longest_record, width_of, row_of, tableau_of, FormedTableau}
+use Rattle.pauli.specs.Places.{listed}
 
 -- r is the size or offset n in a record
 pub record Sized (n r : ℕ) : Type 0 where
@@ -18,6 +19,10 @@ pub record Sized (n r : ℕ) : Type 0 where
 -- the letter bytes of row r of a record
 unfoldable pub row_letters : List ℕ → ℕ → List ℕ
 row_letters b r = letters_of (row_part b r)
+
+-- the letter bytes that row r of a tableau has in its record
+unfoldable pub letter_bytes : Tableau → ℕ → List ℕ
+letter_bytes t r = listed t.width (λ q. letter_byte ((row_of t r).letters q))
 
 -- the letters of a work row in number, and its string
 abbrev pub letters_in : List ℕ → ℕ
