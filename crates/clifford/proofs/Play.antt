@@ -15,7 +15,7 @@ use Rattle.pauli.specs.Layout.{phase_byte, phase_of, letter_byte, letter_of}
 use Rattle.pauli.proofs.Places.{from, get_d_listed}
 use Rattle.pauli.proofs.Records.{phase-back, letter-back, letter-small}
 use Rattle.clifford.specs.Layout.{row_length, row_offset, record_length, joined, width_of, weight_place, row_part, letter_in, row_with, with_image, row_with_pair, weight_change, with_pair, each_row}
-use Rattle.clifford.specs.Inside.Rows.{Sized, RowIndex, Laid, OnRow, PairOnRow}
+use Rattle.clifford.specs.Inside.Rows.{Sized, RowIndex, Laid}
 use Rattle.clifford.specs.Playing.{gate_on_row, second_fits, playable, played, GatePlayed, letter_column, letter_table, pair_column, pair_table, letter_tables, pair_tables, table_entry, letter_table_on_row, pair_table_on_row, table_on_row, played_by, PlayedBy}
 use Rattle.clifford.specs.Inside.Playing.{PlaysLetters, PlaysPairs}
 use Rattle.clifford.proofs.Joining.{joined_ext}
@@ -147,14 +147,8 @@ module _ {f : List ℕ → List ℕ} {w : ℕ} {t₀ : List ℕ} {i : ℕ} {t : 
       pub played_start : at ≤ length t
       played_start = bytes_start m.rows h z
 
-      place_inside : (q : ℕ) → q < width_of t₀ → q + 2 < length (from at t)
-      place_inside q l = omega (arith, bytes-room m.rows h z, place_is q, letter_in-row w q (omega (arith, m.wide)))
-
-      pub letters-row : {g q : ℕ} → PlaysLetters g q t₀ → OnRow q (from at t)
-      letters-row {q = q} o = record { own = place_inside q o.qubit }
-
-      pub pairs-row : {k q r : ℕ} → PlaysPairs k q r t₀ → PairOnRow q r (from at t)
-      pairs-row {q = q} {r} o = record { first = place_inside q o.first; second = place_inside r o.second }
+      pub row-place : (q : ℕ) → q < width_of t₀ → q + 2 < length (from at t)
+      row-place q l = omega (arith, bytes-room m.rows h z, place_is q, letter_in-row w q (omega (arith, m.wide)))
 
       pub played-more : {ys : List ℕ} → ys ≡ f (from at t) → PlayedTo f w t₀ (i + 1) (put_mid at (length t - at) t ys)
       played-more {ys} k = record {
@@ -180,8 +174,7 @@ pub ruleset plays = (
   played_all,
   played_index,
   played_start,
-  letters-row,
-  pairs-row,
+  row-place,
   played-more,
   rules,
 )

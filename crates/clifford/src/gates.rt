@@ -12,7 +12,6 @@ ghost use Rattle.clifford.specs.GateRows.{image_bytes, y_bytes, ImageOf};
 ghost use Rattle.clifford.specs.Inside.GateRows.{pair_bytes, image_held, same_entry, first_entry, NameIs, TakesTwo, EntryPlace, entry_pair, OneRow, ImageAsked, RowImageOf, row_image_string, PutsImage};
 
 use crate::applying::{clear_row, multiply_letter};
-use crate::layout::wide;
 use pauli::algebra::{PhasedLetter, multiply_paulis};
 use pauli::rows::phase_times;
 
@@ -173,7 +172,7 @@ pub(crate) fn product_number(index: usize) -> usize
     requires { index < 24 }
     ensures { result ≡ slice_index product_gates index }
 {
-    wide(PRODUCTS[index])
+    usize::from(PRODUCTS[index])
 }
 
 pub(crate) fn inverse_number(gate: usize) -> u8
@@ -226,7 +225,7 @@ pub(crate) fn gate_image(gate: usize, q: usize, r: usize, k: usize, letter: u8) 
         }
         return on_one(0, k, letter);
     }
-    let row = 6 * wide(letter);
+    let row = 6 * usize::from(letter);
     if k == q {
         return on_two(gate, row - 6, q, r);
     }

@@ -2,7 +2,7 @@
 ghost use Rattle.std.specs.Prelude.{◌≡◌, ◌*◌, min};
 ghost use Rattle.pauli.specs.Questions.{◌and_then◌};
 ghost use Rattle.clifford.specs.Layout.{record_length, width_of};
-ghost use Rattle.clifford.specs.Inside.Rows.{Laid, kept_first};
+ghost use Rattle.clifford.specs.Inside.Rows.{Laid};
 ghost use Rattle.clifford.specs.Questions.{width_question, slot_question, rows_question, weights_question, tableau_questions, compose_questions};
 ghost use Rattle.clifford.specs.GateQuestions.{gate_question, different_question};
 
@@ -39,35 +39,17 @@ pub fn check_slot(slot: usize, width: usize) -> Result<(), Refusal>
     Err(Refusal::Slot { slot, width })
 }
 
-// The first of n rows that has a false weight, kept: so far there is first, which is n where there is none.
-fn keep_first(first: usize, n: usize, r: usize, weighed: bool) -> usize
-    ensures { result ≡ kept_first first n r weighed }
-{
-    if weighed {
-        return first;
-    }
-    if first < n {
-        return first;
-    }
-    r
-}
-
 // Questions 3 and 24, in one pass over the rows: every 3 comes before a 24.
 fn check_rows(t: &[u8]) -> Result<(), Refusal>
     requires { Laid t.now }
     ensures { result ≡ rows_question (2 * width_of t.now) t.now and_then weights_question t.now }
 {
     let rows = 2 * width(t);
-    let mut first = rows;
-    let mut r = 0;
-    while r < rows {
-        let row = check_row(t, r);
-        let codes = row.codes;
-        let Ok(()) = codes else {
-            return codes;
-        };
-        first = keep_first(first, rows, r, row.weighed);
-        r += 1;
+    let mut first = None;
+    for r in 0..rows {
+        if !check_row(t, r)? {
+            first = first.or(Some(r));
+        }
     }
     check_weights(t, first)
 }

@@ -6,4 +6,4 @@ use Rattle.clifford.proofs.gates.product_number.Tie as tie
 
 pub product_number_spec : {M : Type 1} → statement M
 unfolding product_gates
-product_number_spec = tie.close (tie.spec (λ c. search rules) (λ c κs. search rules) (λ c. c.wide.ensures))
+product_number_spec = tie.close (tie.spec (λ c. search rules) (λ c κs. search rules) (λ c. c.from.ensures))
