@@ -1,7 +1,7 @@
 -- The questions put to tableaux: what is let by, and what an answer says of the bytes.
 use Rattle.std.proofs.Common.{◌≡◌, ℕ, zero, suc, ◌+◌, ◌-◌, ◌*◌, ◌<◌, ◌≤◌, min, Bool, true, false, cond, not, ltb, leb, List, [], ◌∷◌, length, get_or, sym, refl, ap, ◌∙◌, ap₂, not-suc-le-zero, add-one, arith, rules, ltb-false, ltb-true, le-ltb, lt-ltb, eq-eqb, ne_eqb, eqb-true, le-leb, leb-true, subst, Option, Some, None, IfSome, unwrap_or, Ok, Err, IsErrAnd}
 use Rattle.std.specs.Option.{option_or}
-use native.Mathlib.Decide.{ℕ_discrete, dec_lt}
+use native.Mathlib.Decide.{ℕ_discrete}
 use borrow.Author.Tests.{lt-leb, not-false}
 use Rattle.pauli_group.specs.PauliString.{qubits, weight_to}
 use Rattle.clifford_group.specs.Tableau.{Tableau, Proper}

@@ -3,7 +3,7 @@ use Rattle.std.proofs.Common.{◌≡◌, ℕ, zero, suc, ◌+◌, ◌-◌, ◌*�
 use native.Mathlib.Decide.{ℕ_discrete}
 use Rattle.pauli_group.specs.Phase.{◌·◌, negate, turn}
 use Rattle.pauli_group.specs.Letter.{Letter, X, Z, letter_phase, letter_mul, letter_product}
-use Rattle.pauli_group.specs.PauliString.{PauliString, qubits, product_to, phase_of_letters, mul, identity_string, scale, single, Within}
+use Rattle.pauli_group.specs.PauliString.{PauliString, qubits, product_to, phase_of_letters, mul, identity_string, scale, single}
 use Rattle.clifford_group.specs.Tableau.{Tableau, identity_tableau, row_image, image_of, apply_to, apply, widen, compose}
 use Rattle.clifford_gates.specs.Gates.{one_qubit_gates, two_qubit_gates}
 use Rattle.clifford_gates.specs.GateTableaux.{image_string, gate_on_each, on_qubit, pair_string, pair_row, on_qubits}

@@ -7,7 +7,7 @@ use Rattle.clifford_gates.proofs.GateNames.{gate-one}
 use Rattle.clifford_gates.proofs.GateInverses.{inverse_numbers_lem}
 use Rattle.clifford_gates.proofs.Products24.{products, product_small}
 use Rattle.pauli.specs.declared.refusal.Refusal.{Refusal}
-use Rattle.pauli.specs.Answers.{reply_to, Written, Outcome, Answer}
+use Rattle.pauli.specs.Answers.{Written, Outcome}
 use Rattle.pauli.specs.Questions.{◌and_then◌, qubit_question, room_question}
 use Rattle.pauli.proofs.Asking.{done_first, done_second, qubit-below}
 use Rattle.clifford.specs.Layout.{record_length, tableau_record}

@@ -1,7 +1,5 @@
 -- Validity, read off the rows of a record.
 use Rattle.std.proofs.Common.{◌≡◌, ℕ, zero, suc, ◌+◌, ◌*◌, ◌%◌, ◌<◌, ◌≤◌, Bool, true, false, not, ◌&&◌, eqb, ltb, List, length, sym, refl, ap, ◌∙◌, ap₂, not-suc-le-zero, add-one, arith, rules, le-ltb, lt-ltb, Ok}
-use mathlib.Core.Bool.{and-false}
-use native.Mathlib.Decide.{ℕ_discrete}
 use Rattle.pauli_group.specs.Phase.{is_real}
 use Rattle.pauli_group.specs.PauliString.{PauliString, qubits, anticommuting_places, commute}
 use Rattle.clifford_group.specs.Tableau.{Tableau, all_to, valid_qubit, valid_pair, is_valid}
@@ -11,12 +9,12 @@ use Rattle.pauli.proofs.Answers.{answers}
 use Rattle.pauli.proofs.Asking.{in_order}
 use Rattle.pauli.proofs.Records.{phase-back}
 use Rattle.pauli.proofs.RowProducts.{places_of-rows}
-use Rattle.clifford.specs.Layout.{row_of, read_row, width_of, tableau_of, FormedTableau}
-use Rattle.clifford.specs.Inside.Rows.{OwnRow, OwnRows, OwnQubit, OwnQubits, row_letters}
+use Rattle.clifford.specs.Layout.{row_of, width_of, tableau_of, FormedTableau}
+use Rattle.clifford.specs.Inside.Rows.{OwnRow, row_letters}
 use Rattle.clifford.specs.Tableaux.{record_valid}
 use Rattle.std.specs.List.{range_with_len, list_all}
 use Rattle.clifford.proofs.Ranges.{all-range}
-use Rattle.clifford.proofs.Rows.{row-x, row-z, own-phase, row_letters-at, row_inside, own_letters_long, width_of_lem}
+use Rattle.clifford.proofs.Rows.{row-x, row-z, row_letters-at, row_inside, own_letters_long, width_of_lem}
 use Rattle.clifford.proofs.Asking.{checked}
 
 -- ---- the phase of a row

@@ -27,23 +27,23 @@ pub record SpanFrom (s : List ℕ) (n : ℕ) : Type 0 where
 pub span_start : (s : List ℕ) → SpanFrom s 128
 span_start s = record { within = omega arith; is = refl }
 
-pub span_less : {s : List ℕ} {n : ℕ} → SpanFrom s n → 0 < n → get_or s n 0 ≡ 0 → SpanFrom s (n - 1)
+pub span_less : {s : List ℕ} {n : ℕ} → SpanFrom s n → 0 < n → get_or s (n - 1 + 1) 0 ≡ 0 → SpanFrom s (n - 1)
 unfolding last_to
 span_less {s} {n} m h e =
     let k : n ≡ n - 1 + 1 = omega arith in
-    let none = has_none s (n - 1) (omega (arith, m.within)) (ap (λ (j : ℕ). get_or s j 0) (sym k) ∙ e) in
+    let none = has_none s (n - 1) (omega (arith, m.within)) e in
     record {
       within = omega (arith, m.within);
       is = m.is ∙ ap (last s) (k ∙ add-one (n - 1)) ∙ ap (λ b. cond b (suc (n - 1)) (last s (n - 1))) none;
     }
 
-pub span_found : {s : List ℕ} {n : ℕ} → SpanFrom s n → 0 < n → (get_or s n 0 ≡ 0 → ⊥) → Span s n
+pub span_found : {s : List ℕ} {n : ℕ} → SpanFrom s n → 0 < n → (get_or s (n - 1 + 1) 0 ≡ 0 → ⊥) → Span s (n - 1 + 1)
 unfolding pauli_width qubits last_to
 span_found {s} {n} m h e =
     let k : n ≡ n - 1 + 1 = omega arith in
-    let some = has_one s (n - 1) (omega (arith, m.within)) (λ z. e (ap (λ (j : ℕ). get_or s j 0) k ∙ z)) in
+    let some = has_one s (n - 1) (omega (arith, m.within)) e in
     let here : last s 128 ≡ suc (n - 1) = m.is ∙ ap (last s) (k ∙ add-one (n - 1)) ∙ ap (λ b. cond b (suc (n - 1)) (last s (n - 1))) some in
-    record { is = omega (arith, here); small = m.within }
+    record { is = omega (arith, here); small = omega (arith, m.within) }
 
 pub span_none : {s : List ℕ} {n : ℕ} → SpanFrom s n → n ≤ 0 → Span s 1
 unfolding pauli_width qubits last_to

@@ -1,5 +1,5 @@
 -- The questions put to tableaux (scope document, "Questions on entry"), and those of each public function in their order.
-use Rattle.std.specs.Prelude.{ℕ, zero, suc, ◌+◌, ◌*◌, max, Bool, not, ◌&&◌, List, length, ◌==◌, nat_le, nat_lt, slice_index, Ok, false}
+use Rattle.std.specs.Prelude.{ℕ, zero, suc, ◌+◌, ◌*◌, max, Bool, not, ◌&&◌, List, length, ◌==◌, nat_le, nat_lt, slice_index, Ok}
 use Rattle.pauli_group.specs.PauliString.{PauliString, qubits, has_letter, weight_to}
 use Rattle.pauli.specs.declared.refusal.Refusal.TheVariants.{Width, Length, BadByte, ImageWidth, Slot, FalseWeight}
 use Rattle.pauli.specs.Places.{first_place}

@@ -2,7 +2,6 @@ use Rattle.std.proofs.Common.{rules, ◌∙◌, arith}
 use borrow.Author.Tests.{tests}
 use Rattle.std.proofs.lemmas.Iterator.{YieldsList-from_range}
 use Rattle.std.proofs.lemmas.Iterator.Search.{all_from_yields_List}
-use Rattle.clifford_group.specs.Tableau.{valid_pair}
 use Rattle.clifford.specs.Layout.{tableau_of}
 use Rattle.clifford.proofs.IsValid.{valid_row, rows-valid}
 use Rattle.clifford.proofs.tableau.TableauRecord.is_valid.Goals as goal

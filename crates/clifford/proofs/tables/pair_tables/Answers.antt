@@ -9,12 +9,8 @@ use Rattle.pauli.specs.Places.{listed}
 use Rattle.pauli.specs.Layout.{phase_byte, letter_byte, letter_of}
 use Rattle.clifford.specs.Layout.{pair_weight, weight_change}
 use Rattle.clifford.specs.Playing.{pair_column, pair_table, pair_tables}
-use Rattle.clifford.proofs.tables.pair_tables.Statement.{statement}
-use Rattle.clifford.proofs.tables.pair_tables.Tie as tie
+use Rattle.clifford.proofs.tables.pair_tables.Goals as goal
 
-returns : tie.Need-returns
+pub returns : goal.returns
 unfolding pair_tables pair_table pair_column weight_change pair_weight not_i listed pair_image pair_times pair_times_i own_image two_qubit_gate two_qubit_gates phase_byte letter_byte letter_of letter_mul letter_phase letter_product ◌·◌ negate turn
 returns c = refl
-
-pub pair_tables_spec : {M : Type 1} → statement M
-pair_tables_spec = tie.close (tie.spec returns)

@@ -8,12 +8,8 @@ use Rattle.clifford_gates.specs.Updates.{times_i, letter_image}
 use Rattle.pauli.specs.Places.{listed}
 use Rattle.pauli.specs.Layout.{phase_byte, letter_byte, letter_of}
 use Rattle.clifford.specs.Playing.{letter_column, letter_table, letter_tables}
-use Rattle.clifford.proofs.tables.letter_tables.Statement.{statement}
-use Rattle.clifford.proofs.tables.letter_tables.Tie as tie
+use Rattle.clifford.proofs.tables.letter_tables.Goals as goal
 
-returns : tie.Need-returns
+pub returns : goal.returns
 unfolding letter_tables letter_table letter_column listed letter_image times_i one_qubit_gate one_qubit_gates phase_byte letter_byte letter_of letter_mul letter_phase letter_product ◌·◌ negate turn
 returns c = refl
-
-pub letter_tables_spec : {M : Type 1} → statement M
-letter_tables_spec = tie.close (tie.spec returns)
