@@ -134,13 +134,7 @@ applied_all {b} {s} {d} {d₀} o k m h =
     applied_end m (omega (arith, length_from 1 s))
     ∙ ap (λ (j : ℕ). encode_string (j - 1) (apply (tableau_of b) (string_in s))) (length_cleared (get_or s 0 0) (omega (arith, o.wide)) k)
 
-pub applied-length : {b s d : List ℕ} {q : ℕ} {e : List ℕ} → AppliedTo b s d q e → length e ≡ length d
-applied-length m = m.long
-
-pub string-some : (b : List ℕ) {s d : List ℕ} → AppliesString b s d → 0 < length s
-string-some b o = omega (arith, o.string.long)
-
-pub ruleset applied-strings = (string-clear, applied-none, applied-work, applied-step, applied_all, applied-length, string-some, rules)
+pub ruleset applied-strings = (string-clear, applied-none, applied-work, applied-step, applied_all, rules)
 
 -- ---- one letter
 pub letter-clear : (b : List ℕ) {d : List ℕ} {q : ℕ} → AppliesLetter b d q → ClearRow d 0
@@ -166,10 +160,4 @@ letter-applied b d {e} {f} q l o k m =
     ∙ ap (λ s. encode_string (letters_in d) (mul s image)) (decoded_clear e (length d) 0 k ∙ scale_one identity_string)
     ∙ ap (encode_string (letters_in d)) (identity-mul image)
 
-pub letter-length : (b : List ℕ) {d e f : List ℕ} {q : ℕ} (s : PauliString) → AppliesLetter b d q → e ≡ cleared_row (length d) 0
-    → f ≡ row_times e s → length f ≡ length d
-letter-length b {d} {e} {f} s o k m =
-    let some : 0 < length d = omega (arith, o.wide) in
-    length-times f s (cleared_formed 0 some k) m ∙ length_cleared 0 some k
-
-pub ruleset applied-letters = (letter-clear, letter-work, letter-applied, letter-length, rules)
+pub ruleset applied-letters = (letter-clear, letter-work, letter-applied, rules)

@@ -100,8 +100,4 @@ pub valid-told : {t s : List ℕ} {b : Bool} → s ≡ t → b ≡ is_valid (tab
 unfolding record_valid
 valid-told d e = e ∙ ap (λ (x : List ℕ). is_valid (tableau_of x)) d
 
-pub ruleset qubit_validity = (qubit-is, rules)
-
-pub ruleset pair_validity = (pair_is, rules)
-
 pub ruleset validity = (checked, valid-told, answers, in_order, rules)

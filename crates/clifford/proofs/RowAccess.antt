@@ -35,22 +35,10 @@ record_sized w h = let e : 1 + 2 * w * (w + 2) ≡ record_length w = unfolded in
     unfolded = unfold record_length row_length letter_place in omega arith
 
 -- it is counted without overflow
-pub record-fits : (w : ℕ) → w ≤ 128 → Fits w64 (2 * w * (w + 2))
-record-fits w h = record { fits = omega (arith, (record_sized w h).small) }
-
-pub record_one_fits : (w : ℕ) → w ≤ 128 → Fits w64 (1 + 2 * w * (w + 2))
-record_one_fits w h = record { fits = omega (arith, (record_sized w h).small) }
-
 -- ---- where rows are
 row_end : (w r : ℕ) → RowIndex w r → 1 + r * (w + 2) + (w + 2) ≤ longest_record
 unfolding row_offset record_length row_length letter_place
 row_end w r i = omega (arith, row_room w r i.own, record-small w i.narrow)
-
-pub offset-fits : (w r : ℕ) → RowIndex w r → Fits w64 (r * (w + 2))
-offset-fits w r i = record { fits = omega (arith, row_end w r i) }
-
-pub offset_one_fits : (w r : ℕ) → RowIndex w r → Fits w64 (1 + r * (w + 2))
-offset_one_fits w r i = record { fits = omega (arith, row_end w r i) }
 
 offset-is : (w r : ℕ) → 1 + r * (w + 2) ≡ row_offset w r
 unfolding row_offset row_length letter_place
@@ -79,9 +67,6 @@ inside_index o e = record { narrow = omega (arith, o.laid.narrow); own = omega (
 
 pub inside-long : {b p : List ℕ} {r : ℕ} → RowInside b r → p ≡ row_part b r → length p ≡ row_length (width_of b)
 inside-long {b} {r = r} o e = ap length e ∙ length_part b (width_of b) r refl o.laid.long o.own
-
-pub inside-some : {b p : List ℕ} {r : ℕ} → RowInside b r → p ≡ row_part b r → 0 < length p
-inside-some {b} o e = omega (arith, inside-long o e, row-some (width_of b))
 
 pub inside-more : {b p : List ℕ} {r : ℕ} → RowInside b r → p ≡ row_part b r → 1 < length p
 inside-more {b} o e = omega (arith, inside-long o e, row-some (width_of b))
@@ -152,20 +137,7 @@ module _ (p : List ℕ) (at : ℕ) where
       pub codes-good : length (from 2 p) ≤ k → Ok tt ≡ row_question at p
       codes-good l = all_good (omega (arith, place, ap length (letters-from p)))
 
-module _ {at : ℕ} {p : List ℕ} {m : ℕ} (o : RowAt at p m) where
-  pub codes-some : 0 < length p
-  codes-some = omega (arith, o.long)
-
-  pub codes-more : 1 < length p
-  codes-more = o.long
-
-  pub codes_two_fits : Fits w64 (at + 2)
-  codes_two_fits = record { fits = omega (arith, o.small) }
-
-  pub codes-fits : {k : ℕ} → k < length (from 2 p) → Fits w64 (at + 2 + k)
-  codes-fits l = record { fits = omega (arith, o.small, o.short, length_from 2 p) }
-
-pub ruleset row-codes = (codes_bad_phase, codes-clean, codes_bad_letter, codes-good, codes-some, codes-more, codes_two_fits, codes-fits, rules)
+pub ruleset row-codes = (codes_bad_phase, codes-clean, codes_bad_letter, codes-good, rules)
 
 -- and whether its weight is true
 module _ {b : List ℕ} {r : ℕ} (o : RowInside b r) {n at : ℕ} (en : n ≡ width_of b) (s : Sized (row_offset n r) at) {p : List ℕ} (ep : p ≡ row_part b r)
@@ -197,7 +169,7 @@ module _ {b : List ℕ} {r : ℕ} (o : RowInside b r) {n at : ℕ} (en : n ≡ w
   unfolding answer_to
   row_refused {q = q} e h = exit-is q h ∙ ap (λ q. answer_to q (true_weight b r)) (e ∙ row_asked)
 
-pub ruleset row_checks = (row_at, row_passed, row_refused, inside_index, inside-some, inside-more, rules)
+pub ruleset row_checks = (row_at, row_passed, row_refused, inside_index, inside-more, rules)
 
 -- ---- a row of any bytes, read by letter
 module _ (b : List ℕ) (r : ℕ) {n : ℕ} (e : n ≡ width_of b) where
@@ -264,16 +236,7 @@ times-row {b} {d} {f} {ys} {r} {p} {x} o ef ep m =
     some_more : {n : ℕ} → suc n ≡ 0 → ⊥
     some_more e = omega arith
 
-pub work-some : {b d : List ℕ} {r : ℕ} → WorkOnRow b d r → 0 < length d
-work-some o = omega (arith, o.work.wide)
-
-pub work_some_more : {b d : List ℕ} {r : ℕ} (ys : List ℕ) → WorkOnRow b d r → length ys ≡ length (from 1 d) → 0 < length (put_mid 1 (length d - 1) d ys)
-work_some_more {b} {d} ys o e = omega (arith, length-append (take 1 d) (ys ++ drop (length d - 1) (drop 1 d)), length-take 1 d, o.work.wide)
-
 -- ---- a finished row written
-pub finished_some : {d out : List ℕ} → Finished d out → 0 < length d
-finished_some f = omega (arith, f.row.long)
-
 pub finished_room : {d out : List ℕ} → Finished d out → 0 < length out
 finished_room {d} f = omega (arith, f.room, row-some (letters_in d))
 
@@ -283,9 +246,6 @@ finished_next {d} {out} x f = omega (arith, f.room, row-some (letters_in d), len
 pub finished_letters : {d out : List ℕ} (x n : ℕ) → Finished d out → length d + 1 ≤ length (set (set out 0 x) 1 n)
 unfolding row_length letter_place
 finished_letters {d} {out} x n f = omega (arith, f.room, length-set (set out 0 x) 1 n, length-set out 0 x)
-
-pub finished-some : {d out : List ℕ} → Finished d out → 2 ≤ length d + 1
-finished-some f = omega (arith, finished_some f)
 
 -- a row with its phase and weight written, and its letters copied
 pub row_written_lem : (d out : List ℕ) {n : ℕ} {ys : List ℕ} → Finished d out → n ≡ letter_count (from 1 d) % 256 → ys ≡ from 1 d
@@ -316,35 +276,7 @@ pub letter-z : (w r : ℕ) → w ≤ r → 2 ≡ letter_byte (row_letter w r)
 unfolding row_letter letter_byte
 letter-z w r h = sym (ap (λ b. letter_byte (cond b X Z)) (le-ltb r w h))
 
-pub ruleset row_access = (
-  record-fits,
-  record_one_fits,
-  record_sized,
-  offset-fits,
-  offset_one_fits,
-  offset_sized,
-  inside_index,
-  own-inside,
-  part_end,
-  part_is,
-  qubit-x,
-  qubit-z,
-  letter-x,
-  letter-z,
-  work-on,
-  own-some,
-  own-more,
-  work-some,
-  work_some_more,
-  times-row,
-  finished_some,
-  finished_room,
-  finished_next,
-  finished_letters,
-  finished-some,
-  row_written_lem,
-  rules,
-)
+pub ruleset row_access = (own-some, own-more, finished_next, finished_room, record_sized, offset_sized, part_end, part_is, qubit-x, qubit-z, letter-x, letter-z, work-on, times-row, finished_letters, row_written_lem, rules)
 
 -- ---- a row changed by a gate's table
 -- a letter as it is read

@@ -83,14 +83,6 @@ module _ (t : List ℕ) (r : ℕ) {l : List ℕ} (el : l ≡ letter_bytes (table
         ap₂ (λ x y. x && y) (plus-is p ∙ ap is_plus_one (ap phase_of ep ∙ phase-back _)) (ea ∙ all-range n same ∙ ap (λ (j : ℕ). all_to j same) en)
 
 -- ---- a qubit
-pub x-letter : IsGenerator 1
-x-letter = record { some = omega arith; small = omega arith }
-
-pub z-letter : IsGenerator 2
-z-letter = record { some = omega arith; small = omega arith }
-
-pub ruleset generators = (x-letter, z-letter, rules)
-
 module _ (t : List ℕ) {n : ℕ} (en : n ≡ width_of t) {q : ℕ} (h : q < width_of t) where
   abbrev T : Tableau
   T = tableau_of t

@@ -97,21 +97,6 @@ pub record FirstFalse (b : List ℕ) (p : Option ℕ) : Type 0 where
   pub is : unwrap_or p (2 * width_of b) ≡ first_false b
   pub own : IfSome p (λ r. r < 2 * width_of b)
 
--- two rows of it; a qubit of it; and two qubits
-pub record OwnRows (b : List ℕ) (r p : ℕ) : Type 0 where
-  pub tableau : FormedTableau b
-  pub first : r < 2 * width_of b
-  pub second : p < 2 * width_of b
-
-pub record OwnQubit (b : List ℕ) (q : ℕ) : Type 0 where
-  pub tableau : FormedTableau b
-  pub own : q < width_of b
-
-pub record OwnQubits (b : List ℕ) (q r : ℕ) : Type 0 where
-  pub tableau : FormedTableau b
-  pub first : q < width_of b
-  pub second : r < width_of b
-
 -- a work row d with room for the letters of b's rows
 pub record WorkRow (b d : List ℕ) : Type 0 where
   pub tableau : FormedTableau b

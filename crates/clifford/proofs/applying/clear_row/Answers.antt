@@ -1,4 +1,4 @@
--- `applying::clear_row` meets its contract, by the laws of `Cleared`.
+-- `applying::clear_row` meets its contract.
 use Rattle.clifford.proofs.WorkRows.{clearing}
 use Rattle.clifford.proofs.applying.clear_row.Goals as goal
 
