@@ -42,7 +42,7 @@ fn write_label(dst: &mut [u8], at: usize, width: usize, r: usize) -> usize
     put_text(dst, arrow, b" -> ")
 }
 
-impl<'a> TableauRecord<'a> {
+impl TableauRecord<'_> {
     // The line of row r.
     fn write_line(&self, dst: &mut [u8], at: usize, r: usize) -> usize
         requires { r < 2 * width_of self.now }

@@ -185,7 +185,7 @@ pub(crate) fn change_letter(b: &mut [u8], q: usize, table: &[[u8; 4]; 2])
     b[q + 2] = table[1][k];
 }
 
-// The row at the front of b, changed on qubits q and r as the table says.
+// The row at the front of b, changed on qubits q and r as the table says, with its weight.
 pub(crate) fn change_pair(b: &mut [u8], q: usize, r: usize, table: &[[u8; 16]; 4])
     requires first { q + 2 < length b.old }
     requires second { r + 2 < length b.old }

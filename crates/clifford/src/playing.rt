@@ -23,7 +23,8 @@ fn is_playable(gate: usize, q: usize, r: usize, t: &[u8]) -> bool
     gate < 38 && q < n && second_fits(gate, q, r, n) && n <= QUBITS && t.len() == record_length(n)
 }
 
-// A one-qubit gate on each row, by its table.
+// A one-qubit gate on each row, by its table. This loop and the next are no generic function: what the function that changes a row may
+// count on, and that it reaches no other row, would be clauses longer than the loop.
 fn play_letters(tables: &[[[u8; 4]; 2]; 24], gate: usize, q: usize, t: &mut [u8])
     requires { PlaysLetters gate q t.old }
     ensures { t.new ≡ each_row (letter_table_on_row (slice_index_or tables.now gate []) q) t.old }

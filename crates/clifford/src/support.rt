@@ -18,7 +18,7 @@ fn single_byte(letter: u8, q: usize, c: usize) -> u8
     if c == q { letter } else { 0 }
 }
 
-impl<'a> TableauRecord<'a> {
+impl TableauRecord<'_> {
     // Whether row r is plus this letter on qubit q.
     fn is_single(&self, r: usize, letter: u8, q: usize) -> bool
         requires own { r < 2 * width_of self.now }

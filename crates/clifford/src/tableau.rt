@@ -1,4 +1,4 @@
-// A record that has passed the questions.
+// A record that has passed the questions, so that what reads it asks nothing more than a row or a qubit.
 ghost use Rattle.std.specs.Prelude.{◌≡◌, ℕ, ◌*◌, ◌<◌, ◌≤◌, List};
 ghost use Rattle.pauli_group.specs.PauliString.{commute};
 ghost use Rattle.pauli.specs.Layout.{phase_byte};

@@ -6,7 +6,7 @@ ghost use Rattle.clifford.specs.Layout.{tableau_of, width_of};
 
 use crate::tableau::TableauRecord;
 
-impl<'a> TableauRecord<'a> {
+impl TableauRecord<'_> {
     // The rows of one qubit.
     fn valid_qubit(&self, q: usize) -> bool
         requires { q < width_of self.now }
