@@ -7,6 +7,7 @@ use Rattle.clifford_group.specs.Tableau.{Tableau, image_of, apply_to, apply}
 use Rattle.clifford_group.proofs.Images.{image_I, within_image}
 use Rattle.clifford_group.proofs.Apply.{apply_to_start}
 use Rattle.pauli.specs.Layout.{phase_of, letter_of, encode_string, decode_string, WellFormed}
+use Rattle.pauli.proofs.Places.{from, from_at, length_from}
 use Rattle.pauli.proofs.Records.{length_encode, encode_formed, decode_encode, encode_decode, decode_within, decode_letter, decode_phase}
 use Rattle.clifford.specs.Layout.{tableau_of}
 use Rattle.clifford.specs.Inside.Rows.{WorkOnQubit, ClearRow, AppliesString, AppliesLetter, cleared_row, row_times, letters_in, string_in}
@@ -78,18 +79,18 @@ applied-work {b} {s} {d} m h = let o : AppliesString b s d = m.fits in record {
   place = omega (arith, o.reach, m.long, o.string.long);
 }
 
-pub applied-step : {b s d : List ℕ} {q : ℕ} {e f : List ℕ} → AppliedTo b s d q e → q < length s - 1
-    → f ≡ row_times e (image_of (tableau_of b) q (letter_of (get_or s (q + 1) 0))) → AppliedTo b s d (q + 1) f
-applied-step {b} {s} {d} {q} {e} {f} m h k =
+pub applied-step : {b s d : List ℕ} {q : ℕ} {e f : List ℕ} → AppliedTo b s d q e → q < length (from 1 s)
+    → f ≡ row_times e (image_of (tableau_of b) q (letter_of (get_or (from 1 s) q 0))) → AppliedTo b s d (q + 1) f
+applied-step {b} {s} {d} {q} {e} {f} m l k =
     let o : AppliesString b s d = m.fits in
+    let h : q < length s - 1 = omega (arith, length_from 1 s) in
     let t = tableau_of b in
-    let image : PauliString = image_of t q (letter_of (get_or s (q + 1) 0)) in
+    let image : PauliString = image_of t q (letter_of (get_or (from 1 s) q 0)) in
     let w = letters_in d in
     let same : letters_in e ≡ w = ap (λ (j : ℕ). j - 1) m.long in
-    let letter : letter_of (get_or s (q + 1) 0) ≡ (string_in s).letters q =
-    ap (λ (j : ℕ). letter_of (get_or s j 0)) (add-one q) ∙ sym (decode_letter (letters_in s) s q h) in
+    let letter : letter_of (get_or (from 1 s) q 0) ≡ (string_in s).letters q = ap letter_of (from_at s q) ∙ sym (decode_letter (letters_in s) s q h) in
     let inside : Within (letters_in e) image =
-    within_image t (proper_of o.tableau) (letters_in e) (omega (arith, width_of_lem b, o.wide)) q (letter_of (get_or s (q + 1) 0))
+    within_image t (proper_of o.tableau) (letters_in e) (omega (arith, width_of_lem b, o.wide)) q (letter_of (get_or (from 1 s) q 0))
     (omega (arith, o.reach, o.string.long)) in
     record {
       fits = o;
@@ -127,19 +128,13 @@ applied_end {b} {s} {d} {q} {e} m h =
     ∙ sym (apply_to-cut t (string_in s) (letters_in s) 128 (omega (arith, o.reach, o.narrow)) (decode_within (letters_in s) s)))
 
 pub applied_all : {b s d d₀ : List ℕ} {q : ℕ} {e : List ℕ} → AppliesString b s d → d₀ ≡ cleared_row (length d) (get_or s 0 0)
-    → AppliedTo b s d₀ q e → length s - 1 ≤ q
+    → AppliedTo b s d₀ q e → length (from 1 s) ≤ q
     → e ≡ encode_string (letters_in d) (apply (tableau_of b) (string_in s))
 applied_all {b} {s} {d} {d₀} o k m h =
-    applied_end m h
+    applied_end m (omega (arith, length_from 1 s))
     ∙ ap (λ (j : ℕ). encode_string (j - 1) (apply (tableau_of b) (string_in s))) (length_cleared (get_or s 0 0) (omega (arith, o.wide)) k)
 
-pub applied-length : {b s d : List ℕ} {q : ℕ} {e : List ℕ} → AppliedTo b s d q e → length e ≡ length d
-applied-length m = m.long
-
-pub string-some : (b : List ℕ) {s d : List ℕ} → AppliesString b s d → 0 < length s
-string-some b o = omega (arith, o.string.long)
-
-pub ruleset applied-strings = (string-clear, applied-none, applied-work, applied-step, applied_all, applied-length, string-some, rules)
+pub ruleset applied-strings = (string-clear, applied-none, applied-work, applied-step, applied_all, rules)
 
 -- ---- one letter
 pub letter-clear : (b : List ℕ) {d : List ℕ} {q : ℕ} → AppliesLetter b d q → ClearRow d 0
@@ -165,10 +160,4 @@ letter-applied b d {e} {f} q l o k m =
     ∙ ap (λ s. encode_string (letters_in d) (mul s image)) (decoded_clear e (length d) 0 k ∙ scale_one identity_string)
     ∙ ap (encode_string (letters_in d)) (identity-mul image)
 
-pub letter-length : (b : List ℕ) {d e f : List ℕ} {q : ℕ} (s : PauliString) → AppliesLetter b d q → e ≡ cleared_row (length d) 0
-    → f ≡ row_times e s → length f ≡ length d
-letter-length b {d} {e} {f} s o k m =
-    let some : 0 < length d = omega (arith, o.wide) in
-    length-times f s (cleared_formed 0 some k) m ∙ length_cleared 0 some k
-
-pub ruleset applied-letters = (letter-clear, letter-work, letter-applied, letter-length, rules)
+pub ruleset applied-letters = (letter-clear, letter-work, letter-applied, rules)

@@ -1,7 +1,8 @@
 -- The questions put to tableaux: what is let by, and what an answer says of the bytes.
 use mathlib.Core.Logic.{◌⊎◌}
-use Rattle.std.proofs.Common.{inl, inr, ◌≡◌, ℕ, zero, suc, ◌+◌, ◌-◌, ◌*◌, ◌<◌, ◌≤◌, min, Bool, true, false, cond, not, ltb, leb, List, [], ◌∷◌, length, get_or, sym, refl, ap, ◌∙◌, ap₂, not-suc-le-zero, add-one, arith, rules, ltb-false, ltb-true, le-ltb, lt-ltb, eq-eqb, ne_eqb, eqb-true, le-leb, leb-true, Ok, Err}
+use Rattle.std.proofs.Common.{inl, inr, ◌≡◌, ℕ, zero, suc, ◌+◌, ◌-◌, ◌*◌, ◌<◌, ◌≤◌, min, Bool, true, false, cond, not, ltb, leb, List, [], ◌∷◌, length, get_or, sym, refl, ap, ◌∙◌, ap₂, not-suc-le-zero, add-one, arith, rules, ltb-false, ltb-true, le-ltb, lt-ltb, eq-eqb, ne_eqb, eqb-true, le-leb, leb-true, Ok, Err, subst, Option, Some, None, IfSome, unwrap_or, IsErrAnd}
 use native.Mathlib.Decide.{ℕ_discrete, dec_lt}
+use Rattle.std.specs.Option.{option_or}
 use borrow.Author.Tests.{lt-leb, not-false}
 use Rattle.pauli_group.specs.PauliString.{qubits, weight_to}
 use Rattle.clifford_group.specs.Tableau.{Tableau, Proper}
@@ -9,15 +10,15 @@ use Rattle.pauli.specs.declared.refusal.Refusal.{Refusal}
 use Rattle.pauli.specs.declared.refusal.Refusal.TheVariants.{Width, Length, BadByte, Slot, FalseWeight}
 use Rattle.pauli.specs.Places.{first_place}
 use Rattle.pauli.specs.Questions.{ask, ◌and_then◌, first_bad, bytes_question}
-use Rattle.pauli.proofs.Asking.{asked_yes, asked_no, ask_done, exit_not, first_not, first_done, done_first, done_second, questions}
+use Rattle.pauli.proofs.Asking.{passed, refused, asked_yes, asked_no, ask_done, exit_not, first_not, first_done, done_first, done_second, questions}
 use Rattle.pauli.proofs.Places.{first-is, first-before, FirstSeen, first_start, first_found, first_held, first_past, first_end}
-use Rattle.clifford.specs.Layout.{weight_place, letter_place, letters_of, decode_row, record_length, row_length, row_offset, row_part, tableau_record, width_of, tableau_of, FormedRow, FormedTableau}
-use Rattle.clifford.specs.Inside.Rows.{Sized, RowIndex, Laid, RowInside, RowChecked, FirstFalse}
-use Rattle.clifford.specs.declared.layout.RowCheck.{RowCheck}
+use Rattle.clifford.specs.Layout.{weight_place, letter_place, letters_of, decode_row, record_length, row_length, row_offset, row_part, tableau_record, width_of, tableau_of, FormedRow, FormedTableau, longest_record}
+use Rattle.clifford.specs.Inside.Rows.{Sized, RowIndex, Laid, RowInside, FirstFalse, row_answer}
 use Rattle.clifford.specs.Questions.{width_question, length_question, row_question, rows_question, true_weight, first_false, weights_question, tableau_questions, slot_question}
 use Rattle.clifford.proofs.Rows.{letters-at, letters-long, length_part, row_part_lem}
 use Rattle.clifford.proofs.Records.{record-small, record_there, record-formed, proper_of}
-use Rattle.pauli.specs.Answers.{Outcome}
+use Rattle.pauli.specs.Answers.{Outcome, answer_to}
+use Rattle.pauli.proofs.Answers.{exit-is}
 
 -- ---- width, length, slot
 pub width-wide : {n : ℕ} → 128 < n → Err Width ≡ width_question n
@@ -113,30 +114,43 @@ rows_stay k (suc m) b {x} e =
     ap (λ (j : ℕ). rows_question j b) z ∙ asked-rows (k + m) b ∙ sym (first_not _ (sym (rows_stay k m b e)))
 
 -- the first row whose weight is false, kept
-first_kept : {f : ℕ → Bool} {n i p q : ℕ} → FirstSeen n f i p → i < n → f i ≡ true → q ≡ min p i → FirstSeen n f (i + 1) q
-first_kept {f} {n} {i} {p} {q} m h w e = elim (dec_lt p n) [
-  | yes l ↦ first_held m h l (omega (arith, m.before l))
-  | no l ↦ let z : n ≤ p = omega arith in first_found m h w z (omega arith)
-]
-
--- the rows before r are let by, and p is the first of them whose weight is false, or n
-pub record RowsGood (b : List ℕ) (n p r : ℕ) : Type 0 where
+-- the rows before r are let by, and p is the first of them whose weight is false
+pub record RowsGood (b : List ℕ) (n r : ℕ) (p : Option ℕ) : Type 0 where
   pub wide : n ≡ 2 * width_of b
   pub within : r ≤ n
   pub asked : rows_question r b ≡ Ok tt
-  pub weighed : FirstSeen n (λ k. not (true_weight b k)) r p
+  pub weighed : FirstSeen n (λ k. not (true_weight b k)) r (unwrap_or p n)
+  pub own : IfSome p (λ k. k < r)
 
-pub rows_start : (b : List ℕ) {n : ℕ} → n ≡ width_of b → RowsGood b (2 * n) (2 * n) 0
+pub rows_start : (b : List ℕ) {n : ℕ} → n ≡ width_of b → RowsGood b (2 * n) 0 None
 unfolding rows_question
-rows_start b {n} e = record { wide = ap (λ (j : ℕ). 2 * j) e; within = omega arith; asked = refl; weighed = first_start (2 * n) _ }
+rows_start b {n} e = record { wide = ap (λ (j : ℕ). 2 * j) e; within = omega arith; asked = refl; weighed = first_start (2 * n) _; own = tt }
 
-module _ {b : List ℕ} {n p r : ℕ} (m : RowsGood b n p r) where
+answer-done : {q : Outcome} {v w : Bool} → Ok w ≡ answer_to q v → (q ≡ Ok tt) × (v ≡ w)
+unfolding answer_to
+answer-done {q = Ok tt} e = (refl, cc)
+answer-done {q = Err x} e = absurd cc
+
+answer-exit : {q : Outcome} (v : Bool) {x : Refusal} → Err x ≡ answer_to q v → q ≡ Err x
+unfolding answer_to
+answer-exit {q = Ok tt} v e = absurd cc
+answer-exit {q = Err x} v e = cc
+
+module _ {b : List ℕ} {n r : ℕ} {p : Option ℕ} (m : RowsGood b n r p) where
   pub rows_done : n ≤ r → Ok tt ≡ rows_question (2 * width_of b) b
   rows_done h = let e : r ≡ 2 * width_of b = omega (arith, m.within, m.wide) in sym m.asked ∙ ap (λ (j : ℕ). rows_question j b) e
 
   pub rows-weighed : Laid b → n ≤ r → FirstFalse b p
   unfolding first_false
-  rows-weighed l h = record { narrow = l.narrow; is = first_end m.weighed h ∙ ap (λ (j : ℕ). first_place j (λ k. not (true_weight b k))) m.wide }
+  rows-weighed l h = record {
+    narrow = l.narrow;
+    is = ap (unwrap_or p) (sym m.wide) ∙ first_end m.weighed h ∙ ap (λ (j : ℕ). first_place j (λ k. not (true_weight b k))) m.wide;
+    own = some p m.own;
+  }
+    where
+      some : (p : Option ℕ) → IfSome p (λ k. k < r) → IfSome p (λ k. k < 2 * width_of b)
+      some None h = tt
+      some (Some k) h = omega (arith, m.within, m.wide)
 
   pub rows-asked : {v : Outcome} → n ≤ r → v ≡ weights_question b → v ≡ rows_question (2 * width_of b) b and_then weights_question b
   rows-asked h e = first_done (rows_done h) e
@@ -145,29 +159,41 @@ module _ {b : List ℕ} {n p r : ℕ} (m : RowsGood b n p r) where
     pub rows_inside : Laid b → RowInside b r
     rows_inside l = record { laid = l; own = omega (arith, m.wide) }
 
-    module _ {c : RowCheck} (e : RowChecked b r c) where
-      next : c.codes ≡ rows_question (suc r) b
-      next = first_done (sym m.asked) e.codes ∙ sym (asked-rows r b)
+    -- the next row is let by, and its weight is true or false
+    module _ {w : Bool} (e : Ok w ≡ row_answer b r) where
+      next : rows_question (r + 1) b ≡ Ok tt
+      next = ap (λ (j : ℕ). rows_question j b) (add-one r) ∙ asked-rows r b ∙ sym (passed (sym m.asked) refl (sym (answer-done e).0))
 
-      module _ (d : c.codes ≡ Ok tt) {q : ℕ} where
-        more : FirstSeen n (λ k. not (true_weight b k)) (r + 1) q → RowsGood b n q (r + 1)
-        more w = record {
-          wide = m.wide;
-          within = omega arith;
-          asked = ap (λ (j : ℕ). rows_question j b) (add-one r) ∙ sym next ∙ d;
-          weighed = w;
-        }
+      pub rows_more : w ≡ true → RowsGood b n (r + 1) p
+      rows_more t = record {
+        wide = m.wide;
+        within = omega arith;
+        asked = next;
+        weighed = first_past m.weighed h (ap not ((answer-done e).1 ∙ t)) refl;
+        own = some p m.own;
+      }
+        where
+          some : (p : Option ℕ) → IfSome p (λ k. k < r) → IfSome p (λ k. k < r + 1)
+          some None h = tt
+          some (Some k) h = omega arith
 
-        pub rows_more : not c.weighed ≡ false → q ≡ p → RowsGood b n q (r + 1)
-        rows_more w k = more (first_past m.weighed h (ap not (sym e.weighed) ∙ w) k)
+      pub rows_first : w ≡ false → RowsGood b n (r + 1) (option_or p (Some r))
+      rows_first t = record { wide = m.wide; within = omega arith; asked = next; weighed = weighed p m.weighed m.own; own = some p m.own }
+        where
+          weighed : (p : Option ℕ) → FirstSeen n (λ k. not (true_weight b k)) r (unwrap_or p n) → IfSome p (λ k. k < r)
+              → FirstSeen n (λ k. not (true_weight b k)) (r + 1) (unwrap_or (option_or p (Some r)) n)
+          weighed None m o = first_found m h (ap not ((answer-done e).1 ∙ t)) (omega arith) refl
+          weighed (Some k) m o = first_held m h (omega arith) refl
 
-        pub rows_false : not c.weighed ≡ true → q ≡ min p r → RowsGood b n q (r + 1)
-        rows_false w k = more (first_kept m.weighed h (ap not (sym e.weighed) ∙ w) k)
+          some : (p : Option ℕ) → IfSome p (λ k. k < r) → IfSome (option_or p (Some r)) (λ k. k < r + 1)
+          some None o = omega arith
+          some (Some k) o = omega arith
 
-      pub rows-refused : {x : Refusal} → c.codes ≡ Err x → Err x ≡ rows_question (2 * width_of b) b and_then weights_question b
-      rows-refused {x} d =
-          let z : suc r + (n - suc r) ≡ 2 * width_of b = omega (arith, m.wide) in
-          first_not _ (sym (rows_stay (suc r) (n - suc r) b (sym next ∙ d)) ∙ ap (λ (j : ℕ). rows_question j b) z)
+    pub rows-refused : {x : Refusal} {q : Outcome} → Err x ≡ row_answer b r → IsErrAnd q (λ e. e ≡ x) → q ≡ rows_question (2 * width_of b) b and_then weights_question b
+    rows-refused {x} {q} e d =
+        let z : r + 1 + (n - (r + 1)) ≡ 2 * width_of b = omega (arith, m.wide) in
+        let one : rows_question (r + 1) b ≡ Err x = ap (λ (j : ℕ). rows_question j b) (add-one r) ∙ asked-rows r b ∙ sym (passed (sym m.asked) refl (sym (answer-exit _ e))) in
+        refused _ (exit-is q d ∙ sym (rows_stay (r + 1) (n - (r + 1)) b one) ∙ ap (λ (j : ℕ). rows_question j b) z) (exit-is q d)
 
 pub laid-narrow : {b : List ℕ} {n : ℕ} → Laid b → n ≡ width_of b → n ≤ 128
 laid-narrow l e = omega (arith, l.narrow)
@@ -194,24 +220,28 @@ module _ (b : List ℕ) where
       never h = omega arith
 
 -- the first false one is known
-module _ {b : List ℕ} {p : ℕ} (o : FirstFalse b p) {n : ℕ} (e : n ≡ width_of b) where
-  pub false-narrow : n ≤ 128
-  false-narrow = omega (arith, o.narrow)
+module _ {b : List ℕ} {p : Option ℕ} (o : FirstFalse b p) where
+  pub false_index : {n r : ℕ} → n ≡ width_of b → p ≡ Some r → RowIndex n r
+  false_index {n} {r} e h = record { narrow = omega (arith, o.narrow); own = omega (arith, own) }
+    where
+      own : r < 2 * width_of b
+      own = subst (λ p. IfSome p (λ r. r < 2 * width_of b)) h o.own
 
-  pub false_index : p < 2 * n → RowIndex n p
-  false_index h = record { narrow = false-narrow; own = h }
-
-  pub false-row : {at : ℕ} → p < 2 * n → Sized (row_offset n p) at → Err (FalseWeight (at + 1)) ≡ weights_question b
+  pub false-row : {n r at : ℕ} → n ≡ width_of b → p ≡ Some r → Sized (row_offset n r) at → Err (FalseWeight (at + 1)) ≡ weights_question b
   unfolding weights_question
-  false-row h s =
-      ap (λ (k : ℕ). Err (FalseWeight (k + weight_place))) (s.is ∙ ap₂ row_offset e o.is)
-      ∙ asked_no (FalseWeight _) (lt-leb (2 * width_of b) (first_false b) (omega (arith, o.is)))
+  false-row {n} {r} e h s =
+      let first : r ≡ first_false b = sym (ap (λ p. unwrap_or p (2 * width_of b)) h) ∙ o.is in
+      let i : RowIndex n r = false_index e h in
+      ap (λ (k : ℕ). Err (FalseWeight (k + weight_place))) (s.is ∙ ap₂ row_offset e first)
+      ∙ asked_no (FalseWeight _) (lt-leb (2 * width_of b) (first_false b) (omega (arith, first, i.own)))
 
-  pub false-none : 2 * n ≤ p → Ok tt ≡ weights_question b
+  pub false-none : p ≡ None → Ok tt ≡ weights_question b
   unfolding weights_question
-  false-none h = asked_yes (FalseWeight _) (le-leb (2 * width_of b) (first_false b) (omega (arith, o.is)))
+  false-none h =
+      let all : 2 * width_of b ≡ first_false b = sym (ap (λ p. unwrap_or p (2 * width_of b)) h) ∙ o.is in
+      asked_yes (FalseWeight _) (le-leb (2 * width_of b) (first_false b) (omega arith))
 
-pub ruleset false-rows = (false-narrow, false_index, false-row, false-none, rules)
+pub ruleset false-rows = (false_index, false-row, false-none, rules)
 
 -- ---- all of them
 pub tableau-none : (b : List ℕ) → length b ≡ 0 → Err Length ≡ tableau_questions b
@@ -261,7 +291,7 @@ pub ruleset tableau-questions = (
   tableau-laid,
 )
 
-pub ruleset rows-questions = (rows_start, rows_inside, rows-weighed, rows-asked, laid-narrow, rules)
+pub ruleset rows-questions = (rows_start, rows_inside, rows_more, rows_first, rows-refused, rows-weighed, rows-asked, laid-narrow, rules)
 
 -- ---- what is admitted: a tableau's questions let by exactly the records of tableaux of width at most 128
 module _ (b : List ℕ) (e : tableau_questions b ≡ Ok tt) where

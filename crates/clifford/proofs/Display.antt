@@ -1,9 +1,9 @@
 -- The display text: its parts written one after another, its lines in their order, and the whole.
-use Rattle.std.proofs.Common.{◌≡◌, ℕ, zero, suc, ◌+◌, ◌-◌, ◌*◌, ◌/◌, ◌%◌, ◌<◌, ◌≤◌, min, true, false, cond, ◌&&◌, eqb, List, [], ◌∷◌, ◌++◌, length, get_or, drop, sym, refl, ap, ◌∙◌, ap₂, append_assoc, add-one, arith, length-append, drop_of_length-le, drop-cons, w64, Fits, rules, le-ltb, lt-ltb, eq-eqb, ne_eqb, Ok, Err}
+use Rattle.std.proofs.Common.{◌≡◌, ℕ, zero, suc, ◌+◌, ◌-◌, ◌*◌, ◌/◌, ◌%◌, ◌<◌, ◌≤◌, min, true, false, cond, ◌&&◌, eqb, List, [], ◌∷◌, ◌++◌, length, take, drop, sym, refl, ap, ◌∙◌, ap₂, append_assoc, add-one, arith, length-append, drop_of_length-le, drop-cons, w64, Fits, rules, le-ltb, lt-ltb, eq-eqb, ne_eqb, Ok, Err}
 use native.Mathlib.Decide.{ℕ_discrete}
 use Rattle.pauli_group.specs.Phase.{◌·◌, negate, turn}
 use Rattle.pauli_group.specs.Letter.{Letter, X, Z, letter_phase, letter_mul, letter_product}
-use Rattle.pauli_group.specs.PauliString.{PauliString, qubits, product_to, phase_of_letters, mul, identity_string, scale, single, Within}
+use Rattle.pauli_group.specs.PauliString.{PauliString, qubits, product_to, phase_of_letters, mul, identity_string, scale, single}
 use Rattle.clifford_group.specs.Tableau.{Tableau, identity_tableau, row_image, image_of, apply_to, apply, widen, compose}
 use Rattle.clifford_gates.specs.Gates.{one_qubit_gates, two_qubit_gates}
 use Rattle.clifford_gates.specs.GateTableaux.{image_string, gate_on_each, on_qubit, pair_string, pair_row, on_qubits}
@@ -29,35 +29,34 @@ use Rattle.clifford.specs.Layout.{letter_place, letter_in, row_length, row_offse
 use Rattle.clifford.specs.Questions.{tableau_questions}
 use Rattle.clifford.specs.Tableaux.{identity_record, compose_record}
 use Rattle.clifford.specs.GateAnswers.{gate_record}
-use Rattle.clifford.specs.Inside.Rows.{RowIndex, OwnRow, row_letters}
+use Rattle.clifford.specs.Inside.Rows.{letter_bytes}
 use Rattle.clifford.proofs.Joining.{joined-more}
 use Rattle.clifford.proofs.RowWriting.{qubit-below}
-use Rattle.clifford.proofs.Rows.{own-phase, row-x, row-z, row_letters-at, row_inside, own_letters_long, width_of_lem}
+use Rattle.clifford.proofs.Rows.{row-x, row-z, row_inside, width_of_lem}
+use Rattle.clifford.proofs.SupportQubits.{letters-long, letter-byte}
+use Rattle.pauli.specs.Rows.{copied}
+use Rattle.pauli.proofs.Records.{phase-back, letter-back}
+use Rattle.std.specs.Cmp.Lexicographic.{pointwise}
 use Rattle.clifford.proofs.Asking.{tableau-formed, checked}
 
 -- ---- the sparse text of a row
-module _ {t : List ℕ} {r : ℕ} (o : OwnRow t r) (p : ℕ) {l : List ℕ} (ep : phase_of p ≡ (row_of (tableau_of t) r).phase) (el : l ≡ row_letters t r) where
+module _ (t : List ℕ) (r : ℕ) (narrow : width_of t ≤ 128) (p : ℕ) {l : List ℕ} (ep : p ≡ phase_byte (row_of (tableau_of t) r).phase) (el : l ≡ letter_bytes (tableau_of t) r) where
   abbrev w : ℕ
   w = width_of t
 
   abbrev S : PauliString
   S = row_of (tableau_of t) r
 
-  long : length l ≡ w
-  long = ap length el ∙ own_letters_long o
-
   letter : (q : ℕ) → q < w → letter_at l q ≡ S.letters q
-  letter q h = ap (λ (x : List ℕ). letter_at x q) el ∙ row_letters-at t r q h
-
-  inside : Within w S
-  inside = row_inside t r
+  unfolding letter_at
+  letter q h = ap letter_of (letter-byte t r el q) ∙ letter-back (S.letters q)
 
   row_is : row_text p l ≡ sparse_text S
   unfolding row_text row_string sparse_text_to qubits
   row_is =
-      let all : min (length l) 128 ≡ w = omega (arith, long, o.tableau.narrow) in
+      let all : min (length l) 128 ≡ w = omega (arith, letters-long t r el, narrow) in
       ap (λ (j : ℕ). prefix_text (phase_of p) ++ body_text (entry_words j (letter_at l))) all
-      ∙ ap₂ (λ x ws. prefix_text x ++ body_text ws) ep (words_ext w (letter_at l) S.letters letter) ∙ text-within w S o.tableau.narrow inside
+      ∙ ap₂ (λ x ws. prefix_text x ++ body_text ws) (ap phase_of ep ∙ phase-back S.phase) (words_ext w (letter_at l) S.letters letter) ∙ text-within w S narrow (row_inside t r)
 
 -- ---- the header
 pub header_made : (n : ℕ) {a b c : ℕ} {d e f g : List ℕ} → Stored 0 name_text d e a → Stored a (decimal n) e f b
@@ -87,15 +86,16 @@ label_made w r eq x y z u =
 pub ruleset labels = (label_made, stored_same, rules)
 
 -- ---- a line
-pub line_made : {t d e f g l : List ℕ} {k r n a b s : ℕ} (p : ℕ) → OwnRow t r → n ≡ width_of t → phase_of p ≡ (row_of (tableau_of t) r).phase → l ≡ row_letters t r
-    → Stored k (label_text (row_letter n r) (row_qubit n r)) d e a → Stored a (row_text p l) e f b → Stored b (10 ∷ []) f g s → Stored k (line_text (tableau_of t) r) d g s
+pub line_made : (t : List ℕ) (r : ℕ) {d e f g l : List ℕ} {k n a b s : ℕ} (p : ℕ) → n ≡ width_of t → n ≤ 128 → p ≡ phase_byte (row_of (tableau_of t) r).phase
+    → l ≡ letter_bytes (tableau_of t) r → Stored k (label_text (row_letter n r) (row_qubit n r)) d e a → Stored a (row_text p l) e f b → Stored b (10 ∷ []) f g s
+    → Stored k (line_text (tableau_of t) r) d g s
 unfolding line_text
-line_made {t} {r = r} p o en ep el x y z =
+line_made t r p en small ep el x y z =
     stored_as
     (ap (λ (j : ℕ). label_text (row_letter j r) (row_qubit j r) ++ (sparse_text (row_of (tableau_of t) r) ++ (10 ∷ []))) (en ∙ sym (width_of_lem t)))
-    (stored_join x (stored_join (stored_as (row_is o p ep el) y) z))
+    (stored_join x (stored_join (stored_as (row_is t r (omega arith) p ep el) y) z))
 
-pub ruleset text_lines = (line_made, own-phase, stored_same, rules)
+pub ruleset text_lines = (line_made, stored_same, rules)
 
 -- ---- the order of the lines
 pub order_even : (w i : ℕ) → i % 2 ≡ 0 → i / 2 ≡ display_row w i
@@ -105,11 +105,6 @@ order_even w i h = sym (ap (λ b. cond b (i / 2) (w + i / 2)) (eq-eqb (i % 2) 0 
 pub order_odd : (w i : ℕ) → (i % 2 ≡ 0 → ⊥) → w + i / 2 ≡ display_row w i
 unfolding display_row
 order_odd w i h = sym (ap (λ b. cond b (i / 2) (w + i / 2)) (ne_eqb (i % 2) 0 h))
-
-pub order_fits : {w i : ℕ} → RowIndex w i → Fits w64 (w + i / 2)
-order_fits {w} {i} o = record { fits = omega (arith, o.narrow, o.own) }
-
-pub ruleset orders = (order_even, order_odd, order_fits, rules)
 
 pub order_below : (w i : ℕ) → i < 2 * w → display_row w i < 2 * w
 order_below w i h = elim (ℕ_discrete (i % 2) 0) [
@@ -190,77 +185,55 @@ display_short t h =
     let w = t.width in
     omega (arith, length-append (header_text w) (10 ∷ lines_text t (2 * w)), header_short w h, lines_short t h (2 * w) (omega arith))
 
--- ---- the loop that writes the lines from place a on: i so far, place k reached
-pub record Lines (t d : List ℕ) (n a i k : ℕ) (e : List ℕ) : Type 0 where
-  pub tableau : FormedTableau t
-  pub width : n ≡ width_of t
-  pub within : i ≤ 2 * n
-  pub text : Stored a (lines_text (tableau_of t) i) d e k
+-- ---- the loop that writes the lines of each qubit from place a on: those of q qubits so far, place k reached
+pub record Lines (t d : List ℕ) (a q k : ℕ) (e : List ℕ) : Type 0 where
+  pub text : Stored a (lines_text (tableau_of t) (2 * q)) d e k
 
-lines_narrow : {t d e : List ℕ} {n a i k : ℕ} → Lines t d n a i k e → n ≤ 128
-lines_narrow m = omega (arith, m.width, m.tableau.narrow)
-
-pub lines_none : {t d e f : List ℕ} {n h a : ℕ} → FormedTableau t → n ≡ width_of t → Stored 0 (header_text n) d e h
-    → Stored h (10 ∷ []) e f a → Lines t f n a 0 a f
+pub lines_none : (t : List ℕ) {e f : List ℕ} {w : List ℕ} {h a : ℕ} → Stored h w e f a → Lines t f a 0 a f
 unfolding lines_text joined
-lines_none {n = n} o en x y = record {
-  tableau = o;
-  width = en;
-  within = omega arith;
-  text = stored-none (record { fits = omega (arith, y.place) });
-}
+lines_none t y = record { text = stored-none (record { fits = omega (arith, y.place) }) }
 
-pub lines_fits : {t d e : List ℕ} {n a i k : ℕ} → Lines t d n a i k e → Fits w64 (2 * n)
-lines_fits m = record { fits = omega (arith, lines_narrow m) }
+module _ {t d e : List ℕ} {n a q k : ℕ} (en : n ≡ width_of t) (m : Lines t d a q k e) (h : q < n) where
+  pub lines_more : {f g : List ℕ} {s u : ℕ} → Stored k (line_text (tableau_of t) q) e f s → Stored s (line_text (tableau_of t) (n + q)) f g u → Lines t d a (q + 1) u g
+  unfolding lines_text
+  lines_more x y = record { text = stored_as more (stored_join (stored_join m.text x) y) }
+    where
+      T : Tableau
+      T = tableau_of t
 
-pub lines_next : {t d e : List ℕ} {n a i k : ℕ} → Lines t d n a i k e → i < 2 * n → Fits w64 (i + 1)
-lines_next m h = record { fits = omega (arith, lines_narrow m) }
+      line : ℕ → List ℕ
+      line i = line_text T (display_row T.width i)
 
-module _ {t d e : List ℕ} {n a i k : ℕ} (m : Lines t d n a i k e) (h : i < 2 * n) where
-  pub lines_index : RowIndex n i
-  lines_index = record { narrow = lines_narrow m; own = h }
+      more : (joined (2 * q) line ++ line_text T q) ++ line_text T (n + q) ≡ joined (2 * (q + 1)) line
+      more =
+          ap₂ (λ (i j : ℕ). (joined (2 * q) line ++ line_text T i) ++ line_text T j) (sym (order_x T.width q))
+          (ap (λ (j : ℕ). j + q) (en ∙ sym (width_of_lem t)) ∙ sym (order_z T.width q))
+          ∙ ap (λ (l : List ℕ). l ++ line (2 * q + 1)) (sym (joined-more (2 * q) line))
+          ∙ ap₂ (λ (i : ℕ) (j : ℕ). joined i line ++ line j) (sym (add-one (2 * q))) refl
+          ∙ sym (joined-more (2 * q + 1) line) ∙ ap (λ (j : ℕ). joined j line) (omega arith)
 
-  module _ {r : ℕ} (er : r ≡ display_row n i) where
-    pub lines_own : OwnRow t r
-    lines_own = record { tableau = m.tableau; own = omega (arith, m.width, order_below n i h) }
+pub lines_all : {t d e f g : List ℕ} {n h a q k : ℕ} → n ≡ width_of t → n ≤ 128 → q ≤ n → n ≤ q → Stored 0 (header_text n) d e h → Stored h (10 ∷ []) e f a
+    → Lines t f a q k g → TextWritten (text_of_tableau t) d g k
+unfolding text_of_tableau display_text
+lines_all {t} {n = n} {q = q} e narrow u l x y m =
+    let w = (tableau_of t).width in
+    let en : n ≡ w = e ∙ sym (width_of_lem t) in
+    let end : 2 * q ≡ 2 * w = omega arith in
+    whole-text
+    (omega (arith, display_short (tableau_of t) (omega arith)))
+    (stored_as (ap₂ (λ (j : ℕ) (v : ℕ). header_text j ++ (10 ∷ lines_text (tableau_of t) v)) en end) (stored_join x (stored_join y m.text)))
 
-    pub lines_more : {f : List ℕ} {s : ℕ} → Stored k (line_text (tableau_of t) r) e f s → Lines t d n a (i + 1) s f
-    unfolding lines_text
-    lines_more x = record { tableau = m.tableau; width = m.width; within = omega arith; text = stored_as more (stored_join m.text x) }
-      where
-        more : joined i (λ j. line_text (tableau_of t) (display_row (tableau_of t).width j)) ++ line_text (tableau_of t) r
-            ≡ joined (i + 1) (λ j. line_text (tableau_of t) (display_row (tableau_of t).width j))
-        more =
-            ap (λ (j : ℕ). joined i (λ j. line_text (tableau_of t) (display_row (tableau_of t).width j)) ++ line_text (tableau_of t) j)
-            (er ∙ ap (λ (j : ℕ). display_row j i) (m.width ∙ sym (width_of_lem t)))
-            ∙ sym (joined-more i (λ j. line_text (tableau_of t) (display_row (tableau_of t).width j)))
-            ∙ ap (λ (j : ℕ). joined j (λ j. line_text (tableau_of t) (display_row (tableau_of t).width j))) (sym (add-one i))
-
-module _ {t d e f g : List ℕ} {n h a i k : ℕ} (x : Stored 0 (header_text n) d e h) (y : Stored h (10 ∷ []) e f a) (m : Lines t f n a i k g) where
-  pub lines_same : length g ≡ length d
-  lines_same = stored_same m.text ∙ stored_same y ∙ stored_same x
-
-  pub lines_all : 2 * n ≤ i → TextWritten (text_of_tableau t) d g k
-  unfolding text_of_tableau display_text
-  lines_all l =
-      let w = (tableau_of t).width in
-      let en : n ≡ w = m.width ∙ sym (width_of_lem t) in
-      let end : i ≡ 2 * w = omega (arith, m.within) in
-      whole-text
-      (omega (arith, display_short (tableau_of t) (omega (arith, lines_narrow m))))
-      (stored_as (ap₂ (λ (j : ℕ) (v : ℕ). header_text j ++ (10 ∷ lines_text (tableau_of t) v)) en end) (stored_join x (stored_join y m.text)))
-
-pub ruleset line_loops = (lines_none, lines_fits, lines_next, lines_index, lines_own, lines_more, lines_same, lines_all, stored_same, rules)
+pub ruleset line_loops = (lines_none, lines_more, lines_all, stored_same, rules)
 
 -- ---- the questions, and what is written
 pub display_refused : (t : List ℕ) {x : Refusal} (room : ℕ) → Err x ≡ tableau_questions t → Err x ≡ display_answer t room
 unfolding display_answer
 display_refused t room h = first_not _ h
 
-pub display_asked : (t : List ℕ) {q : Outcome} {n : ℕ} (room : ℕ) → Ok tt ≡ tableau_questions t → n ≡ length (text_of_tableau t) → q ≡ room_question n room
-    → q ≡ display_answer t room
+pub display_asked : (t : List ℕ) {u : List ℕ} {q : Outcome} {n : ℕ} (room : ℕ) → Ok tt ≡ tableau_questions t → u ≡ t → n ≡ length (text_of_tableau u)
+    → q ≡ room_question n room → q ≡ display_answer t room
 unfolding display_answer
-display_asked t room h c q = first_done h (q ∙ ap (λ (k : ℕ). room_question k room) c)
+display_asked t room h d c q = first_done h (q ∙ ap (λ (k : ℕ). room_question k room) (c ∙ ap (λ (x : List ℕ). length (text_of_tableau x)) d))
 
 module _ (t d : List ℕ) (h : Ok tt ≡ display_answer t (length d)) where
   pub display_formed : FormedTableau t
@@ -271,45 +244,25 @@ module _ (t d : List ℕ) (h : Ok tt ≡ display_answer t (length d)) where
   unfolding display_answer
   room = room-is _ (length d) (done_second (tableau_questions t) _ (sym h))
 
-  pub display_done : {e : List ℕ} {n : ℕ} → TextWritten (text_of_tableau t) d e n → CountWritten (display_answer t (length d)) (text_of_tableau t) d e (Ok n)
-  display_done a = number-done h a.count (a.bytes ∙ copied-whole (text_of_tableau t) d room)
+  pub display_done : {e u : List ℕ} {n : ℕ} → u ≡ t → TextWritten (text_of_tableau u) d e n → CountWritten (display_answer t (length d)) (text_of_tableau t) d e (Ok n)
+  display_done z a =
+      number-done h (a.count ∙ ap (λ (x : List ℕ). length (text_of_tableau x)) z)
+      (a.bytes ∙ ap (λ (x : List ℕ). copied (text_of_tableau x) d) z ∙ copied-whole (text_of_tableau t) d room)
 
 pub ruleset displays = (checked, exit_not, display_refused, display_asked, display_formed, display_done, text_same, number-exit, rules)
 
--- ---- whether a text starts with another: what is known once i bytes were alike
-pub record Alike (p s : List ℕ) (i : ℕ) : Type 0 where
-  pub within : i ≤ length p
-  pub rest : starts_with p s ≡ starts_with (drop i p) (drop i s)
+-- ---- whether a text starts with another
+eqb-sym : (x y : ℕ) → eqb x y ≡ eqb y x
+eqb-sym x y = elim (ℕ_discrete x y) [
+  | yes d ↦ eq-eqb x y d ∙ sym (eq-eqb y x (sym d))
+  | no d ↦ ne_eqb x y d ∙ sym (ne_eqb y x (λ e. d (sym e)))
+]
 
-pub alike-none : (p s : List ℕ) → Alike p s 0
-alike-none p s = record { within = omega arith; rest = refl }
-
-module _ {p s : List ℕ} {i : ℕ} (m : Alike p s i) where
-  pub alike-ended : length p ≤ i → true ≡ starts_with p s
-  unfolding starts_with
-  alike-ended h = sym (m.rest ∙ ap (λ (l : List ℕ). starts_with l (drop i s)) (drop_of_length-le p {i = i} h))
-
-  module _ (h : i < length p) where
-    pub alike-short : length s ≤ i → false ≡ starts_with p s
-    unfolding starts_with
-    alike-short k = sym (m.rest ∙ ap₂ starts_with (drop-cons p i 0 h) (drop_of_length-le s {i = i} k))
-
-    module _ (k : i < length s) where
-      both : starts_with p s ≡ eqb (get_or s i 0) (get_or p i 0) && starts_with (drop (suc i) p) (drop (suc i) s)
-      unfolding starts_with
-      both = m.rest ∙ ap₂ starts_with (drop-cons p i 0 h) (drop-cons s i 0 k)
-
-      pub alike-other : (get_or s i 0 ≡ get_or p i 0 → ⊥) → false ≡ starts_with p s
-      alike-other d = sym (both ∙ ap (λ b. b && starts_with (drop (suc i) p) (drop (suc i) s)) (ne_eqb _ _ d))
-
-      pub alike-more : get_or s i 0 ≡ get_or p i 0 → Alike p s (i + 1)
-      alike-more e = record {
-        within = omega arith;
-        rest = both ∙ ap (λ b. b && starts_with (drop (suc i) p) (drop (suc i) s)) (eq-eqb _ _ e)
-            ∙ ap (λ (j : ℕ). starts_with (drop j p) (drop j s)) (sym (add-one i));
-      }
-
-pub ruleset starts = (alike-none, alike-ended, alike-short, alike-other, alike-more, rules)
+pub starts-is : (p s : List ℕ) → pointwise eqb p (take (length p) s) ≡ starts_with p s
+unfolding starts_with
+starts-is [] s = refl
+starts-is (x ∷ p) [] = refl
+starts-is (x ∷ p) (y ∷ s) = ap₂ (λ a b. a && b) (eqb-sym x y) (starts-is p s)
 
 -- every display text starts with its name
 starts_append : (p s : List ℕ) → starts_with p (p ++ s) ≡ true

@@ -1,4 +1,5 @@
 pub mod Joining
+pub mod Ranges
 pub mod Rows
 pub mod Records
 pub mod Asking

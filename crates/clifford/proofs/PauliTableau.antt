@@ -27,23 +27,23 @@ pub record SpanFrom (s : List ℕ) (n : ℕ) : Type 0 where
 pub span_start : (s : List ℕ) → SpanFrom s 128
 span_start s = record { within = omega arith; is = refl }
 
-pub span_less : {s : List ℕ} {n : ℕ} → SpanFrom s n → 0 < n → get_or s n 0 ≡ 0 → SpanFrom s (n - 1)
+pub span_less : {s : List ℕ} {n : ℕ} → SpanFrom s n → 0 < n → get_or s (n - 1 + 1) 0 ≡ 0 → SpanFrom s (n - 1)
 unfolding last_to
 span_less {s} {n} m h e =
     let k : n ≡ n - 1 + 1 = omega arith in
-    let none = has_none s (n - 1) (omega (arith, m.within)) (ap (λ (j : ℕ). get_or s j 0) (sym k) ∙ e) in
+    let none = has_none s (n - 1) (omega (arith, m.within)) e in
     record {
       within = omega (arith, m.within);
       is = m.is ∙ ap (last s) (k ∙ add-one (n - 1)) ∙ ap (λ b. cond b (suc (n - 1)) (last s (n - 1))) none;
     }
 
-pub span_found : {s : List ℕ} {n : ℕ} → SpanFrom s n → 0 < n → (get_or s n 0 ≡ 0 → ⊥) → Span s n
+pub span_found : {s : List ℕ} {n : ℕ} → SpanFrom s n → 0 < n → (get_or s (n - 1 + 1) 0 ≡ 0 → ⊥) → Span s (n - 1 + 1)
 unfolding pauli_width qubits last_to
 span_found {s} {n} m h e =
     let k : n ≡ n - 1 + 1 = omega arith in
-    let some = has_one s (n - 1) (omega (arith, m.within)) (λ z. e (ap (λ (j : ℕ). get_or s j 0) k ∙ z)) in
+    let some = has_one s (n - 1) (omega (arith, m.within)) e in
     let here : last s 128 ≡ suc (n - 1) = m.is ∙ ap (last s) (k ∙ add-one (n - 1)) ∙ ap (λ b. cond b (suc (n - 1)) (last s (n - 1))) some in
-    record { is = omega (arith, here); small = m.within }
+    record { is = omega (arith, here); small = omega (arith, m.within) }
 
 pub span_none : {s : List ℕ} {n : ℕ} → SpanFrom s n → n ≤ 0 → Span s 1
 unfolding pauli_width qubits last_to
@@ -52,10 +52,7 @@ span_none {s} {n} m h =
     let none : last s 128 ≡ 0 = m.is ∙ ap (last s) z in
     record { is = omega (arith, none); small = omega arith }
 
-pub span_place : {s : List ℕ} {n : ℕ} → WellFormed 128 s → SpanFrom s n → n < length s
-span_place f m = omega (arith, f.long, m.within)
-
-pub ruleset spans = (span_start, span_less, span_found, span_none, span_place, rules)
+pub ruleset spans = (span_start, span_less, span_found, span_none, rules)
 
 -- ---- the sign
 pub sign-none : {a : ℕ} (l : ℕ) → a ≡ 0 → 0 ≡ sign_byte a l
@@ -110,15 +107,6 @@ module _ {s : List ℕ} {q l : ℕ} {k : List ℕ} (o : PauliRow s q l k) where
   abbrev S : PauliString
   S = string_of s
 
-  pub sign-letter : IsGenerator l
-  sign-letter = o.letter
-
-  pub sign-place : q + 1 < length s
-  sign-place = omega (arith, o.place, o.narrow, o.string.long)
-
-  pub sign_fits : Fits w64 (q + 1)
-  sign_fits = record { fits = omega (arith, o.place, o.narrow) }
-
   pub sign_clear : (a c : ℕ) {p : ℕ} → p ≡ sign_byte a c → ClearRow k p
   unfolding sign_byte
   sign_clear a c e = record { some = omega (arith, o.place); phase = omega (arith, phase-small (sign (anticommute (letter_of a) (letter_of c)))) }
@@ -151,10 +139,7 @@ module _ {s : List ℕ} {q l : ℕ} {k : List ℕ} (o : PauliRow s q l k) where
         ∙ ap (λ x. encode_string (letters_in k) (mul x one)) (decoded_clear k₁ (length k) p ek)
         ∙ ap (encode_string (letters_in k)) (scale-mul (phase_of p) identity_string one ∙ ap (scale (phase_of p)) (identity-mul one) ∙ ap (λ x. scale x one) sign_of)
 
-    pub sign-length : {k₂ : List ℕ} (x : PauliString) → k₂ ≡ row_times k₁ x → length k₂ ≡ length k
-    sign-length {k₂} x e = length-times k₂ x (cleared_formed p some ek) e ∙ long
-
-pub ruleset pauli_rows = (sign-letter, sign-place, sign_fits, sign_clear, sign-work, sign_made, sign-length, rules)
+pub ruleset pauli_rows = (sign_clear, sign-work, sign_made, rules)
 
 -- ---- all rows
 pub width_pauli : (s : PauliString) → (pauli_tableau s).width ≡ pauli_width s

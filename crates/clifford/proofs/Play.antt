@@ -15,7 +15,7 @@ use Rattle.pauli.specs.Layout.{phase_byte, phase_of, letter_byte, letter_of}
 use Rattle.pauli.proofs.Places.{from, get_d_listed}
 use Rattle.pauli.proofs.Records.{phase-back, letter-back, letter-small}
 use Rattle.clifford.specs.Layout.{row_length, row_offset, record_length, joined, width_of, weight_place, row_part, letter_in, row_with, with_image, row_with_pair, weight_change, with_pair, each_row}
-use Rattle.clifford.specs.Inside.Rows.{Sized, RowIndex, Laid, OnRow, PairOnRow}
+use Rattle.clifford.specs.Inside.Rows.{Sized, RowIndex, Laid}
 use Rattle.clifford.specs.Playing.{gate_on_row, second_fits, playable, played, GatePlayed, letter_column, letter_table, pair_column, pair_table, letter_tables, pair_tables, table_entry, letter_table_on_row, pair_table_on_row, table_on_row, played_by, PlayedBy}
 use Rattle.clifford.specs.Inside.Playing.{PlaysLetters, PlaysPairs}
 use Rattle.clifford.proofs.Joining.{joined_ext}
@@ -122,39 +122,18 @@ letters-none e o h = played-none (letter_change e (omega (arith, o.qubit))) h o.
 pub pairs-none : {k q r w : ℕ} {t : List ℕ} (e : List (List ℕ)) → PlaysPairs k q r t → w ≡ width_of t → PlayedTo (pair_table_on_row e q r) w t 0 t
 pairs-none e o h = played-none (pair_change e (omega (arith, o.first)) (omega (arith, o.second))) h o.laid
 
-pub letters-number : {g q : ℕ} {t : List ℕ} → PlaysLetters g q t → g < 24
-letters-number o = o.gate
-
-pub pairs-number : {k q r : ℕ} {t : List ℕ} → PlaysPairs k q r t → k < 14
-pairs-number o = o.gate
-
 module _ {f : List ℕ → List ℕ} {w : ℕ} {t₀ : List ℕ} {i : ℕ} {t : List ℕ} (m : PlayedTo f w t₀ i t) where
-  pub played-length : length t ≡ length t₀
-  played-length = m.rows.long
-
-  pub played-narrow : w ≤ 128
-  played-narrow = m.rows.narrow
-
   pub played_all : 2 * w ≤ i → t ≡ each_row f t₀
   unfolding each_row
   played_all h = bytes_end m.rows h m.laid ∙ ap (λ (v : ℕ). v ∷ joined (2 * v) (λ k. f (row_part t₀ k))) m.wide
 
   module _ (h : i < 2 * w) where
-    pub played_index : RowIndex w i
-    played_index = bytes_index m.rows h
-
     module _ {at : ℕ} (z : Sized (row_offset w i) at) where
       pub played_start : at ≤ length t
       played_start = bytes_start m.rows h z
 
-      place_inside : (q : ℕ) → q < width_of t₀ → q + 2 < length (from at t)
-      place_inside q l = omega (arith, bytes-room m.rows h z, place_is q, letter_in-row w q (omega (arith, m.wide)))
-
-      pub letters-row : {g q : ℕ} → PlaysLetters g q t₀ → OnRow q (from at t)
-      letters-row {q = q} o = record { own = place_inside q o.qubit }
-
-      pub pairs-row : {k q r : ℕ} → PlaysPairs k q r t₀ → PairOnRow q r (from at t)
-      pairs-row {q = q} {r} o = record { first = place_inside q o.first; second = place_inside r o.second }
+      pub row-place : (q : ℕ) → q < width_of t₀ → q + 2 < length (from at t)
+      row-place q l = omega (arith, bytes-room m.rows h z, place_is q, letter_in-row w q (omega (arith, m.wide)))
 
       pub played-more : {ys : List ℕ} → ys ≡ f (from at t) → PlayedTo f w t₀ (i + 1) (put_mid at (length t - at) t ys)
       played-more {ys} k = record {
@@ -170,21 +149,7 @@ module _ {f : List ℕ → List ℕ} {w : ℕ} {t₀ : List ℕ} {i : ℕ} {t : 
               ap (take (row_length w)) (bytes_rest m.rows h z ∙ ap (λ (j : ℕ). drop j t₀) z.is)
               ∙ ap (λ (v : ℕ). take (row_length v) (drop (row_offset v i) t₀)) m.wide
 
-pub ruleset plays = (
-  letters-none,
-  pairs-none,
-  letters-number,
-  pairs-number,
-  played-length,
-  played-narrow,
-  played_all,
-  played_index,
-  played_start,
-  letters-row,
-  pairs-row,
-  played-more,
-  rules,
-)
+pub ruleset plays = (letters-none, pairs-none, played_all, played_start, row-place, played-more, rules)
 
 -- ---- whether the second qubit fits
 pub fits-none : {g : ℕ} (q r w : ℕ) → g < 24 → true ≡ second_fits g q r w

@@ -1,17 +1,18 @@
 -- The functions of `layout.rt` by their code: the places where it reads and writes are those of the layout. No other file of laws
 -- knows these places.
-use Rattle.std.proofs.Common.{◌≡◌, ℕ, suc, ◌+◌, ◌-◌, ◌*◌, ◌%◌, ◌<◌, ◌≤◌, min, cond, eqb, leb, List, [], ◌∷◌, ◌++◌, length, get_or, take, drop, set, sym, refl, ap, ◌∙◌, subst, ap₂, append-nil, not-suc-le-zero, arith, length-append, length-drop, length-set, drop_of_length-le, length-take, take_all, w64, Fits, rules, le-ltb, lt-ltb, le-leb, Ok, Err, true}
+use Rattle.std.proofs.Common.{◌≡◌, ℕ, suc, ◌+◌, ◌-◌, ◌*◌, ◌%◌, ◌<◌, ◌≤◌, min, cond, eqb, leb, List, [], ◌∷◌, ◌++◌, length, get_or, take, drop, set, sym, refl, ap, ◌∙◌, subst, ap₂, append-nil, not-suc-le-zero, arith, length-append, length-drop, length-set, drop_of_length-le, length-take, take_all, ext_get_or, w64, Fits, rules, le-ltb, lt-ltb, le-leb, Bool, Ok, Err, IsErrAnd, true}
 use lib.ListN.{get_or-eq_default}
 use borrow.Rule.Slice.PartMut.{put_mid}
 use borrow.Author.Tests.{lt-leb}
 use Rattle.pauli_group.specs.Letter.{X, Z}
 use Rattle.pauli_group.specs.PauliString.{qubits, mul, identity_string, weight_to}
 use Rattle.pauli.specs.Layout.{phase_byte, phase_of, letter_byte, encode_string}
-use Rattle.pauli.specs.Rows.{phase_bytes_product, RowTimes, letter_count, largest_to, Scanned, copied, shorter}
-use Rattle.pauli.proofs.Places.{from, from_is, length_from, none_bad}
+use Rattle.pauli.specs.Rows.{phase_bytes_product, RowTimes, letter_count, largest_to, Scanned}
+use Rattle.pauli.proofs.Places.{length-listed, get_d_listed, from, from_is, length_from, none_bad}
 use Rattle.pauli.proofs.StringProducts.{row-product, row_product-is}
-use Rattle.clifford.specs.Layout.{letter_place, row_length, letters_of, decode_row, row_offset, record_length, longest_record, row_of, width_of, row_part, tableau_of, row_qubit, row_letter, read_row, letter_in, row_with, row_with_pair}
-use Rattle.clifford.specs.Inside.Rows.{Sized, RowIndex, RowInside, RowAt, RowChecked, OwnRow, OnRow, PairOnRow, LetterIndex, PairIndex, WorkOnRow, Finished, row_times, row_written, letters_in, string_in, row_letters, OwnLetter}
+use Rattle.clifford.specs.Layout.{letter_place, row_length, letters_of, decode_row, row_offset, record_length, longest_record, row_of, width_of, row_part, tableau_of, row_qubit, row_letter, read_row, letter_in, row_with, row_with_pair, FormedTableau}
+use Rattle.pauli.specs.Places.{listed}
+use Rattle.clifford.specs.Inside.Rows.{letter_bytes, Sized, RowIndex, RowInside, RowAt, row_answer, OwnRow, WorkOnRow, Finished, row_times, row_written, letters_in, string_in, row_letters, OwnLetter}
 use Rattle.clifford.proofs.Records.{record-small}
 use Rattle.pauli.specs.declared.refusal.Refusal.TheVariants.{BadByte}
 use Rattle.pauli.specs.declared.rows.LetterScan.{LetterScan}
@@ -20,9 +21,11 @@ use Rattle.pauli.proofs.Asking.{asked_yes, asked_no, refused, passed}
 use Rattle.clifford.specs.Questions.{row_question, true_weight}
 use lib.Bits.{bit_xor}
 use Rattle.clifford.specs.Playing.{table_entry, letter_table_on_row, pair_table_on_row}
-use Rattle.clifford.proofs.Rows.{place_is, row-some, letter_in-row, letters-from, row-letter, row-phase, row_inside, row_part_lem, row_room, row-string, row_as_string_lem, row_of-work, get_d_part, capped_letter, capped_phase, read_own, read_wide, read_over, length_part, own_row, own-some, own-more, own-letter, weight_counted}
+use Rattle.clifford.proofs.Rows.{place_is, row-some, letter_in-row, letters-from, row-letter, row-phase, row_inside, row_part_lem, row_room, row-string, row_as_string_lem, row_of-work, own_letters_long, own-letter_byte, get_d_part, capped_letter, capped_phase, read_own, read_wide, read_over, length_part, own_row, own-some, own-more, own-letter, weight_counted}
 use Rattle.clifford.proofs.Asking.{bytes_bad, bytes_good}
-use Rattle.pauli.specs.Answers.{Outcome}
+use Rattle.pauli.specs.Answers.{Answer, answer_to}
+use Rattle.pauli.specs.declared.refusal.Refusal.{Refusal}
+use Rattle.pauli.proofs.Answers.{exit-is}
 
 -- ---- the length of a record
 pub record_sized : (w : ℕ) → w ≤ 128 → Sized (record_length w) (1 + 2 * w * (w + 2))
@@ -32,22 +35,10 @@ record_sized w h = let e : 1 + 2 * w * (w + 2) ≡ record_length w = unfolded in
     unfolded = unfold record_length row_length letter_place in omega arith
 
 -- it is counted without overflow
-pub record-fits : (w : ℕ) → w ≤ 128 → Fits w64 (2 * w * (w + 2))
-record-fits w h = record { fits = omega (arith, (record_sized w h).small) }
-
-pub record_one_fits : (w : ℕ) → w ≤ 128 → Fits w64 (1 + 2 * w * (w + 2))
-record_one_fits w h = record { fits = omega (arith, (record_sized w h).small) }
-
 -- ---- where rows are
 row_end : (w r : ℕ) → RowIndex w r → 1 + r * (w + 2) + (w + 2) ≤ longest_record
 unfolding row_offset record_length row_length letter_place
 row_end w r i = omega (arith, row_room w r i.own, record-small w i.narrow)
-
-pub offset-fits : (w r : ℕ) → RowIndex w r → Fits w64 (r * (w + 2))
-offset-fits w r i = record { fits = omega (arith, row_end w r i) }
-
-pub offset_one_fits : (w r : ℕ) → RowIndex w r → Fits w64 (1 + r * (w + 2))
-offset_one_fits w r i = record { fits = omega (arith, row_end w r i) }
 
 offset-is : (w r : ℕ) → 1 + r * (w + 2) ≡ row_offset w r
 unfolding row_offset row_length letter_place
@@ -77,9 +68,6 @@ inside_index o e = record { narrow = omega (arith, o.laid.narrow); own = omega (
 pub inside-long : {b p : List ℕ} {r : ℕ} → RowInside b r → p ≡ row_part b r → length p ≡ row_length (width_of b)
 inside-long {b} {r = r} o e = ap length e ∙ length_part b (width_of b) r refl o.laid.long o.own
 
-pub inside-some : {b p : List ℕ} {r : ℕ} → RowInside b r → p ≡ row_part b r → 0 < length p
-inside-some {b} o e = omega (arith, inside-long o e, row-some (width_of b))
-
 pub inside-more : {b p : List ℕ} {r : ℕ} → RowInside b r → p ≡ row_part b r → 1 < length p
 inside-more {b} o e = omega (arith, inside-long o e, row-some (width_of b))
 
@@ -89,6 +77,23 @@ unfolding row_letters
 letters_read b {p} r e = letters-from p ∙ ap letters_of e
 
 pub ruleset row_reads = (own-more, letters_read, own-inside, rules)
+
+-- of a record that has passed the questions
+module _ {b : List ℕ} {r : ℕ} (f : FormedTableau b) (h : r < 2 * width_of b) where
+  pub formed-phase : {p : ℕ} → p ≡ phase_byte (read_row b r).phase → p ≡ phase_byte (row_of (tableau_of b) r).phase
+  formed-phase e = e ∙ ap (λ s. phase_byte s.phase) (read_own b r f.narrow h)
+
+  pub formed_letters : {l : List ℕ} → l ≡ row_letters b r → l ≡ letter_bytes (tableau_of b) r
+  unfolding letter_bytes tableau_of
+  formed_letters {l} e =
+      let o : OwnRow b r = record { tableau = f; own = h } in
+      let w : ℕ = width_of b in
+      let long : length (row_letters b r) ≡ w = own_letters_long o in
+      let byte : ℕ → ℕ = λ q. letter_byte ((row_of (tableau_of b) r).letters q) in
+      e ∙ ext_get_or 0 (row_letters b r) (listed w byte) (long ∙ sym (length-listed w byte))
+      (λ q k. own-letter_byte o q (omega arith) ∙ sym (get_d_listed w byte q 0 (omega arith)))
+
+pub ruleset formed_rows = (formed-phase, formed_letters, rules)
 
 -- ---- one letter of a row
 pub letter-row : {b : List ℕ} {r q : ℕ} → OwnLetter b r q → OwnRow b r
@@ -132,20 +137,7 @@ module _ (p : List ℕ) (at : ℕ) where
       pub codes-good : length (from 2 p) ≤ k → Ok tt ≡ row_question at p
       codes-good l = all_good (omega (arith, place, ap length (letters-from p)))
 
-module _ {at : ℕ} {p : List ℕ} {m : ℕ} (o : RowAt at p m) where
-  pub codes-some : 0 < length p
-  codes-some = omega (arith, o.long)
-
-  pub codes-more : 1 < length p
-  codes-more = o.long
-
-  pub codes_two_fits : Fits w64 (at + 2)
-  codes_two_fits = record { fits = omega (arith, o.small) }
-
-  pub codes-fits : {k : ℕ} → k < length (from 2 p) → Fits w64 (at + 2 + k)
-  codes-fits l = record { fits = omega (arith, o.small, o.short, length_from 2 p) }
-
-pub ruleset row-codes = (codes_bad_phase, codes-clean, codes_bad_letter, codes-good, codes-some, codes-more, codes_two_fits, codes-fits, rules)
+pub ruleset row-codes = (codes_bad_phase, codes-clean, codes_bad_letter, codes-good, rules)
 
 -- and whether its weight is true
 module _ {b : List ℕ} {r : ℕ} (o : RowInside b r) {n at : ℕ} (en : n ≡ width_of b) (s : Sized (row_offset n r) at) {p : List ℕ} (ep : p ≡ row_part b r)
@@ -159,16 +151,25 @@ module _ {b : List ℕ} {r : ℕ} (o : RowInside b r) {n at : ℕ} (en : n ≡ w
     largest = seen.largest ∙ ap (λ (x : List ℕ). largest_to (length x) x) (letters-from p);
   }
 
-  pub row_checked : {q : Outcome} → q ≡ row_question at p → RowChecked b r (record { codes = q; weighed = eqb (get_or p 1 0) l.letters })
+  pub row-weighed : eqb (get_or p 1 0) l.letters ≡ true_weight b r
   unfolding true_weight
-  row_checked e = record {
-    codes = e ∙ ap₂ row_question (s.is ∙ ap (λ (j : ℕ). row_offset j r) en) ep;
-    weighed = ap₂ (λ (x : List ℕ) (c : ℕ). eqb (get_or x 1 0) c) ep
-        (weight_counted (width_of b) p (omega (arith, o.laid.narrow)) (inside-long o ep) (seen.letters ∙ ap (λ (x : List ℕ). letter_count x % 256) (letters-from p))
-        ∙ ap (λ (x : List ℕ). weight_to (width_of b) (decode_row (width_of b) x)) ep ∙ ap (weight_to (width_of b)) (sym (row_part_lem b r o.own)));
-  }
+  row-weighed =
+      ap₂ (λ (x : List ℕ) (c : ℕ). eqb (get_or x 1 0) c) ep
+      (weight_counted (width_of b) p (omega (arith, o.laid.narrow)) (inside-long o ep) (seen.letters ∙ ap (λ (x : List ℕ). letter_count x % 256) (letters-from p))
+      ∙ ap (λ (x : List ℕ). weight_to (width_of b) (decode_row (width_of b) x)) ep ∙ ap (weight_to (width_of b)) (sym (row_part_lem b r o.own)))
 
-pub ruleset row_checks = (row_at, row_checked, inside_index, inside-some, inside-more, rules)
+  row_asked : row_question at p ≡ row_question (row_offset (width_of b) r) (row_part b r)
+  row_asked = ap₂ row_question (s.is ∙ ap (λ (j : ℕ). row_offset j r) en) ep
+
+  pub row_passed : Ok tt ≡ row_question at p → Ok (eqb (get_or p 1 0) l.letters) ≡ row_answer b r
+  unfolding answer_to
+  row_passed e = ap {B = Answer Bool} Ok row-weighed ∙ ap (λ q. answer_to q (true_weight b r)) (e ∙ row_asked)
+
+  pub row_refused : {x : Refusal} {q : Answer Bool} → Err x ≡ row_question at p → IsErrAnd q (λ e. e ≡ x) → q ≡ row_answer b r
+  unfolding answer_to
+  row_refused {q = q} e h = exit-is q h ∙ ap (λ q. answer_to q (true_weight b r)) (e ∙ row_asked)
+
+pub ruleset row_checks = (row_at, row_passed, row_refused, inside_index, inside-more, rules)
 
 -- ---- a row of any bytes, read by letter
 module _ (b : List ℕ) (r : ℕ) {n : ℕ} (e : n ≡ width_of b) where
@@ -235,73 +236,28 @@ times-row {b} {d} {f} {ys} {r} {p} {x} o ef ep m =
     some_more : {n : ℕ} → suc n ≡ 0 → ⊥
     some_more e = omega arith
 
-pub work-some : {b d : List ℕ} {r : ℕ} → WorkOnRow b d r → 0 < length d
-work-some o = omega (arith, o.work.wide)
-
-pub work_some_more : {b d : List ℕ} {r : ℕ} (ys : List ℕ) → WorkOnRow b d r → length ys ≡ length (from 1 d) → 0 < length (put_mid 1 (length d - 1) d ys)
-work_some_more {b} {d} ys o e = omega (arith, length-append (take 1 d) (ys ++ drop (length d - 1) (drop 1 d)), length-take 1 d, o.work.wide)
-
 -- ---- a finished row written
-pub finished_some : {d out : List ℕ} → Finished d out → 0 < length d
-finished_some f = omega (arith, f.row.long)
-
 pub finished_room : {d out : List ℕ} → Finished d out → 0 < length out
 finished_room {d} f = omega (arith, f.room, row-some (letters_in d))
 
 pub finished_next : {d out : List ℕ} (x : ℕ) → Finished d out → 1 < length (set out 0 x)
 finished_next {d} {out} x f = omega (arith, f.room, row-some (letters_in d), length-set out 0 x)
 
-pub finished_letters : {d out : List ℕ} (x n : ℕ) → Finished d out → 2 ≤ length (set (set out 0 x) 1 n)
-finished_letters {d} {out} x n f = omega (arith, finished_next x f, length-set (set out 0 x) 1 n)
-
--- what comes back of `&mut d[2..]`
-put_rest : (x n : ℕ) (d ys : List ℕ) → put_mid 2 (length (x ∷ n ∷ d) - 2) (x ∷ n ∷ d) ys ≡ x ∷ n ∷ ys
-put_rest x n d ys = rw (drop_of_length-le d {i = length (x ∷ n ∷ d) - 2} (omega arith), append-nil)
+pub finished_letters : {d out : List ℕ} (x n : ℕ) → Finished d out → length d + 1 ≤ length (set (set out 0 x) 1 n)
+unfolding row_length letter_place
+finished_letters {d} {out} x n f = omega (arith, f.room, length-set (set out 0 x) 1 n, length-set out 0 x)
 
 -- a row with its phase and weight written, and its letters copied
-abbrev with_letters : List ℕ → List ℕ → List ℕ
-with_letters e ys = put_mid 2 (length e - 2) e ys
-
-pub row_written_lem : (d out : List ℕ) {n : ℕ} {ys : List ℕ} → Finished d out → n ≡ letter_count (from 1 d) % 256
-    → ys ≡ copied (from 1 d) (from 2 (set (set out 0 (get_or d 0 0)) 1 n))
-    → with_letters (set (set out 0 (get_or d 0 0)) 1 n) ys ≡ row_written (letters_in d) (string_in d) out
-unfolding row_written row_length letter_place copied
+pub row_written_lem : (d out : List ℕ) {n : ℕ} {ys : List ℕ} → Finished d out → n ≡ letter_count (from 1 d) % 256 → ys ≡ from 1 d
+    → put_mid 2 (length d + 1 - 2) (set (set out 0 (get_or d 0 0)) 1 n) ys ≡ row_written (letters_in d) (string_in d) out
+unfolding row_written row_length letter_place
 row_written_lem d [] f c h = absurd (not-suc-le-zero f.room)
 row_written_lem d (y ∷ []) f c h = absurd (omega (arith, f.room))
 row_written_lem d (y ∷ z ∷ out) {n} {ys} f c h =
     let x : ℕ = get_or d 0 0 in
-    let w : ℕ = letters_in d in
-    let long : length (drop 1 d) ≡ w = length-drop 1 d in
-    let short : shorter (drop 1 d) out ≡ w = omega (arith, f.room) in
-    put_rest x n out ys
-    ∙ ap (λ (l : List ℕ). x ∷ n ∷ l)
-    (h ∙ ap₂ (λ (a b : List ℕ). take (shorter a b) a ++ drop (shorter a b) b) (from_is 1 d) (from_is 2 (x ∷ n ∷ out))
-    ∙ ap (λ (j : ℕ). take j (drop 1 d) ++ drop j out) short ∙ ap (λ (l : List ℕ). l ++ drop w out) (take_all w (drop 1 d) (omega arith)))
-    ∙ ap (λ (l : List ℕ). l ++ drop w out) (sym (row_of-work f.row (omega (arith, f.narrow)) (c ∙ ap (λ (l : List ℕ). letter_count l % 256) (from_is 1 d))))
-
-pub written_length : {d out ys : List ℕ} (n : ℕ) → Finished d out → ys ≡ copied (from 1 d) (from 2 (set (set out 0 (get_or d 0 0)) 1 n))
-    → length (with_letters (set (set out 0 (get_or d 0 0)) 1 n) ys) ≡ length out
-unfolding copied
-written_length {d} {out} {ys} n f h =
-    let x : ℕ = get_or d 0 0 in
-    let e : List ℕ = set (set out 0 x) 1 n in
-    let short : ℕ = shorter (from 1 d) (from 2 e) in
-    let long : length e ≡ length out = length-set (set out 0 x) 1 n ∙ length-set out 0 x in
-    length-append (take 2 e) (ys ++ drop (length e - 2) (drop 2 e))
-    ∙ omega (
-      arith,
-      finished_letters x n f,
-      long,
-      length-take 2 e,
-      length-append ys (drop (length e - 2) (drop 2 e)),
-      length-drop (length e - 2) (drop 2 e),
-      length-drop 2 e,
-      ap length h,
-      length-append (take short (from 1 d)) (drop short (from 2 e)),
-      length-take short (from 1 d),
-      length-drop short (from 2 e),
-      length_from 2 e,
-    )
+    let size : length d + 1 - 2 ≡ letters_in d = omega arith in
+    ap₂ (λ (l : List ℕ) (j : ℕ). x ∷ n ∷ (l ++ drop j out)) (h ∙ from_is 1 d) size
+    ∙ ap (λ (l : List ℕ). l ++ drop (letters_in d) out) (sym (row_of-work f.row (omega (arith, f.narrow)) (c ∙ ap (λ (l : List ℕ). letter_count l % 256) (from_is 1 d))))
 
 -- ---- the generator of a row
 pub qubit-x : (w r : ℕ) → r < w → r ≡ row_qubit w r
@@ -320,35 +276,7 @@ pub letter-z : (w r : ℕ) → w ≤ r → 2 ≡ letter_byte (row_letter w r)
 unfolding row_letter letter_byte
 letter-z w r h = sym (ap (λ b. letter_byte (cond b X Z)) (le-ltb r w h))
 
-pub ruleset row_access = (
-  record-fits,
-  record_one_fits,
-  record_sized,
-  offset-fits,
-  offset_one_fits,
-  offset_sized,
-  inside_index,
-  own-inside,
-  part_end,
-  part_is,
-  qubit-x,
-  qubit-z,
-  letter-x,
-  letter-z,
-  work-on,
-  own-some,
-  own-more,
-  work-some,
-  work_some_more,
-  times-row,
-  finished_some,
-  finished_room,
-  finished_next,
-  finished_letters,
-  row_written_lem,
-  written_length,
-  rules,
-)
+pub ruleset row_access = (own-some, own-more, finished_next, finished_room, record_sized, offset_sized, part_end, part_is, qubit-x, qubit-z, letter-x, letter-z, work-on, times-row, finished_letters, row_written_lem, rules)
 
 -- ---- a row changed by a gate's table
 -- a letter as it is read
@@ -356,46 +284,28 @@ letter_capped : (b : List ℕ) (q : ℕ) {x : ℕ} → x ≡ min (get_or b (q + 
 unfolding letter_in
 letter_capped b q e = e ∙ ap (λ (i : ℕ). min (get_or b i 0) 3) (sym (place_is q)) ∙ capped_letter (get_or b (letter_place q) 0)
 
-pub letter_here_lem : (b : List ℕ) (q : ℕ) {x k : ℕ} → x ≡ min (get_or b (q + 2) 0) 3 → k ≡ x → LetterIndex b q k
-letter_here_lem b q ex ek = record { is = ek ∙ letter_capped b q ex; small = omega arith }
-
-pub pair_here : (b : List ℕ) (q r : ℕ) {x y k : ℕ} → x ≡ min (get_or b (q + 2) 0) 3 → y ≡ min (get_or b (r + 2) 0) 3 → k ≡ 4 * x + y → PairIndex b q r k
-pair_here b q r ex ey ek = record { is = ek ∙ ap₂ (λ (i j : ℕ). 4 * i + j) (letter_capped b q ex) (letter_capped b r ey); small = omega arith }
-
-pub letter_index : {b : List ℕ} {q k : ℕ} → LetterIndex b q k → k < 4
-letter_index o = o.small
-
-pub pair_index : {b : List ℕ} {q r k : ℕ} → PairIndex b q r k → k < 16
-pair_index o = o.small
-
-pub letter-room : {q : ℕ} {b : List ℕ} → OnRow q b → q + 2 < length b
-letter-room o = o.own
-
--- the phase's place is there after the weight was written
-pub pair_phase : {q r : ℕ} {b : List ℕ} (v : ℕ) → PairOnRow q r b → 0 < length (set b 1 v)
-pair_phase {b = b} v o = omega (arith, o.first, length-set b 1 v)
-
 module _ (e : List (List ℕ)) (b : List ℕ) (q : ℕ) where
   abbrev by_letter : ℕ → ℕ → ℕ → List ℕ
   by_letter i p k = set (set b 0 (bit_xor p (table_entry e 0 k))) i (table_entry e 1 k)
 
-  pub letter_changed : {k z : ℕ} → LetterIndex b q k → z ≡ min (get_or b 0 0) 3
+  pub letter_changed : {k x z : ℕ} → k ≡ x → x ≡ min (get_or b (q + 2) 0) 3 → z ≡ min (get_or b 0 0) 3
       → set (set b 0 (bit_xor z (get_or (get_or e 0 []) k 0))) (q + 2) (get_or (get_or e 1 []) k 0) ≡ letter_table_on_row e q b
   unfolding letter_table_on_row row_with table_entry
-  letter_changed {k} {z} o ez =
+  letter_changed {k} {x} {z} ek ex ez =
       ap (λ (i : ℕ). by_letter i z k) (sym (place_is q))
-      ∙ ap₂ (λ (p j : ℕ). by_letter (letter_place q) p j) (ez ∙ capped_phase (get_or b 0 0)) o.is
+      ∙ ap₂ (λ (p j : ℕ). by_letter (letter_place q) p j) (ez ∙ capped_phase (get_or b 0 0)) (ek ∙ letter_capped b q ex)
 
   module _ (r : ℕ) where
     abbrev by_pair : ℕ → ℕ → ℕ → ℕ → ℕ → List ℕ
     by_pair i j p v k = set (set (set (set b 1 v) 0 (bit_xor p (table_entry e 0 k))) i (table_entry e 2 k)) j (table_entry e 3 k)
 
-    pub pair_changed : {k z v : ℕ} → PairIndex b q r k → z ≡ min (get_or b 0 0) 3 → v ≡ (get_or b 1 0 + get_or (get_or e 1 []) k 0) % 256
+    pub pair_changed : {k x y z v : ℕ} → k ≡ 4 * x + y → x ≡ min (get_or b (q + 2) 0) 3 → y ≡ min (get_or b (r + 2) 0) 3 → z ≡ min (get_or b 0 0) 3 → v ≡ (get_or b 1 0 + get_or (get_or e 1 []) k 0) % 256
         → set (set (set (set b 1 v) 0 (bit_xor z (get_or (get_or e 0 []) k 0))) (q + 2) (get_or (get_or e 2 []) k 0)) (r + 2) (get_or (get_or e 3 []) k 0) ≡ pair_table_on_row e q r b
     unfolding pair_table_on_row row_with_pair row_with table_entry
-    pair_changed {k} {z} {v} o ez ev =
+    pair_changed {k} {x} {y} {z} {v} ek ex ey ez ev =
         ap₂ (λ (i j : ℕ). by_pair i j z v k) (sym (place_is q)) (sym (place_is r))
         ∙ ap₂ (λ (p u : ℕ). by_pair (letter_place q) (letter_place r) p u k) (ez ∙ capped_phase (get_or b 0 0)) ev
-        ∙ ap (λ (j : ℕ). by_pair (letter_place q) (letter_place r) (phase_byte (phase_of (get_or b 0 0))) ((get_or b 1 0 + table_entry e 1 j) % 256) j) o.is
+        ∙ ap (λ (j : ℕ). by_pair (letter_place q) (letter_place r) (phase_byte (phase_of (get_or b 0 0))) ((get_or b 1 0 + table_entry e 1 j) % 256) j)
+        (ek ∙ ap₂ (λ (i j : ℕ). 4 * i + j) (letter_capped b q ex) (letter_capped b r ey))
 
-pub ruleset row_changes = (letter_here_lem, pair_here, letter_index, pair_index, letter-room, pair_phase, letter_changed, pair_changed, rules)
+pub ruleset row_changes = (letter_changed, pair_changed, rules)

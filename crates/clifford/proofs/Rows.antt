@@ -507,9 +507,6 @@ module _ {b : List ℕ} {r : ℕ} (o : OwnRow b r) where
   pub own-more : {p : List ℕ} → p ≡ row_part b r → 1 < length p
   own-more e = omega (arith, ap length e, own_row.long, row-some (width_of b))
 
-  pub own-phase : {p : ℕ} → p ≡ phase_byte (read_row b r).phase → phase_of p ≡ (row_of (tableau_of b) r).phase
-  own-phase e = ap phase_of e ∙ phase-back _ ∙ ap (λ s. s.phase) (read_own b r o.tableau.narrow o.own)
-
   pub own_letters_long : length (row_letters b r) ≡ width_of b
   unfolding row_letters
   own_letters_long = letters-long (width_of b) (row_part b r) own_row.long

@@ -35,27 +35,6 @@ times-work {b} {d} {e} s o h =
     record { tableau = o.tableau; row = times-formed s o.row h; wide = omega (arith, o.wide); narrow = omega (arith, o.narrow) }
 
 -- ---- a work row cleared
-pub record Cleared (n i : ℕ) (d : List ℕ) : Type 0 where
-  pub within : i ≤ n
-  pub long : length d ≡ n
-  pub zeros : (k : ℕ) → k < i → get_or d k 0 ≡ 0
-
-pub cleared_none : (d : List ℕ) → Cleared (length d) 0 d
-cleared_none d = record { within = omega arith; long = refl; zeros = λ k l. absurd (not-suc-le-zero l) }
-
-pub cleared_step : {n i : ℕ} {d : List ℕ} → Cleared n i d → i < length d → Cleared n (i + 1) (set d i 0)
-cleared_step {n} {i} {d} m h = record {
-  within = omega (arith, m.long);
-  long = length-set d i 0 ∙ m.long;
-  zeros = λ k l. elim (ℕ_discrete k i) [
-    | yes e ↦ ap (λ (j : ℕ). get_or (set d i 0) j 0) e ∙ get_or-set_same d i 0 0 h
-    | no e ↦ get_or-set_other d i k 0 0 (omega arith) ∙ m.zeros k (omega arith)
-  ];
-}
-
-pub cleared_length : {n i : ℕ} {d : List ℕ} → Cleared n i d → length d ≡ n
-cleared_length m = m.long
-
 -- a list of w + 1 bytes is the string whose phase and letters it shows
 pub row_is : (w : ℕ) (d : List ℕ) (s : PauliString) → length d ≡ suc w → get_or d 0 0 ≡ phase_byte s.phase
     → ((q : ℕ) → q < w → get_or d (suc q) 0 ≡ letter_byte (s.letters q)) → d ≡ encode_string w s
@@ -65,14 +44,12 @@ row_is w d s long first rest = ext_get_or 0 d (encode_string w s) (long ∙ sym 
     bytes zero h = first ∙ sym (encode_phase w s)
     bytes (suc q) h = rest q (omega arith) ∙ sym (encode_letter w s q (omega arith))
 
-pub cleared_all : {d : List ℕ} {p n i : ℕ} {e : List ℕ} → ClearRow d p → n ≡ length d → Cleared n i e → length e ≤ i → set e 0 p ≡ cleared_row n p
+pub cleared_all : {d : List ℕ} {p : ℕ} (e : List ℕ) → ClearRow d p → length e ≡ length d → ((k : ℕ) → k < length d → get_or e k 0 ≡ 0) → set e 0 p ≡ cleared_row (length d) p
 unfolding cleared_row scale identity_string letter_byte
-cleared_all {d} {p} {n} {i} {e} c en m h =
-    let some : 0 < n = omega (arith, c.some) in
-    let long : length e ≡ n = m.long in
-    row_is (n - 1) (set e 0 p) (scale (phase_of p) identity_string) (length-set e 0 p ∙ omega arith)
-    (get_or-set_same e 0 p 0 (omega arith) ∙ sym (phase_there p c.phase) ∙ ap phase_byte (sym (·-one (phase_of p))))
-    (λ q l. get_or-set_other e 0 (suc q) p 0 (omega arith) ∙ m.zeros (suc q) (omega arith))
+cleared_all {d} {p} e c long zeros =
+    row_is (length d - 1) (set e 0 p) (scale (phase_of p) identity_string) (length-set e 0 p ∙ omega (arith, c.some))
+    (get_or-set_same e 0 p 0 (omega (arith, c.some)) ∙ sym (phase_there p c.phase) ∙ ap phase_byte (sym (·-one (phase_of p))))
+    (λ q l. get_or-set_other e 0 (suc q) p 0 (omega arith) ∙ zeros (suc q) (omega arith))
 
 -- ---- a work row multiplied by one letter
 module _ (d : List ℕ) (q l : ℕ) (o : WorkPlace d q) where
@@ -132,9 +109,6 @@ module _ (d : List ℕ) (q l : ℕ) (o : WorkPlace d q) where
       row_is w (set (set d (q + 1) v) 0 r) (mul (string_in d) (single (letter_of l) q)) (length-set (set d (q + 1) v) 0 r ∙ length-set d (q + 1) v ∙ long)
       (get_or-set_same (set d (q + 1) v) 0 r 0 (omega (arith, length-set d (q + 1) v, long)) ∙ phase-is (ep ∙ ap (λ (y : PhasedLetter). y.0) ex) er)
       (λ c h. get_or-set_other (set d (q + 1) v) 0 (suc c) r 0 (omega arith) ∙ letters_are (ev ∙ ap (λ (y : PhasedLetter). y.1) ex) c h)
-
-pub place-some : {d : List ℕ} {q : ℕ} (i v : ℕ) → WorkPlace d q → 0 < length (set d i v)
-place-some {d} i v o = omega (arith, length-set d i v, o.place)
 
 -- ---- a work row multiplied by the image of a letter
 -- the phase byte times a phase
@@ -237,13 +211,6 @@ times_both b d {e₁} {e₂} {q} {p} {n} o ep en k₁ k₂ =
     ∙ ap₂ (λ s u. encode_string w (mul s u)) made (row_z_at b q en)
     ∙ ap (encode_string w) (simp (scale-mul, mul-scale, mul_assoc))
 
-pub both_length : (b : List ℕ) {d e₁ e₂ : List ℕ} {q p n : ℕ} (k : ℕ) → WorkOnOwn b d q → p ≡ phase_bytes_product (get_or d 0 0) k → n ≡ width_of b
-    → e₁ ≡ row_times (set d 0 p) (row_of (tableau_of b) q) → e₂ ≡ row_times e₁ (row_of (tableau_of b) (n + q)) → length e₂ ≡ length d
-both_length b {d} {e₁} {e₂} {q} {p} k o ep en k₁ k₂ =
-    let one : WorkRow b (set d 0 p) = (turned-work k o ep).work in
-    let two : WorkRow b e₁ = times-work _ one k₁ in
-    length-times e₂ _ two.row k₂ ∙ length-times e₁ _ one.row k₁ ∙ length-set d 0 p
-
 pub image_none : (b d : List ℕ) {q l : ℕ} → WorkOnQubit b d q → l ≡ 0 → d ≡ row_times d (image_of (tableau_of b) q (letter_of l))
 unfolding row_times letter_of
 image_none b d {q} {l} o h =
@@ -264,10 +231,10 @@ pub image_over : (b d : List ℕ) {e : List ℕ} {q n : ℕ} (l : ℕ) → n ≡
     → e ≡ row_times d (image_of (tableau_of b) q (letter_of l))
 image_over b d {e} {q} l en h k = k ∙ ap (row_times d) (sym (image_above (tableau_of b) q (letter_of l) (omega (arith, width_of_lem b))))
 
-pub ruleset clearing = (cleared_none, cleared_step, cleared_length, cleared_all, rules)
+pub ruleset clearing = (cleared_all, rules)
 
-pub ruleset letter-products = (times-letter, place-some, rules)
+pub ruleset letter-products = (times-letter, rules)
 
-pub ruleset images = (turned-work, work-x, work-z, work-next, own_x, own-z, own_y, own-work, times_both, both_length, length-times, rules)
+pub ruleset images = (turned-work, work-x, work-z, work-next, own_x, own-z, own_y, own-work, times_both, rules)
 
-pub ruleset image_products = (image_none, image_letter, image_place, image_below, image_over, length-times, rules)
+pub ruleset image_products = (image_none, image_letter, image_place, image_below, image_over, rules)

@@ -17,11 +17,7 @@ pub(crate) fn clear_row(work: &mut [u8], phase: u8)
     requires { ClearRow work.old phase }
     ensures { work.new ≡ cleared_row (length work.old) phase }
 {
-    let mut i = 0;
-    while i < work.len() {
-        work[i] = 0;
-        i += 1;
-    }
+    work.fill(0);
     work[0] = phase;
 }
 
@@ -51,15 +47,11 @@ fn multiply_own(work: &mut [u8], t: &[u8], q: usize, letter: u8)
     requires { WorkOnLetter t.now work.old q letter }
     ensures { work.new ≡ row_times work.old (row_image (tableau_of t.now) q (letter_of letter)) }
 {
-    if letter == 1 {
-        multiply_by(work, t, q);
-        return;
+    match letter {
+        1 => multiply_by(work, t, q),
+        2 => multiply_by(work, t, width(t) + q),
+        _ => multiply_both(work, t, q),
     }
-    if letter == 2 {
-        multiply_by(work, t, width(t) + q);
-        return;
-    }
-    multiply_both(work, t, q);
 }
 
 // A work row multiplied by the image of a letter on qubit q: by rows below the width; letters at the width or above pass through.
@@ -72,9 +64,9 @@ fn multiply_image(work: &mut [u8], t: &[u8], q: usize, letter: u8)
     }
     if q < width(t) {
         multiply_own(work, t, q, letter);
-        return;
+    } else {
+        multiply_letter(work, q, letter);
     }
-    multiply_letter(work, q, letter);
 }
 
 // The apply routine: the image of the string s, as a work row. Starts with its phase and identity letters, and goes by rising
@@ -84,11 +76,8 @@ pub(crate) fn apply_string(t: &[u8], s: &[u8], work: &mut [u8])
     ensures { work.new ≡ encode_string (letters_in work.old) (apply (tableau_of t.now) (string_in s.now)) }
 {
     clear_row(work, s[0]);
-    let k = s.len() - 1;
-    let mut q = 0;
-    while q < k {
-        multiply_image(work, t, q, s[q + 1]);
-        q += 1;
+    for (q, letter) in s[1..].iter().enumerate() {
+        multiply_image(work, t, q, *letter);
     }
 }
 

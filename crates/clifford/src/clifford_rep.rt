@@ -11,13 +11,11 @@ ghost use Rattle.clifford.specs.Inside.Rows.{SlotIndex};
 ghost use Rattle.clifford.specs.Promises.{ImageAt, ImageSet, IdentityWritten, Applied, Composed, Extended, Inverted, ValidityTold, FromPauliString, SupportWritten, Displayed};
 
 use crate::applying::apply_string;
-use crate::displaying::{display_length, starts_with, write_display};
 use crate::layout::{row, row_offset, width};
 use crate::pauli_tableau::span;
 use crate::questions::{check_slot, check_tableau, check_tableaux, check_width};
 use crate::setting::{check_inside, set_row};
-use crate::support::{support_count, write_support};
-use crate::validity::valid_rows;
+use crate::tableau::TableauRecord;
 use crate::writing::{Composite, Inverse, OfPauli, Widened, write_made};
 use pauli::STRING_LENGTH;
 use pauli::questions::{check_room, check_string};
@@ -163,7 +161,7 @@ pub fn is_valid(t: &[u8]) -> Result<bool, Refusal>
     ensures { ValidityTold t.now result }
 {
     check_tableau(t)?;
-    Ok(valid_rows(t))
+    Ok(TableauRecord::of(t).is_valid())
 }
 
 // ---- the tableau of a Pauli string
@@ -183,7 +181,7 @@ fn check_support(t: &[u8], room: usize) -> Result<(), Refusal>
     ensures { result ≡ support_answer t.now room }
 {
     check_tableau(t)?;
-    check_room(support_count(t), room)
+    check_room(TableauRecord::of(t).support_count(), room)
 }
 
 // The qubits of the support, rising, and their number.
@@ -191,8 +189,9 @@ pub fn support_qubits(t: &[u8], dst: &mut [u8]) -> Result<usize, Refusal>
     ensures { SupportWritten t.now dst.old dst.new result }
 {
     check_support(t, dst.len())?;
-    write_support(t, dst);
-    Ok(support_count(t))
+    let tableau = TableauRecord::of(t);
+    tableau.write_support(dst);
+    Ok(tableau.support_count())
 }
 
 // ---- display
@@ -201,7 +200,7 @@ fn check_display(t: &[u8], room: usize) -> Result<(), Refusal>
     ensures { result ≡ display_answer t.now room }
 {
     check_tableau(t)?;
-    check_room(display_length(t), room)
+    check_room(TableauRecord::of(t).display_length(), room)
 }
 
 // The text that shows a tableau; the answer is its length.
@@ -209,12 +208,12 @@ pub fn display(t: &[u8], dst: &mut [u8]) -> Result<usize, Refusal>
     ensures { Displayed t.now dst.old dst.new result }
 {
     check_display(t, dst.len())?;
-    Ok(write_display(t, dst))
+    Ok(TableauRecord::of(t).write_display(dst))
 }
 
 // Whether a text starts as every display text does.
 pub fn starts_with_name(text: &[u8]) -> bool
     ensures { result ≡ starts_with name_text text.now }
 {
-    starts_with(text, b"CliffordRep(")
+    text.starts_with(b"CliffordRep(")
 }

@@ -1,14 +1,14 @@
 // The display text. Ports `impl Display` of clifford_rep.rs of PECOS, changed:
 // Copyright 2024 The PECOS Developers, Apache License, Version 2.0.
-ghost use Rattle.std.specs.Prelude.{◌≡◌, [], ◌∷◌, length};
+ghost use Rattle.std.specs.Prelude.{◌≡◌, [], ◌∷◌, ◌*◌, ◌<◌, length};
 ghost use Rattle.pauli.specs.SparseText.{letter_text};
 ghost use Rattle.pauli.specs.TextWriting.{Stored};
 ghost use Rattle.pauli.specs.Inside.TextWriting.{TextWritten};
-ghost use Rattle.clifford.specs.Display.{header_text, label_text, line_text, display_row, text_of_tableau, starts_with};
-ghost use Rattle.clifford.specs.Layout.{FormedTableau, tableau_of, row_letter, row_qubit};
-ghost use Rattle.clifford.specs.Inside.Rows.{RowIndex, OwnRow};
+ghost use Rattle.clifford.specs.Display.{header_text, label_text, line_text, text_of_tableau};
+ghost use Rattle.clifford.specs.Layout.{tableau_of, width_of, row_letter, row_qubit};
 
-use crate::layout::{phase_at, row_letters, row_qubit, width};
+use crate::layout::row_qubit;
+use crate::tableau::TableauRecord;
 use pauli::sparse_text::put_sparse;
 use pauli::text_writer::{put_decimal, put_text};
 
@@ -26,9 +26,10 @@ fn write_letter(dst: &mut [u8], at: usize, width: usize, r: usize) -> usize
     ensures { Stored at (letter_text (row_letter width r) ∷ 95 ∷ []) dst.old dst.new result }
 {
     if r < width {
-        return put_text(dst, at, b"X_");
+        put_text(dst, at, b"X_")
+    } else {
+        put_text(dst, at, b"Z_")
     }
-    put_text(dst, at, b"Z_")
 }
 
 // The label of row r.
@@ -41,66 +42,35 @@ fn write_label(dst: &mut [u8], at: usize, width: usize, r: usize) -> usize
     put_text(dst, arrow, b" -> ")
 }
 
-// The line of row r.
-fn write_line(dst: &mut [u8], at: usize, t: &[u8], r: usize) -> usize
-    requires { OwnRow t.now r }
-    ensures { Stored at (line_text (tableau_of t.now) r) dst.old dst.new result }
-{
-    let image = write_label(dst, at, width(t), r);
-    let end = put_sparse(dst, image, phase_at(t, r), row_letters(t, r));
-    put_text(dst, end, b"\n")
-}
-
-// The row whose line is the i-th: X and Z of each qubit.
-fn display_row(width: usize, i: usize) -> usize
-    requires { RowIndex width i }
-    ensures { result ≡ display_row width i }
-{
-    if i % 2 == 0 {
-        return i / 2;
+impl TableauRecord<'_> {
+    // The line of row r.
+    fn write_line(&self, dst: &mut [u8], at: usize, r: usize) -> usize
+        requires { r < 2 * width_of self.now }
+        ensures { Stored at (line_text (tableau_of self.now) r) dst.old dst.new result }
+    {
+        let image = write_label(dst, at, self.width(), r);
+        let end = put_sparse(dst, image, self.phase(r), self.letters(r));
+        put_text(dst, end, b"\n")
     }
-    width + i / 2
-}
 
-// The whole text; the answer is its length.
-pub(crate) fn write_display(t: &[u8], dst: &mut [u8]) -> usize
-    requires { FormedTableau t.now }
-    ensures { TextWritten (text_of_tableau t.now) dst.old dst.new result }
-{
-    let n = width(t);
-    let header = write_header(dst, n);
-    let mut at = put_text(dst, header, b"\n");
-    let mut i = 0;
-    while i < 2 * n {
-        let r = display_row(n, i);
-        at = write_line(dst, at, t, r);
-        i += 1;
-    }
-    at
-}
-
-// Its length.
-pub(crate) fn display_length(t: &[u8]) -> usize
-    requires { FormedTableau t.now }
-    ensures { result ≡ length (text_of_tableau t.now) }
-{
-    let mut nowhere = [0u8; 0];
-    write_display(t, &mut nowhere)
-}
-
-// Whether a text starts with another.
-pub(crate) fn starts_with(text: &[u8], head: &[u8]) -> bool
-    ensures { result ≡ starts_with head.now text.now }
-{
-    let mut i = 0;
-    while i < head.len() {
-        if text.len() <= i {
-            return false;
+    // The whole text, X and Z of each qubit; the answer is its length.
+    pub(crate) fn write_display(&self, dst: &mut [u8]) -> usize
+        ensures { TextWritten (text_of_tableau self.now) dst.old dst.new result }
+    {
+        let n = self.width();
+        let header = write_header(dst, n);
+        let mut at = put_text(dst, header, b"\n");
+        for q in 0..n {
+            at = self.write_line(dst, at, q);
+            at = self.write_line(dst, at, n + q);
         }
-        if text[i] != head[i] {
-            return false;
-        }
-        i += 1;
+        at
     }
-    true
+
+    // Its length.
+    pub(crate) fn display_length(&self) -> usize
+        ensures { result ≡ length (text_of_tableau self.now) }
+    {
+        self.write_display(&mut [])
+    }
 }

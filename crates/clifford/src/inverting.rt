@@ -35,10 +35,8 @@ fn write_body(t: &[u8], width: usize, r: usize, body: &mut [u8])
     ensures { body.new ≡ encode_string width (body_of (tableau_of t.now) r) }
 {
     body[0] = 0;
-    let mut c = 0;
-    while c < width {
+    for c in 0..width {
         body[c + 1] = body_letter(t, width, r, c);
-        c += 1;
     }
 }
 

@@ -1,29 +1,23 @@
 // Tableau records: where their rows are, and how one row is read and written. Only here does code know the bytes of a row.
-ghost use Rattle.std.specs.Prelude.{◌≡◌, ◌≤◌, min, slice_index};
+ghost use Rattle.std.specs.Prelude.{◌≡◌, ◌+◌, ◌<◌, ◌≤◌, min, length, slice_index};
 ghost use Rattle.pauli.specs.Layout.{phase_byte, letter_byte};
 ghost use Rattle.clifford.specs.Playing.{letter_table_on_row, pair_table_on_row};
 ghost use Rattle.clifford.specs.Layout.{width_of, record_length, row_offset, row_of, row_part, read_row, tableau_of, row_qubit, row_letter};
 ghost use Rattle.clifford.specs.Questions.{row_question, weights_question};
-ghost use Rattle.clifford.specs.Inside.Rows.{Sized, RowIndex, RowInside, RowAt, RowChecked, FirstFalse, OwnRow, OwnLetter, WorkOnRow, Finished, row_times, row_written, row_letters, letters_in, string_in, OnRow, LetterIndex, PairOnRow, PairIndex};
+ghost use Rattle.clifford.specs.Inside.Rows.{Sized, RowIndex, RowInside, RowAt, row_answer, FirstFalse, OwnRow, OwnLetter, WorkOnRow, Finished, row_times, row_written, row_letters, letters_in, string_in};
 
 use pauli::QUBITS;
 use pauli::refusal::Refusal;
-use pauli::rows::{copy, count_letters, first_bad, multiply_letters, phase_times, scan_letters};
-
-pub(crate) fn wide(x: u8) -> usize
-    ensures { result ≡ x }
-{
-    x as usize
-}
+use pauli::rows::{count_letters, first_bad, multiply_letters, phase_times, scan_letters};
 
 // The width of a record; no bytes are read as width 0.
 pub fn width(t: &[u8]) -> usize
     ensures { result ≡ width_of t.now }
 {
-    if t.len() == 0 {
-        return 0;
+    match t.first() {
+        Some(n) => usize::from(*n),
+        None => 0,
     }
-    wide(t[0])
 }
 
 // The length of a record of width 128.
@@ -74,39 +68,28 @@ fn check_codes(row: &[u8], at: usize, largest: u8) -> Result<(), Refusal>
     Ok(())
 }
 
-// What question 3 comes to in a row, and whether its weight is true.
-#[derive(Clone, Copy)]
-pub(crate) struct RowCheck {
-    pub(crate) codes: Result<(), Refusal>,
-    pub(crate) weighed: bool,
-}
-
-// Both of row r, in one pass over its letters.
-pub(crate) fn check_row(t: &[u8], r: usize) -> RowCheck
+// Question 3, put to row r, and whether its weight is true, in one pass over its letters.
+pub(crate) fn check_row(t: &[u8], r: usize) -> Result<bool, Refusal>
     requires { RowInside t.now r }
-    ensures { RowChecked t.now r result }
+    ensures { result ≡ row_answer t.now r }
 {
-    let at = row_offset(width(t), r);
     let whole = row(t, r);
     let seen = scan_letters(&whole[2..]);
-    RowCheck {
-        codes: check_codes(whole, at, seen.largest),
-        weighed: whole[1] == seen.letters,
-    }
+    check_codes(whole, row_offset(width(t), r), seen.largest)?;
+    Ok(whole[1] == seen.letters)
 }
 
-// Question 24, where the first row with a false weight is known; there is none where it is not a row.
-pub(crate) fn check_weights(t: &[u8], first: usize) -> Result<(), Refusal>
+// Question 24, where the first row with a false weight is known.
+pub(crate) fn check_weights(t: &[u8], first: Option<usize>) -> Result<(), Refusal>
     requires { FirstFalse t.now first }
     ensures { result ≡ weights_question t.now }
 {
-    let n = width(t);
-    if first < 2 * n {
-        return Err(Refusal::FalseWeight {
-            offset: row_offset(n, first) + 1,
-        });
+    match first {
+        Some(r) => Err(Refusal::FalseWeight {
+            offset: row_offset(width(t), r) + 1,
+        }),
+        None => Ok(()),
     }
-    Ok(())
 }
 
 // The letters of row r.
@@ -136,7 +119,7 @@ pub(crate) fn write_row(work: &[u8], dst: &mut [u8])
 {
     dst[0] = work[0];
     dst[1] = count_letters(&work[1..]);
-    copy(&work[1..], &mut dst[2..]);
+    dst[2..work.len() + 1].copy_from_slice(&work[1..]);
 }
 
 // The qubit of row r, and its letter: X rows come first.
@@ -160,21 +143,14 @@ pub(crate) fn letter_in_row(t: &[u8], r: usize, q: usize) -> u8
     row(t, r)[q + 2]
 }
 
-// A phase or a letter as it is read: a byte above 3 as 3.
-fn read(x: u8) -> u8
-    ensures { result ≡ min x 3 }
-{
-    if x < 3 { x } else { 3 }
-}
-
-// The byte at this place of t as it is read; one that isn't there as 0.
+// The byte at this place of t as it is read: one above 3 as 3, and one that isn't there as 0.
 fn read_at(t: &[u8], at: usize) -> u8
     ensures { result ≡ min (slice_index t.now at) 3 }
 {
-    if t.len() <= at {
-        return 0;
+    match t.get(at) {
+        Some(x) => (*x).min(3),
+        None => 0,
     }
-    read(t[at])
 }
 
 // The phase of row r, whatever the bytes of t: +1 where a record of this width has no such row.
@@ -182,10 +158,7 @@ pub fn phase_at(t: &[u8], r: usize) -> u8
     ensures { result ≡ phase_byte (read_row t.now r).phase }
 {
     let n = width(t);
-    if QUBITS < n {
-        return 0;
-    }
-    if 2 * n <= r {
+    if QUBITS < n || 2 * n <= r {
         return 0;
     }
     read_at(t, row_offset(n, r))
@@ -196,53 +169,31 @@ pub fn letter_at(t: &[u8], r: usize, q: usize) -> u8
     ensures { result ≡ letter_byte ((read_row t.now r).letters q) }
 {
     let n = width(t);
-    if QUBITS < n {
-        return 0;
-    }
-    if 2 * n <= r {
-        return 0;
-    }
-    if n <= q {
+    if QUBITS < n || 2 * n <= r || n <= q {
         return 0;
     }
     read_at(t, row_offset(n, r) + 2 + q)
 }
 
-// Where a table has its entry for the letter on qubit q of the row at the front of b.
-fn letter_index(b: &[u8], q: usize) -> usize
-    requires { OnRow q b.now }
-    ensures { LetterIndex b.now q result }
-{
-    wide(read(b[q + 2]))
-}
-
 // The row at the front of b, changed on qubit q as the table says.
 pub(crate) fn change_letter(b: &mut [u8], q: usize, table: &[[u8; 4]; 2])
-    requires { OnRow q b.old }
+    requires { q + 2 < length b.old }
     ensures { b.new ≡ letter_table_on_row table.now q b.old }
 {
-    let k = letter_index(b, q);
-    b[0] = read(b[0]) ^ table[0][k];
+    let k = usize::from(b[q + 2].min(3));
+    b[0] = b[0].min(3) ^ table[0][k];
     b[q + 2] = table[1][k];
 }
 
-// Where a table has its entry for the letters on qubits q and r of the row at the front of b.
-fn pair_index(b: &[u8], q: usize, r: usize) -> usize
-    requires { PairOnRow q r b.now }
-    ensures { PairIndex b.now q r result }
-{
-    wide(4 * read(b[q + 2]) + read(b[r + 2]))
-}
-
-// The row at the front of b, changed on qubits q and r as the table says.
+// The row at the front of b, changed on qubits q and r as the table says, with its weight.
 pub(crate) fn change_pair(b: &mut [u8], q: usize, r: usize, table: &[[u8; 16]; 4])
-    requires { PairOnRow q r b.old }
+    requires first { q + 2 < length b.old }
+    requires second { r + 2 < length b.old }
     ensures { b.new ≡ pair_table_on_row table.now q r b.old }
 {
-    let k = pair_index(b, q, r);
-    let phase = read(b[0]) ^ table[0][k];
-    let weight = std::num::wrapping_add_u8(b[1], table[1][k]);
-    b[1] = weight;
+    let k = usize::from(4 * b[q + 2].min(3) + b[r + 2].min(3));
+    let phase = b[0].min(3) ^ table[0][k];
+    b[1] = b[1].wrapping_add(table[1][k]);
     b[0] = phase;
     b[q + 2] = table[2][k];
     b[r + 2] = table[3][k];

@@ -14,6 +14,7 @@ pub mod playing;
 pub mod questions;
 mod setting;
 mod support;
+mod tableau;
 pub mod tables;
 mod validity;
 mod writing;

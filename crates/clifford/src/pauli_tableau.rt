@@ -14,12 +14,10 @@ pub(crate) fn span(s: &[u8]) -> usize
     requires { WellFormed 128 s.now }
     ensures { Span s.now result }
 {
-    let mut n = QUBITS;
-    while 0 < n {
-        if s[n] != 0 {
-            return n;
+    for q in (0..QUBITS).rev() {
+        if s[q + 1] != 0 {
+            return q + 1;
         }
-        n -= 1;
     }
     1
 }
@@ -29,13 +27,7 @@ fn sign_byte(a: u8, letter: u8) -> u8
     requires { IsGenerator letter }
     ensures { result ≡ sign_byte a letter }
 {
-    if a == 0 {
-        return 0;
-    }
-    if a == letter {
-        return 0;
-    }
-    1
+    u8::from(a != 0 && a != letter)
 }
 
 // X or Z on qubit q conjugated by the string s, as a work row.

@@ -12,13 +12,7 @@ use pauli::QUBITS;
 fn second_fits(gate: usize, q: usize, r: usize, width: usize) -> bool
     ensures { result ≡ second_fits gate q r width }
 {
-    if gate < 24 {
-        return true;
-    }
-    if width <= r {
-        return false;
-    }
-    q != r
+    gate < 24 || (r < width && q != r)
 }
 
 // Whether the gate has a place in the record. The rows are not looked at.
@@ -26,33 +20,20 @@ fn is_playable(gate: usize, q: usize, r: usize, t: &[u8]) -> bool
     ensures { result ≡ playable gate q r t.now }
 {
     let n = width(t);
-    if 38 <= gate {
-        return false;
-    }
-    if n <= q {
-        return false;
-    }
-    if !second_fits(gate, q, r, n) {
-        return false;
-    }
-    if QUBITS < n {
-        return false;
-    }
-    t.len() == record_length(n)
+    gate < 38 && q < n && second_fits(gate, q, r, n) && n <= QUBITS && t.len() == record_length(n)
 }
 
-// A one-qubit gate on each row, by its table.
+// A one-qubit gate on each row, by its table. This loop and the next are no generic function: what the function that changes a row may
+// count on, and that it reaches no other row, would be clauses longer than the loop.
 fn play_letters(tables: &[[[u8; 4]; 2]; 24], gate: usize, q: usize, t: &mut [u8])
     requires { PlaysLetters gate q t.old }
     ensures { t.new ≡ each_row (letter_table_on_row (slice_index_or tables.now gate []) q) t.old }
 {
     let table = tables[gate];
     let n = width(t);
-    let mut i = 0;
-    while i < 2 * n {
+    for i in 0..2 * n {
         let at = row_offset(n, i);
         change_letter(&mut t[at..], q, &table);
-        i += 1;
     }
 }
 
@@ -63,11 +44,9 @@ fn play_pairs(tables: &[[[u8; 16]; 4]; 14], k: usize, q: usize, r: usize, t: &mu
 {
     let table = tables[k];
     let n = width(t);
-    let mut i = 0;
-    while i < 2 * n {
+    for i in 0..2 * n {
         let at = row_offset(n, i);
         change_pair(&mut t[at..], q, r, &table);
-        i += 1;
     }
 }
 
@@ -82,7 +61,7 @@ pub fn play_with(
 ) -> bool
     ensures { PlayedBy ones.now twos.now gate q r t.old t.new result }
 {
-    let g = gate as usize;
+    let g = usize::from(gate);
     if !is_playable(g, q, r, t) {
         return false;
     }
@@ -99,7 +78,7 @@ pub fn play_with(
 pub fn play_gate(gate: u8, q: usize, r: usize, t: &mut [u8]) -> bool
     ensures { GatePlayed gate q r t.old t.new result }
 {
-    let g = gate as usize;
+    let g = usize::from(gate);
     if !is_playable(g, q, r, t) {
         return false;
     }

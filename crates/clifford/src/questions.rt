@@ -42,13 +42,10 @@ fn check_rows(t: &[u8]) -> Result<(), Refusal>
     ensures { result ≡ rows_question (2 * width_of t.now) t.now and_then weights_question t.now }
 {
     let rows = 2 * width(t);
-    // The first row with a false weight; the number of rows stands for none, so that the smaller of two is the first.
-    let mut first = rows;
+    let mut first = None;
     for r in 0..rows {
-        let row = check_row(t, r);
-        row.codes?;
-        if !row.weighed {
-            first = first.min(r);
+        if !check_row(t, r)? {
+            first = first.or(Some(r));
         }
     }
     check_weights(t, first)

@@ -1,86 +1,46 @@
 // Validity. Ports `is_valid` of clifford_rep.rs of PECOS, changed:
 // Copyright 2024 The PECOS Developers, Apache License, Version 2.0.
-ghost use Rattle.std.specs.Prelude.{◌≡◌};
-ghost use Rattle.pauli_group.specs.PauliString.{commute};
+ghost use Rattle.std.specs.Prelude.{◌≡◌, ◌<◌};
 ghost use Rattle.clifford_group.specs.Tableau.{all_to, valid_qubit, valid_pair, is_valid};
-ghost use Rattle.clifford.specs.Layout.{FormedTableau, row_of, tableau_of};
-ghost use Rattle.clifford.specs.Inside.Rows.{OwnRows, OwnQubit, OwnQubits};
+ghost use Rattle.clifford.specs.Layout.{tableau_of, width_of};
 
-use crate::layout::{phase_at, row_letters, width};
-use pauli::rows::count_anticommuting;
+use crate::tableau::TableauRecord;
 
-// Whether two rows commute: the places at which they anticommute, at most 128, are even in number.
-fn rows_commute(t: &[u8], r: usize, p: usize) -> bool
-    requires { OwnRows t.now r p }
-    ensures { result ≡ commute (row_of (tableau_of t.now) r) (row_of (tableau_of t.now) p) }
-{
-    let places = count_anticommuting(row_letters(t, r), row_letters(t, p));
-    places % 2 == 0
-}
+impl TableauRecord<'_> {
+    // The rows of one qubit.
+    fn valid_qubit(&self, q: usize) -> bool
+        requires { q < width_of self.now }
+        ensures { result ≡ valid_qubit (tableau_of self.now) q }
+    {
+        let z = self.width() + q;
+        self.phase(q) < 2 && self.phase(z) < 2 && !self.rows_commute(q, z)
+    }
 
-// The rows of one qubit.
-fn valid_qubit(t: &[u8], q: usize) -> bool
-    requires { OwnQubit t.now q }
-    ensures { result ≡ valid_qubit (tableau_of t.now) q }
-{
-    let z = width(t) + q;
-    if 2 <= phase_at(t, q) {
-        return false;
+    // The rows of two qubits.
+    fn valid_pair(&self, q: usize, r: usize) -> bool
+        requires first { q < width_of self.now }
+        requires second { r < width_of self.now }
+        ensures { result ≡ valid_pair (tableau_of self.now) q r }
+    {
+        let n = self.width();
+        self.rows_commute(q, r)
+            && self.rows_commute(q, n + r)
+            && self.rows_commute(n + q, r)
+            && self.rows_commute(n + q, n + r)
     }
-    if 2 <= phase_at(t, z) {
-        return false;
-    }
-    !rows_commute(t, q, z)
-}
 
-// The rows of two qubits.
-fn valid_pair(t: &[u8], q: usize, r: usize) -> bool
-    requires { OwnQubits t.now q r }
-    ensures { result ≡ valid_pair (tableau_of t.now) q r }
-{
-    let n = width(t);
-    if !rows_commute(t, q, r) {
-        return false;
+    // The rows of qubit q with those of the qubits before it.
+    fn valid_before(&self, q: usize) -> bool
+        requires { q < width_of self.now }
+        ensures { result ≡ all_to q (valid_pair (tableau_of self.now) q) }
+    {
+        (0..q).all(|r| self.valid_pair(q, r))
     }
-    if !rows_commute(t, q, n + r) {
-        return false;
-    }
-    if !rows_commute(t, n + q, r) {
-        return false;
-    }
-    rows_commute(t, n + q, n + r)
-}
 
-// The rows of qubit q with those of the qubits before it.
-fn valid_before(t: &[u8], q: usize) -> bool
-    requires { OwnQubit t.now q }
-    ensures { result ≡ all_to q (valid_pair (tableau_of t.now) q) }
-{
-    let mut r = 0;
-    while r < q {
-        if !valid_pair(t, q, r) {
-            return false;
-        }
-        r += 1;
+    // Whether the tableau is valid, by its own rows.
+    pub(crate) fn is_valid(&self) -> bool
+        ensures { result ≡ is_valid (tableau_of self.now) }
+    {
+        (0..self.width()).all(|q| self.valid_qubit(q) && self.valid_before(q))
     }
-    true
-}
-
-// Whether a record's tableau is valid, by its own rows.
-pub(crate) fn valid_rows(t: &[u8]) -> bool
-    requires { FormedTableau t.now }
-    ensures { result ≡ is_valid (tableau_of t.now) }
-{
-    let n = width(t);
-    let mut q = 0;
-    while q < n {
-        if !valid_qubit(t, q) {
-            return false;
-        }
-        if !valid_before(t, q) {
-            return false;
-        }
-        q += 1;
-    }
-    true
 }

@@ -1,14 +1,15 @@
 -- What the functions on rows promise. A work row is a string of w letters, w + 1 bytes long; a finished one is put into a record.
-use Rattle.std.specs.Prelude.{◌≡◌, ℕ, ◌+◌, ◌-◌, ◌*◌, ◌<◌, ◌≤◌, Bool, cond, List, ◌++◌, length, drop, ◌==◌, nat_lt}
+use Rattle.std.specs.Prelude.{◌≡◌, ℕ, ◌+◌, ◌-◌, ◌*◌, ◌<◌, ◌≤◌, Bool, cond, Option, IfSome, unwrap_or, List, ◌++◌, length, drop, ◌==◌}
 use Rattle.pauli_group.specs.Phase.{sign}
 use Rattle.pauli_group.specs.Letter.{anticommute}
 use Rattle.pauli_group.specs.PauliString.{PauliString, mul, scale, identity_string}
 use Rattle.clifford_group.specs.Tableau.{Tableau}
 use Rattle.pauli.specs.Layout.{phase_byte, phase_of, letter_byte, letter_of, encode_string, decode_string, WellFormed}
 use Rattle.pauli.specs.Rows.{largest_to}
-use Rattle.clifford.specs.declared.layout.RowCheck.{RowCheck}
+use Rattle.pauli.specs.Answers.{Answer, answer_to}
 use Rattle.clifford.specs.Questions.{row_question, true_weight, first_false}
-use Rattle.clifford.specs.Layout.{row_length, encode_row, letter_in, letters_of, row_part, row_offset, record_length, longest_record, width_of, FormedTableau}
+use Rattle.clifford.specs.Layout.{row_length, encode_row, letter_in, letters_of, row_part, row_offset, record_length, longest_record, width_of, FormedTableau, row_of, tableau_of}
+use Rattle.pauli.specs.Places.{listed}
 
 -- r is the size or offset n in a record
 pub record Sized (n r : ℕ) : Type 0 where
@@ -18,6 +19,10 @@ pub record Sized (n r : ℕ) : Type 0 where
 -- the letter bytes of row r of a record
 unfoldable pub row_letters : List ℕ → ℕ → List ℕ
 row_letters b r = letters_of (row_part b r)
+
+-- the letter bytes that row r of a tableau has in its record
+unfoldable pub letter_bytes : Tableau → ℕ → List ℕ
+letter_bytes t r = listed t.width (λ q. letter_byte ((row_of t r).letters q))
 
 -- the letters of a work row in number, and its string
 abbrev pub letters_in : List ℕ → ℕ
@@ -76,10 +81,9 @@ pub record RowInside (b : List ℕ) (r : ℕ) : Type 0 where
   pub laid : Laid b
   pub own : r < 2 * width_of b
 
--- what question 3 comes to in it, and whether its weight is true
-pub record RowChecked (b : List ℕ) (r : ℕ) (c : RowCheck) : Type 0 where
-  pub codes : c.codes ≡ row_question (row_offset (width_of b) r) (row_part b r)
-  pub weighed : c.weighed ≡ true_weight b r
+-- whether its weight is true, after question 3
+abbrev pub row_answer : List ℕ → ℕ → Answer Bool
+row_answer b r = answer_to (row_question (row_offset (width_of b) r) (row_part b r)) (true_weight b r)
 
 -- the bytes p of a row that starts at this offset; m is the largest of its letters
 pub record RowAt (at : ℕ) (p : List ℕ) (m : ℕ) : Type 0 where
@@ -88,25 +92,11 @@ pub record RowAt (at : ℕ) (p : List ℕ) (m : ℕ) : Type 0 where
   pub short : length p ≤ 130
   pub largest : m ≡ largest_to (length (letters_of p)) (letters_of p)
 
--- p is its first row with a false weight, or the number of its rows
-pub record FirstFalse (b : List ℕ) (p : ℕ) : Type 0 where
+-- p is its first row with a false weight
+pub record FirstFalse (b : List ℕ) (p : Option ℕ) : Type 0 where
   pub narrow : width_of b ≤ 128
-  pub is : p ≡ first_false b
-
--- two rows of it; a qubit of it; and two qubits
-pub record OwnRows (b : List ℕ) (r p : ℕ) : Type 0 where
-  pub tableau : FormedTableau b
-  pub first : r < 2 * width_of b
-  pub second : p < 2 * width_of b
-
-pub record OwnQubit (b : List ℕ) (q : ℕ) : Type 0 where
-  pub tableau : FormedTableau b
-  pub own : q < width_of b
-
-pub record OwnQubits (b : List ℕ) (q r : ℕ) : Type 0 where
-  pub tableau : FormedTableau b
-  pub first : q < width_of b
-  pub second : r < width_of b
+  pub is : unwrap_or p (2 * width_of b) ≡ first_false b
+  pub own : IfSome p (λ r. r < 2 * width_of b)
 
 -- a work row d with room for the letters of b's rows
 pub record WorkRow (b d : List ℕ) : Type 0 where
@@ -143,23 +133,6 @@ pub record WorkPlace (d : List ℕ) (q : ℕ) : Type 0 where
 pub record OwnLetter (b : List ℕ) (r q : ℕ) : Type 0 where
   pub row : OwnRow b r
   pub qubit : q < width_of b
-
--- the row at the front of b has qubit q; and it has qubits q and r
-pub record OnRow (q : ℕ) (b : List ℕ) : Type 0 where
-  pub own : q + 2 < length b
-
-pub record PairOnRow (q r : ℕ) (b : List ℕ) : Type 0 where
-  pub first : q + 2 < length b
-  pub second : r + 2 < length b
-
--- k is where a table has its entry for the letter there; and for the two letters
-pub record LetterIndex (b : List ℕ) (q k : ℕ) : Type 0 where
-  pub is : k ≡ letter_byte (letter_in b q)
-  pub small : k < 4
-
-pub record PairIndex (b : List ℕ) (q r k : ℕ) : Type 0 where
-  pub is : k ≡ 4 * letter_byte (letter_in b q) + letter_byte (letter_in b r)
-  pub small : k < 16
 
 -- a row of any content, to be cleared
 pub record ClearRow (d : List ℕ) (p : ℕ) : Type 0 where

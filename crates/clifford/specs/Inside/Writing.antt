@@ -4,8 +4,6 @@ use Rattle.pauli_group.specs.PauliString.{PauliString, scale, commutation_sign, 
 use Rattle.pauli.specs.Layout.{string_of, WellFormed}
 use Rattle.clifford.specs.Layout.{width_of, tableau_of, FormedTableau}
 use Rattle.clifford.specs.Images.{pauli_width}
-use Rattle.clifford.specs.Support.{in_support, support_qubits}
-use Rattle.clifford.specs.Inside.Rows.{OwnRow, OwnQubit}
 
 -- ---- an image set
 
@@ -47,36 +45,3 @@ pub record PauliRow (s : List ℕ) (q l : ℕ) (k : List ℕ) : Type 0 where
   pub letter : IsGenerator l
   pub place : q + 1 < length k
   pub narrow : length k ≤ 129
-
--- ---- the support
-
--- a row of t, and X or Z
-pub record SingleRow (t : List ℕ) (r l : ℕ) : Type 0 where
-  pub row : OwnRow t r
-  pub letter : IsGenerator l
-
--- r is the number of qubits of t's support
-pub record SupportCount (t : List ℕ) (r : ℕ) : Type 0 where
-  pub is : r ≡ length (support_qubits (tableau_of t))
-  pub small : r ≤ 128
-
-pub record SupportFits (t d : List ℕ) : Type 0 where
-  pub tableau : FormedTableau t
-  pub room : length (support_qubits (tableau_of t)) ≤ length d
-
--- 1 for a qubit of the support, else 0
-pub record SupportBit (t : List ℕ) (k r : ℕ) : Type 0 where
-  pub is : r ≡ cond (in_support (tableau_of t) k) 1 0
-  pub small : r ≤ 1
-
--- the qubit k of t, and a place c of d for it where it is in the support
-pub record QubitFits (t : List ℕ) (k c : ℕ) (d : List ℕ) : Type 0 where
-  pub own : OwnQubit t k
-  pub room : in_support (tableau_of t) k ≡ true → c < length d
-  pub small : c ≤ 128
-
--- it is written there, and r is the next place
-pub record QubitWritten (t : List ℕ) (k c : ℕ) (d e : List ℕ) (r : ℕ) : Type 0 where
-  pub bytes : e ≡ cond (in_support (tableau_of t) k) (slice_set d c k) d
-  pub next : r ≡ cond (in_support (tableau_of t) k) (c + 1) c
-  pub same : length e ≡ length d

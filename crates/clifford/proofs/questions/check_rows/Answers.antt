@@ -1,22 +1,22 @@
 -- `questions::check_rows` meets its contract: a loop over the rows that leaves at the first 3.
-use Rattle.std.proofs.Common.{◌∙◌}
-use Rattle.pauli.proofs.Asking.{exit_not}
-use Rattle.clifford.proofs.Asking.{rows_more, rows_false, rows-refused, rows-questions}
+use Rattle.std.proofs.Common.{◌∙◌, sym}
+use Rattle.clifford.proofs.Asking.{rows_more, rows_first, rows-questions}
 use Rattle.clifford.proofs.questions.check_rows.Goals as goal
-use Rattle.clifford.proofs.questions.check_rows.Goals.{then-not-row, else-not-row}
+use Rattle.clifford.proofs.questions.check_rows.Goals.{then-not-branch, else-not-branch}
 
 pub loop-r-init : goal.loop-r-init
 loop-r-init c = search rows-questions
 
-pub returns-in_err-row : goal.returns-in_err-row
-returns-in_err-row c =
-    exit_not _ (rows-refused c.loop-r.invariant c.loop-r-test.true c.check_row-row.ensures c.in_err-row.was) c.from_residual.ensures.1
+pub returns-in_err-check_row : goal.returns-in_err-check_row
+returns-in_err-check_row c = search (rows-questions, c.in_err-check_row.ensures)
 
 pub loop-r-preserved : goal.loop-r-preserved
-loop-r-preserved c = elim c.if-not-row.branch [
-  | then-not-row w ↦ rows_false c.loop-r.invariant c.loop-r-test.true c.check_row-row.ensures c.in_ok-row.was w.if-not-row.true (w.first-is ∙ w.min-first.ensures)
-  | else-not-row w ↦ rows_more c.loop-r.invariant c.loop-r-test.true c.check_row-row.ensures c.in_ok-row.was w.if-not-row.false w.first-is
-]
+loop-r-preserved c =
+    let passed = sym c.in_ok-check_row.was ∙ c.check_row.ensures in
+    elim c.if-not-branch.branch [
+      | then-not-branch w ↦ rw (w.first-is, w.or-first.ensures) (rows_first c.loop-r.invariant c.loop-r-test.true passed w.if-not-branch.true)
+      | else-not-branch w ↦ rw w.first-is (rows_more c.loop-r.invariant c.loop-r-test.true passed w.if-not-branch.false)
+    ]
 
 pub check_weights-requires : goal.check_weights-requires
 check_weights-requires c = search rows-questions

@@ -1,6 +1,5 @@
--- `questions::check_rows` meets its contract: a loop over the rows that leaves at the first 3.
 use Rattle.clifford.proofs.Asking.{RowsGood}
 use Rattle.clifford.proofs.questions.check_rows.Given as goal
 
 abbrev pub invariant-loop-r : goal.invariant-loop-r
-invariant-loop-r l = RowsGood l.t l.rows l.first l.r
+invariant-loop-r l = RowsGood l.t l.rows l.r l.first

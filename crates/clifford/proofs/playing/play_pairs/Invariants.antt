@@ -1,0 +1,7 @@
+-- `playing::play_pairs` meets its contract, by the laws of `PlayedTo`.
+use Rattle.clifford.specs.Playing.{pair_table_on_row}
+use Rattle.clifford.proofs.Play.{PlayedTo}
+use Rattle.clifford.proofs.playing.play_pairs.Given as goal
+
+abbrev pub invariant-loop-i : goal.invariant-loop-i
+invariant-loop-i l = PlayedTo (pair_table_on_row l.table l.q l.r) l.n l.initial.t l.i l.t
