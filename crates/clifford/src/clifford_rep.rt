@@ -2,7 +2,8 @@
 // Copyright 2024 The PECOS Developers, Apache License, Version 2.0.
 ghost use Rattle.std.specs.Prelude.{◌≡◌};
 ghost use Rattle.std.specs.Result.{result_map_both};
-ghost use Rattle.clifford_group.specs.Conjugation.{Generator, of_x, of_z};
+ghost use Rattle.clifford_group.specs.Conjugation.{Generator, generator, of_x, of_z};
+ghost use Rattle.pauli.specs.Layout.{letter_byte};
 ghost use Rattle.clifford.specs.Layout.{generator_row};
 ghost use Rattle.clifford.specs.Display.{name_text, display_answer, starts_with};
 ghost use Rattle.clifford.specs.Questions.{image_questions, set_questions, support_answer};
@@ -31,6 +32,10 @@ pub trait Generator {
     fn row(width: usize, slot: usize) -> usize
         requires { SlotIndex width slot }
         ensures { result ≡ generator_row letter width slot };
+
+    // Its byte.
+    fn byte() -> u8
+        ensures { result ≡ letter_byte (generator letter) };
 }
 
 pub struct X;
@@ -43,6 +48,11 @@ impl Generator for X {
     fn row(_width: usize, slot: usize) -> usize {
         slot
     }
+
+    #[tactic(auto, unfolding(pauli::specs::Layout::letter_byte))]
+    fn byte() -> u8 {
+        1
+    }
 }
 
 impl Generator for Z {
@@ -50,6 +60,11 @@ impl Generator for Z {
 
     fn row(width: usize, slot: usize) -> usize {
         width + slot
+    }
+
+    #[tactic(auto, unfolding(pauli::specs::Layout::letter_byte))]
+    fn byte() -> u8 {
+        2
     }
 }
 

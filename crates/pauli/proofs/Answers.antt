@@ -61,13 +61,6 @@ written-exit {q} {r} out d h e =
     record { answer = answer; told = ap (reply_of no_value) answer ∙ outcome-told q; bytes = ap (λ z. written z out d) h }
 
 -- the same of what a variable holds
-pub written-by : {q r : Outcome} {out d e : List ℕ} → r ≡ q → r ≡ Ok tt → e ≡ written (Ok tt) out d → Written q out d e r
-written-by {q} {r} {out} {d} p h w = record {
-  answer = p;
-  told = ap (reply_of no_value) p ∙ outcome-told q;
-  bytes = w ∙ ap (λ z. written z out d) (sym h ∙ p);
-}
-
 pub written-by_not : {q r : Outcome} {x : Refusal} (out d : List ℕ) → r ≡ q → r ≡ Err x → Written q out d d r
 unfolding written
 written-by_not {q} {r} out d p h = record {
@@ -103,21 +96,6 @@ none_written (Ok tt) out d h = cc
 none_written (Err x) out d h = refl
 
 pub ruleset by_answers = (written_given, none_written)
-
--- the two ways in which a function that matches on what its questions came to ends
-pub answered-by : {T : Type 0} {value : T → ℕ} {q r : Outcome} {x y : T} → r ≡ q → r ≡ Ok tt → y ≡ x → Answered value q x (Ok y)
-answered-by p h e = answered-done (sym h ∙ p) e
-
-pub answered-by_not : {T : Type 0} {value : T → ℕ} {q r : Outcome} {z : Refusal} (x : T) → r ≡ q → r ≡ Err z → Answered value q x (Err z)
-answered-by_not x p h = answered-not x (sym h ∙ p)
-
-pub number-by : {q r : Outcome} {n m : ℕ} {out d e : List ℕ} → r ≡ q → r ≡ Ok tt → m ≡ n → e ≡ written (Ok tt) out d → NumberWritten q n out d e (Ok m)
-number-by p h c w = number-done (sym h ∙ p) c w
-
-pub number-by_not : {q r : Outcome} {z : Refusal} (n : ℕ) (out d : List ℕ) → r ≡ q → r ≡ Err z → NumberWritten q n out d d (Err z)
-number-by_not n out d p h = number-not n out d (sym h ∙ p)
-
-pub ruleset answers_by = (written-by, written-by_not, answered-by, answered-by_not, number-by, number-by_not)
 
 pub ruleset answers = (
   answered-done,

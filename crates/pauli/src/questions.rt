@@ -1,17 +1,9 @@
 // The questions on entry that every layer puts. Each answers Ok, or the refusal.
 ghost use Rattle.std.specs.Prelude.{◌≡◌};
-ghost use Rattle.pauli.specs.Questions.{byte_question, pair_questions, string_questions, strings_questions, qubit_question, room_question, ◌and_then◌};
+ghost use Rattle.pauli.specs.Questions.{byte_question, pair_questions, string_questions, strings_questions, qubit_question, room_question};
 
 use crate::refusal::Refusal;
 use crate::{QUBITS, STRING_LENGTH};
-
-// The second answer where the first question lets by.
-pub fn and_then(first: Result<(), Refusal>, second: Result<(), Refusal>) -> Result<(), Refusal>
-    ensures { result ≡ (first and_then second) }
-{
-    first?;
-    second
-}
 
 // A phase or a letter given by itself.
 pub fn check_byte(b: u8) -> Result<(), Refusal>

@@ -18,6 +18,7 @@ use Rattle.clifford_group.proofs.Apply.{apply_single, apply-within}
 use Rattle.clifford_group.proofs.Compose.{width-compose, row-compose, proper-compose}
 use Rattle.clifford_group.proofs.Rows.{same_row}
 use Rattle.pauli.specs.declared.refusal.Refusal.{Refusal}
+use Rattle.std.specs.Result.{result_and}
 use Rattle.pauli.specs.Answers.{reply_to, written, Written, Outcome}
 use Rattle.pauli.specs.Layout.{phase_byte, letter_byte, letter_of, encode_string, string_length, string_of, string_record}
 use Rattle.pauli.specs.Questions.{◌and_then◌, string_questions, room_question}
@@ -84,23 +85,18 @@ letter-none {l} q h k = sym (set_out (replicate 129 0) (q + 1) l (omega (arith, 
 pub ruleset one-letter = (letter_put, letter-none, rules)
 
 -- ---- questions
--- 15, by the larger width
-pub larger_second : {n m : ℕ} (a b : List ℕ) (q : ℕ) {r : Outcome} → r ≡ slot_question q m → m ≡ width_of b → n < m → n ≡ width_of a
-    → r ≡ slot_question q (max (width_of a) (width_of b))
-larger_second {n} {m} a b q e em h en = e ∙ ap (slot_question q) (omega arith)
-
-pub larger_first : {n m : ℕ} (a b : List ℕ) (q : ℕ) {r : Outcome} → r ≡ slot_question q n → n ≡ width_of a → m ≤ n → m ≡ width_of b
-    → r ≡ slot_question q (max (width_of a) (width_of b))
-larger_first {n} {m} a b q e en h em = e ∙ ap (slot_question q) (omega arith)
-
-pub ruleset larger_width_lem = (larger_second, larger_first, rules)
-
 -- a string of ours and room enough leave the tableau's own
 own-asked : (t s : List ℕ) (n : ℕ) → string_questions s ≡ Ok tt → string_length ≤ n → apply_answer t s n ≡ tableau_questions t
 unfolding apply_answer apply_questions
 own-asked t s n e h =
     ap₂ (λ x y. (tableau_questions t and_then x) and_then y) e (sym (has_room string_length n h))
     ∙ sym (and_then_done (tableau_questions t) ∙ and_then_done (tableau_questions t and_then Ok tt))
+
+-- std's `and` is the order of questions
+and-is : (q y : Outcome) → result_and q y ≡ q and_then y
+unfolding ◌and_then◌
+and-is (Ok tt) y = refl
+and-is (Err x) y = refl
 
 -- after a refusal nothing is written
 then_not : {q r : Outcome} (p y : Outcome) {x : Refusal} (out d : List ℕ) → r ≡ q → r ≡ p and_then y → y ≡ Err x → Written q out d d r
@@ -140,30 +136,30 @@ module _ (a b : List ℕ) {s m : List ℕ} (l q : ℕ) {second : Outcome} (e : s
       asked = own-asked a m (length d) string o.room ∙ and_then_done (tableau_questions a)
           ∙ ap (λ x. tableau_questions a and_then x) (sym h ∙ second-asked)
 
-  pub sent-not : {first r : Outcome} {x : Refusal} (d : List ℕ) → second ≡ Err x → first ≡ tableau_questions a → r ≡ first and_then second
+  pub sent-not : {first r : Outcome} {x : Refusal} (d : List ℕ) → second ≡ Err x → first ≡ tableau_questions a → r ≡ result_and first second
       → LetterSent a b l q d d r
   unfolding compose_questions
-  sent-not {first} d h k p = then_not first second _ d (p ∙ ap₂ ◌and_then◌ k second-asked) p h
+  sent-not {first} d h k p = then_not first second _ d (p ∙ and-is first second ∙ ap₂ ◌and_then◌ k second-asked) (p ∙ and-is first second) h
 
 pub ruleset sending = (sent_done, sent-not, rules)
 
 -- ---- after the questions to the qubit and the destination
 module _ (a b d : List ℕ) (q : ℕ) {inside room rest : Outcome} (i : inside ≡ slot_question q (max (width_of a) (width_of b)))
-    (n : room ≡ room_question string_length (length d)) (e : rest ≡ inside and_then room) where
+    (n : room ≡ room_question string_length (length d)) (e : rest ≡ result_and inside room) where
   asked : compose_questions a b and_then rest ≡ preview_answer a b q (length d)
   unfolding preview_answer preview_questions
-  asked = ap (λ x. compose_questions a b and_then x) (e ∙ ap₂ ◌and_then◌ i n) ∙ sym (and_then_assoc (compose_questions a b) _ _)
+  asked = ap (λ x. compose_questions a b and_then x) (e ∙ and-is inside room ∙ ap₂ ◌and_then◌ i n) ∙ sym (and_then_assoc (compose_questions a b) _ _)
 
   pub preview_sends : {l : ℕ} → l ≤ 3 → rest ≡ Ok tt → Sends l d
-  preview_sends h f = record { letter = h; room = room-is string_length (length d) (sym n ∙ done_second inside room (sym e ∙ f)) }
+  preview_sends h f = record { letter = h; room = room-is string_length (length d) (sym n ∙ done_second inside room (sym (and-is inside room) ∙ sym e ∙ f)) }
 
   pub preview_done : (l : ℕ) {f : List ℕ} {r : Outcome} → rest ≡ Ok tt → LetterSent a b l q d f r → LetterPreviewed a b l q d f r
   preview_done l {f} {r} h w = subst (λ x. Written x (sent_through a b l q) d f r)
       (and_then_done (compose_questions a b) ∙ ap (λ x. compose_questions a b and_then x) (sym h) ∙ asked) w
 
-  pub preview_not : {both r : Outcome} {x : Refusal} (l : ℕ) → rest ≡ Err x → both ≡ compose_questions a b → r ≡ both and_then rest
+  pub preview_not : {both r : Outcome} {x : Refusal} (l : ℕ) → rest ≡ Err x → both ≡ compose_questions a b → r ≡ result_and both rest
       → LetterPreviewed a b l q d d r
-  preview_not {both} l h k p = then_not both rest _ d (p ∙ ap (λ x. x and_then rest) k ∙ asked) p h
+  preview_not {both} l h k p = then_not both rest _ d (p ∙ and-is both rest ∙ ap (λ x. x and_then rest) k ∙ asked) (p ∙ and-is both rest) h
 
 pub ruleset previewing = (preview_sends, preview_done, preview_not, rules)
 
@@ -207,9 +203,9 @@ module _ (g : Generator) (a b : List ℕ) (q : ℕ) (e : preview_questions a b q
       let own : q < (tableau_of (compose_record a b)).width = omega (arith, inside, back.width, width-compose A B, width_of_lem a, width_of_lem b) in
       ap string_record (ap (apply A) first_image ∙ sym (same_row (tableau_of (compose_record a b)) (compose A B) back g q own ∙ row-compose A B g q))
 
-as_row : (g : Generator) (a b : List ℕ) (q : ℕ) {d f : List ℕ} {r : Outcome} → LetterPreviewed a b (letter_byte (generator g)) q d f r → Previewed g a b q d f r
+pub row-previewed : (g : Generator) (a b : List ℕ) (q : ℕ) {d f : List ℕ} {r : Outcome} → LetterPreviewed a b (letter_byte (generator g)) q d f r → Previewed g a b q d f r
 unfolding preview_answer
-as_row g a b q {d} w = record {
+row-previewed g a b q {d} w = record {
   answer = w.answer;
   told = w.told;
   bytes = w.bytes ∙ same (preview_answer a b q (length d)) (λ e. row-sent g a b q (done_first (preview_questions a b q) _ e));
@@ -219,12 +215,3 @@ as_row g a b q {d} w = record {
     same (Ok tt) h = ap (λ (o : List ℕ). written (Ok tt) o d) (h refl)
     same (Err y) h = unfold written in refl
 
-pub x-row : (a b : List ℕ) (q : ℕ) {d f : List ℕ} {r : Outcome} → LetterPreviewed a b 1 q d f r → Previewed of_x a b q d f r
-unfolding letter_byte
-x-row = as_row of_x
-
-pub z-row : (a b : List ℕ) (q : ℕ) {d f : List ℕ} {r : Outcome} → LetterPreviewed a b 2 q d f r → Previewed of_z a b q d f r
-unfolding letter_byte
-z-row = as_row of_z
-
-pub ruleset preview_rows = (x-row, z-row, rules)

@@ -3,16 +3,15 @@
 #![tactic(auto)]
 
 ghost use Rattle.std.specs.Prelude.{◌≡◌, ◌≤◌, max};
-ghost use Rattle.clifford_group.specs.Conjugation.{of_x, of_z};
 ghost use Rattle.clifford.specs.Layout.{width_of};
 ghost use Rattle.clifford.specs.Questions.{slot_question};
 ghost use Rattle.preview.specs.Inside.Sending.{letter_record, LetterSent, LetterPreviewed, Sends};
 ghost use Rattle.preview.specs.Promises.{Previewed};
 
-use clifford::clifford_rep::apply;
+use clifford::clifford_rep::{Generator, apply};
 use clifford::layout::width;
 use clifford::questions::{check_slot, check_tableau, check_tableaux};
-use pauli::questions::{and_then, check_room};
+use pauli::questions::check_room;
 use pauli::refusal::Refusal;
 use pauli::{QUBITS, STRING_LENGTH};
 
@@ -43,10 +42,10 @@ fn send_letter(a: &[u8], b: &[u8], letter: u8, qubit: usize, dst: &mut [u8]) -> 
     let s = one_letter(letter, qubit);
     let mut image = [0u8; STRING_LENGTH];
     let second = apply(b, &s, &mut image);
-    if let Ok(()) = second {
-        return apply(a, &image, dst);
+    match second {
+        Ok(()) => apply(a, &image, dst),
+        Err(_) => check_tableau(a).and(second),
     }
-    and_then(check_tableau(a), second)
 }
 
 // The same, after the questions to the qubit and the destination. A tableau's refusal comes before theirs.
@@ -55,23 +54,21 @@ fn preview(a: &[u8], b: &[u8], letter: u8, qubit: usize, dst: &mut [u8]) -> Resu
     ensures { LetterPreviewed a.now b.now letter qubit dst.old dst.new result }
 {
     let inside = check_row_qubit(a, b, qubit);
-    let rest = and_then(inside, check_room(STRING_LENGTH, dst.len()));
-    if let Ok(()) = rest {
-        return send_letter(a, b, letter, qubit, dst);
+    let rest = inside.and(check_room(STRING_LENGTH, dst.len()));
+    match rest {
+        Ok(()) => send_letter(a, b, letter, qubit, dst),
+        Err(_) => check_tableaux(a, b).and(rest),
     }
-    and_then(check_tableaux(a, b), rest)
 }
 
-// The image of X on this qubit under a composed with b: b acts first.
-pub fn composed_x_image(a: &[u8], b: &[u8], qubit: usize, dst: &mut [u8]) -> Result<(), Refusal>
-    ensures { Previewed of_x a.now b.now qubit dst.old dst.new result }
+// The image of X or Z on this qubit under a composed with b: b acts first.
+pub fn composed_image<G: Generator>(
+    a: &[u8],
+    b: &[u8],
+    qubit: usize,
+    dst: &mut [u8],
+) -> Result<(), Refusal>
+    ensures { Previewed G.letter a.now b.now qubit dst.old dst.new result }
 {
-    preview(a, b, 1, qubit, dst)
-}
-
-// The image of Z.
-pub fn composed_z_image(a: &[u8], b: &[u8], qubit: usize, dst: &mut [u8]) -> Result<(), Refusal>
-    ensures { Previewed of_z a.now b.now qubit dst.old dst.new result }
-{
-    preview(a, b, 2, qubit, dst)
+    preview(a, b, G::byte(), qubit, dst)
 }

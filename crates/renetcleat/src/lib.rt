@@ -169,14 +169,14 @@ pub extern "C" fn rc_compose(a: &[u8], b: &[u8], dst: &mut [u8]) -> Reply
 pub extern "C" fn rc_composed_x_image(a: &[u8], b: &[u8], qubit: usize, dst: &mut [u8]) -> Reply
     ensures { Replied no_value (Previewed of_x a.now b.now qubit dst.old dst.new) result }
 {
-    Reply::from(preview::composed_x_image(a, b, qubit, dst))
+    Reply::from(preview::composed_image::<X>(a, b, qubit, dst))
 }
 
 #[unsafe(no_mangle)]
 pub extern "C" fn rc_composed_z_image(a: &[u8], b: &[u8], qubit: usize, dst: &mut [u8]) -> Reply
     ensures { Replied no_value (Previewed of_z a.now b.now qubit dst.old dst.new) result }
 {
-    Reply::from(preview::composed_z_image(a, b, qubit, dst))
+    Reply::from(preview::composed_image::<Z>(a, b, qubit, dst))
 }
 
 #[unsafe(no_mangle)]
