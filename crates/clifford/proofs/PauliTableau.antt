@@ -5,7 +5,7 @@ use Rattle.pauli_group.specs.Letter.{X, Z, anticommute}
 use Rattle.pauli_group.specs.PauliString.{PauliString, qubits, last_to, has_letter, mul, scale, identity_string, single, commutation_sign}
 use Rattle.pauli_group.proofs.Laws.{anticommute_self}
 use Rattle.pauli_group.proofs.Strings.{scale-mul, identity-mul, sign-single, within-scale, within-single}
-use Rattle.pauli.specs.Layout.{phase_byte, phase_of, letter_byte, letter_of, encode_string, decode_string, string_of, WellFormed}
+use Rattle.pauli.specs.Layout.{phase_byte, phase_of, letter_byte, letter_of, encode_string, decode_string, string_of}
 use Rattle.pauli.proofs.Records.{phase-back, phase-small, letter_of_lem, has_none, has_one}
 use Rattle.clifford.specs.Layout.{row_of, row_qubit, row_letter}
 use Rattle.clifford.specs.Images.{pauli_width, pauli_tableau}
@@ -13,7 +13,6 @@ use Rattle.clifford.specs.Inside.Rows.{ClearRow, WorkPlace, row_times, cleared_r
 use Rattle.clifford.specs.Inside.Writing.{Span, IsGenerator, PauliRow, conjugated}
 use Rattle.clifford.proofs.RowWriting.{row_made}
 use Rattle.clifford_group.specs.Tableau.{Proper}
-use Rattle.clifford.proofs.WorkRows.{length-times}
 use Rattle.clifford.proofs.Apply.{length_cleared, cleared_formed, decoded_clear}
 
 -- ---- the width

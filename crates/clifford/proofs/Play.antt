@@ -15,12 +15,12 @@ use Rattle.pauli.specs.Layout.{phase_byte, phase_of, letter_byte, letter_of}
 use Rattle.pauli.proofs.Places.{from, get_d_listed}
 use Rattle.pauli.proofs.Records.{phase-back, letter-back, letter-small}
 use Rattle.clifford.specs.Layout.{row_length, row_offset, record_length, joined, width_of, weight_place, row_part, letter_in, row_with, with_image, row_with_pair, weight_change, with_pair, each_row}
-use Rattle.clifford.specs.Inside.Rows.{Sized, RowIndex, Laid}
+use Rattle.clifford.specs.Inside.Rows.{Sized, Laid}
 use Rattle.clifford.specs.Playing.{gate_on_row, second_fits, playable, played, GatePlayed, letter_column, letter_table, pair_column, pair_table, letter_tables, pair_tables, table_entry, letter_table_on_row, pair_table_on_row, table_on_row, played_by, PlayedBy}
 use Rattle.clifford.specs.Inside.Playing.{PlaysLetters, PlaysPairs}
 use Rattle.clifford.proofs.Joining.{joined_ext}
 use Rattle.clifford.proofs.Rows.{RowChange, change_by, byte_front, letter_front, change_letter, change_pair, place_is, row-some, letter_in-row, length_part}
-use Rattle.clifford.proofs.RowBytes.{BytesTo, bytes-none, bytes_index, bytes-room, bytes_start, bytes_rest, bytes-more, bytes_end}
+use Rattle.clifford.proofs.RowBytes.{BytesTo, bytes-none, bytes-room, bytes_start, bytes_rest, bytes-more, bytes_end}
 
 -- ---- the table says what the gate makes of a letter, or of two
 -- a sign is put into a phase byte by the lowest bit

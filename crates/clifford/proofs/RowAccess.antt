@@ -8,7 +8,7 @@ use Rattle.pauli_group.specs.Letter.{X, Z}
 use Rattle.pauli_group.specs.PauliString.{qubits, mul, identity_string, weight_to}
 use Rattle.pauli.specs.Layout.{phase_byte, phase_of, letter_byte, encode_string}
 use Rattle.pauli.specs.Rows.{phase_bytes_product, RowTimes, letter_count, largest_to, Scanned}
-use Rattle.pauli.proofs.Places.{length-listed, get_d_listed, from, from_is, length_from, none_bad}
+use Rattle.pauli.proofs.Places.{length-listed, get_d_listed, from, from_is, none_bad}
 use Rattle.pauli.proofs.StringProducts.{row-product, row_product-is}
 use Rattle.clifford.specs.Layout.{letter_place, row_length, letters_of, decode_row, row_offset, record_length, longest_record, row_of, width_of, row_part, tableau_of, row_qubit, row_letter, read_row, letter_in, row_with, row_with_pair, FormedTableau}
 use Rattle.pauli.specs.Places.{listed}

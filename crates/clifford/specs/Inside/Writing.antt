@@ -1,5 +1,5 @@
 -- What a function that writes may count on once the questions have let it by.
-use Rattle.std.specs.Prelude.{◌≡◌, ℕ, ◌+◌, ◌*◌, ◌<◌, ◌≤◌, true, cond, List, length, slice_set}
+use Rattle.std.specs.Prelude.{◌≡◌, ℕ, ◌+◌, ◌*◌, ◌<◌, ◌≤◌, List, length}
 use Rattle.pauli_group.specs.PauliString.{PauliString, scale, commutation_sign, Within}
 use Rattle.pauli.specs.Layout.{string_of, WellFormed}
 use Rattle.clifford.specs.Layout.{width_of, tableau_of, FormedTableau}
