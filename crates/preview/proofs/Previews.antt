@@ -8,7 +8,7 @@ use native.Mathlib.Decide.{ℕ_discrete}
 use lib.ListN.{length, drop, get_or, set, replicate, length-set, length-replicate, get_or-replicate, drop_of_length-le}
 use lib.Seq.{ext_get_or, set_out, get_or-set_same, get_or-set_other}
 use borrow.Author.Rules.{rules}
-use Rattle.pauli_group.specs.Letter.{I}
+use Rattle.pauli_group.specs.Letter.{Letter, I, X, Y, Z}
 use Rattle.pauli_group.specs.PauliString.{PauliString, qubits, single}
 use Rattle.pauli_group.proofs.Strings.{within-single}
 use Rattle.clifford_group.specs.Tableau.{Tableau, image_of, apply, compose, Proper, Same}
@@ -203,7 +203,7 @@ module _ (g : Generator) (a b : List ℕ) (q : ℕ) (e : preview_questions a b q
       let own : q < (tableau_of (compose_record a b)).width = omega (arith, inside, back.width, width-compose A B, width_of_lem a, width_of_lem b) in
       ap string_record (ap (apply A) first_image ∙ sym (same_row (tableau_of (compose_record a b)) (compose A B) back g q own ∙ row-compose A B g q))
 
-pub row-previewed : (g : Generator) (a b : List ℕ) (q : ℕ) {d f : List ℕ} {r : Outcome} → LetterPreviewed a b (letter_byte (generator g)) q d f r → Previewed g a b q d f r
+row-previewed : (g : Generator) (a b : List ℕ) (q : ℕ) {d f : List ℕ} {r : Outcome} → LetterPreviewed a b (letter_byte (generator g)) q d f r → Previewed g a b q d f r
 unfolding preview_answer
 row-previewed g a b q {d} w = record {
   answer = w.answer;
@@ -215,3 +215,14 @@ row-previewed g a b q {d} w = record {
     same (Ok tt) h = ap (λ (o : List ℕ). written (Ok tt) o d) (h refl)
     same (Err y) h = unfold written in refl
 
+-- a letter's byte is one
+pub byte-small : (l : Letter) {b : ℕ} → b ≡ letter_byte l → b ≤ 3
+unfolding letter_byte
+byte-small I e = omega arith
+byte-small X e = omega arith
+byte-small Z e = omega arith
+byte-small Y e = omega arith
+
+pub byte-previewed : (g : Generator) (a b : List ℕ) (q : ℕ) {l : ℕ} {d f : List ℕ} {r : Outcome} → l ≡ letter_byte (generator g) → LetterPreviewed a b l q d f r
+    → Previewed g a b q d f r
+byte-previewed g a b q {l} {d} {f} {r} e w = row-previewed g a b q (subst (λ x. LetterPreviewed a b x q d f r) e w)

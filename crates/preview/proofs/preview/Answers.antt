@@ -8,5 +8,5 @@ send_letter-requires c = search previewing
 pub returns-in-Ok : goal.returns-in-Ok
 returns-in-Ok c = search previewing
 
-pub returns : goal.returns
-returns c = search previewing
+pub returns-in-Err : goal.returns-in-Err
+returns-in-Err c = search previewing

@@ -5,5 +5,5 @@ use Rattle.preview.proofs.send_letter.Goals as goal
 pub returns-in-Ok : goal.returns-in-Ok
 returns-in-Ok c = search sending
 
-pub returns : goal.returns
-returns c = search sending
+pub returns-in-Err : goal.returns-in-Err
+returns-in-Err c = search sending
