@@ -1,5 +1,5 @@
 -- Images handed out: the row's own part of the record, and where it starts.
-use Rattle.std.proofs.Common.{◌≡◌, ℕ, ◌+◌, ◌*◌, ◌<◌, List, length, sym, refl, ap, ◌∙◌, arith, rules, Result, Ok, Err, IsErrAnd}
+use Rattle.std.proofs.Common.{◌≡◌, ℕ, ◌+◌, ◌*◌, ◌<◌, List, length, sym, refl, ap, ◌∙◌, arith, rules, w64, Fits, Result, Ok, Err, IsErrAnd}
 use Rattle.std.specs.Result.{result_map_both}
 use Rattle.clifford_group.specs.Conjugation.{Generator, of_x, of_z, row}
 use Rattle.pauli.specs.declared.refusal.Refusal.{Refusal}
@@ -24,6 +24,15 @@ generator-row of_z h = omega arith
 row-generator : (g : Generator) (t : List ℕ) {q : ℕ} → q < width_of t → row_of (tableau_of t) (generator_row g (width_of t) q) ≡ row (tableau_of t) g q
 row-generator of_x t {q} h = row-x (tableau_of t) q (omega (arith, width_of_lem t))
 row-generator of_z t {q} h = ap (λ (j : ℕ). row_of (tableau_of t) (j + q)) (sym (width_of_lem t)) ∙ row-z (tableau_of t) q
+
+-- a row is as far behind the rows before its letter's as its qubit
+pub row-after : (g : Generator) (w q : ℕ) {r : ℕ} → r ≡ generator_row g w 0 → r + q ≡ generator_row g w q
+row-after of_x w q e = omega arith
+row-after of_z w q e = omega arith
+
+pub row-fits : (g : Generator) {w q r : ℕ} → SlotIndex w q → r ≡ generator_row g w 0 → Fits w64 (r + q)
+row-fits of_x i e = record { fits = omega (arith, i.narrow, i.own) }
+row-fits of_z i e = record { fits = omega (arith, i.narrow, i.own) }
 
 pub generator_index : (g : Generator) {w q r : ℕ} → SlotIndex w q → r ≡ generator_row g w q → RowIndex w r
 generator_index g {w} {q} o e = record { narrow = o.narrow; own = omega (arith, e, generator-row g o.own) }

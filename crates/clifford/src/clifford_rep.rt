@@ -28,10 +28,9 @@ use pauli::refusal::Refusal;
 pub trait Generator {
     ghost letter: { Generator };
 
-    // The row of its image on this qubit: X rows come first.
-    fn row(width: usize, slot: usize) -> usize
-        requires { SlotIndex width slot }
-        ensures { result ≡ generator_row letter width slot };
+    // The rows before those of its images: X rows come first.
+    fn before(width: usize) -> usize
+        ensures { result ≡ generator_row letter width 0 };
 
     // Its byte.
     fn byte() -> u8
@@ -45,8 +44,8 @@ pub struct Z;
 impl Generator for X {
     ghost letter = { of_x };
 
-    fn row(_width: usize, slot: usize) -> usize {
-        slot
+    fn before(_width: usize) -> usize {
+        0
     }
 
     #[tactic(auto, unfolding(pauli::specs::Layout::letter_byte))]
@@ -58,14 +57,22 @@ impl Generator for X {
 impl Generator for Z {
     ghost letter = { of_z };
 
-    fn row(width: usize, slot: usize) -> usize {
-        width + slot
+    fn before(width: usize) -> usize {
+        width
     }
 
     #[tactic(auto, unfolding(pauli::specs::Layout::letter_byte))]
     fn byte() -> u8 {
         2
     }
+}
+
+// The row of the letter's image on this qubit.
+fn image_row<G: Generator>(width: usize, slot: usize) -> usize
+    requires { SlotIndex width slot }
+    ensures { result ≡ generator_row G.letter width slot }
+{
+    G::before(width) + slot
 }
 
 // Whether a qubit has images to hand out.
@@ -81,7 +88,7 @@ pub fn image<G: Generator>(t: &[u8], slot: usize) -> Result<&[u8], Refusal>
     ensures { result_map_both (λ part. part.now) (λ why. why) result ≡ image_part G.letter t.now slot }
 {
     check_image(t, slot)?;
-    Ok(row(t, G::row(width(t), slot)))
+    Ok(row(t, image_row::<G>(width(t), slot)))
 }
 
 // Where in the record that image starts.
@@ -90,7 +97,7 @@ pub fn image_offset<G: Generator>(t: &[u8], slot: usize) -> Result<usize, Refusa
 {
     check_image(t, slot)?;
     let n = width(t);
-    Ok(row_offset(n, G::row(n, slot)))
+    Ok(row_offset(n, image_row::<G>(n, slot)))
 }
 
 fn check_set(t: &[u8], slot: usize, s: &[u8]) -> Result<(), Refusal>
@@ -108,7 +115,7 @@ pub fn set_image<G: Generator>(t: &mut [u8], slot: usize, s: &[u8]) -> Result<()
     ensures { ImageSet G.letter slot s.now t.old t.new result }
 {
     check_set(t, slot, s)?;
-    set_row(t, G::row(width(t), slot), s);
+    set_row(t, image_row::<G>(width(t), slot), s);
     Ok(())
 }
 
