@@ -1,7 +1,7 @@
 // Tableaux: their action on strings, their composition, their images. Ports clifford_rep.rs of PECOS, changed:
 // Copyright 2024 The PECOS Developers, Apache License, Version 2.0.
-ghost use Rattle.std.specs.Prelude.{◌≡◌};
-ghost use Rattle.std.specs.Result.{result_map_both};
+ghost use Rattle.std.specs.Prelude.{◌≡◌, []};
+ghost use Rattle.std.specs.Result.{result_map_both, result_unwrap_or};
 ghost use Rattle.clifford_group.specs.Conjugation.{Generator, generator, of_x, of_z};
 ghost use Rattle.pauli.specs.Layout.{letter_byte};
 ghost use Rattle.clifford.specs.Layout.{generator_row};
@@ -89,6 +89,16 @@ pub fn image<G: Generator>(t: &[u8], slot: usize) -> Result<&[u8], Refusal>
 {
     check_image(t, slot)?;
     Ok(row(t, image_row::<G>(width(t), slot)))
+}
+
+// That part; no bytes where there is none to hand out.
+pub fn image_or_none<G: Generator>(t: &[u8], slot: usize) -> &[u8]
+    ensures { result.now ≡ result_unwrap_or (image_part G.letter t.now slot) [] }
+{
+    match image::<G>(t, slot) {
+        Ok(part) => part,
+        Err(_) => &t[0..0],
+    }
 }
 
 // Where in the record that image starts.

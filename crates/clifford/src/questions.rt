@@ -1,4 +1,4 @@
-// The questions on entry that are put to tableaux and to gates. Each answers Done, or the refusal.
+// The questions on entry that are put to tableaux and to gates. Each lets by, or answers the refusal.
 ghost use Rattle.std.specs.Prelude.{◌≡◌, ◌*◌, min};
 ghost use Rattle.pauli.specs.Questions.{◌and_then◌};
 ghost use Rattle.clifford.specs.Layout.{record_length, width_of};

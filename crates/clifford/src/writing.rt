@@ -152,8 +152,8 @@ impl RowMaker for OfGate {
     }
 }
 
-// Row r of it, over the front of dst.
-fn write_made_row<M: RowMaker>(made: &M, r: usize, dst: &mut [u8])
+// The apply routine for rows: the generator of row r sent through what is made, as the row at the front of dst.
+fn apply_to_row<M: RowMaker>(made: &M, r: usize, dst: &mut [u8])
     requires { WritesRow (M.wide made.now) (M.made made.now) r dst.old }
     ensures { dst.new ≡ row_written (M.wide made.now) (row_of (M.made made.now) r) dst.old }
 {
@@ -174,7 +174,7 @@ fn write_rows<M: RowMaker>(made: &M, dst: &mut [u8])
     dst[0] = width as u8;
     for r in 0..2 * width {
         let at = row_offset(width, r);
-        write_made_row(made, r, &mut dst[at..]);
+        apply_to_row(made, r, &mut dst[at..]);
     }
 }
 

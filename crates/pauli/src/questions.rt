@@ -1,4 +1,4 @@
-// The questions on entry that every layer puts. Each answers Ok, or the refusal.
+// The questions on entry that every layer puts. Each lets by, or answers the refusal.
 ghost use Rattle.std.specs.Prelude.{◌≡◌};
 ghost use Rattle.pauli.specs.Questions.{byte_question, pair_questions, string_questions, strings_questions, qubit_question, room_question};
 

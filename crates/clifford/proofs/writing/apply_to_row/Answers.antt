@@ -1,6 +1,6 @@
--- `writing::write_made_row` meets its contract.
+-- `writing::apply_to_row` meets its contract.
 use Rattle.clifford.proofs.Made.{written_rows}
-use Rattle.clifford.proofs.writing.write_made_row.Goals as goal
+use Rattle.clifford.proofs.writing.apply_to_row.Goals as goal
 
 pub write_row-requires : goal.write_row-requires
 write_row-requires g c = search written_rows
