@@ -1,5 +1,6 @@
 -- Images handed out: the row's own part of the record, and where it starts.
-use Rattle.std.proofs.Common.{◌≡◌, ℕ, ◌+◌, ◌*◌, ◌<◌, List, length, sym, refl, ap, ◌∙◌, arith, rules, w64, Fits, Result, Ok, Err, IsErrAnd}
+use Rattle.std.specs.Result.{result_unwrap_or}
+use Rattle.std.proofs.Common.{◌≡◌, ℕ, ◌+◌, ◌*◌, ◌<◌, List, [], length, sym, refl, ap, ◌∙◌, arith, rules, w64, Fits, Result, Ok, Err, IsErrAnd}
 use Rattle.std.specs.Result.{result_map_both}
 use Rattle.clifford_group.specs.Conjugation.{Generator, of_x, of_z, row}
 use Rattle.pauli.specs.declared.refusal.Refusal.{Refusal}
@@ -88,3 +89,12 @@ module _ (g : Generator) (t : List ℕ) (slot : ℕ) {x : Refusal} (h : Err x �
 pub ruleset images = (image-slot, image-inside, image-handed, image-refused, rules)
 
 pub ruleset image_offsets = (generator_index, image-slot, image-offset, answered-exit, rules)
+
+-- no bytes are handed out exactly where the questions refuse: a row has some
+pub image-none : (g : Generator) (t : List ℕ) (slot : ℕ) {x : Refusal} → image_questions t slot ≡ Err x → result_unwrap_or (image_part g t slot) [] ≡ []
+unfolding image_part answer_to
+image-none g t slot h = ap (λ q. result_unwrap_or (answer_to q (row_part t (generator_row g (width_of t) slot))) []) h
+
+pub image-some : (g : Generator) (t : List ℕ) (slot : ℕ) → Ok tt ≡ image_questions t slot → result_unwrap_or (image_part g t slot) [] ≡ [] → ⊥
+unfolding encode_row
+image-some g t slot h e = let none = sym (ap (λ r. result_unwrap_or r []) (image_lem t slot h g)) ∙ e in cc
