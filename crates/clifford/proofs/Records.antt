@@ -20,6 +20,10 @@ record-small w h =
     let a : 2 * w * suc (suc w) ≤ 256 * suc (suc w) = mul-le-mul_right (suc (suc w)) (omega arith) in
     omega arith
 
+pub longest-is : record_length 128 ≡ longest_record
+unfolding record_length row_length letter_place
+longest-is = refl
+
 -- ---- rows of a record
 pub part_record : (t : Tableau) (r : ℕ) → r < 2 * t.width → row_part (tableau_record t) r ≡ encode_row t.width (row_of t r)
 unfolding tableau_record row_part row_offset
