@@ -60,6 +60,9 @@ pub then_err : {q : Outcome} {x : Refusal} (y : Outcome) → q ≡ Err x → q a
 unfolding ◌and_then◌
 then_err y h = ap (λ z. z and_then y) h
 
+-- one question by its test
+pub ruleset by_tests = (asked_yes, asked_no)
+
 pub ruleset by_questions = (then_ok, then_err, by_answers)
 
 pub ruleset in_order = (branch_done, exit_not, first_not, first_done)
