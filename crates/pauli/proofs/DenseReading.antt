@@ -71,7 +71,7 @@ module _ (c k q : ℕ) {b : Bool} {l : ℕ} (e : b ≡ is_identity c) (h : b ≡
   unfolding dense_letter qubits
   letter-out z s = passed (asked_yes (NotLetter k) (known z)) refl (asked_no (TextQubit k) (ap₂ ◌||◌ not-identity (le-ltb q 128 s)))
 
-pub ruleset dense-letters = (letter-identity, letter_unknown, letter_in_lem, letter-out, rules)
+pub ruleset dense_letters = (letter-identity, letter_unknown, letter_in_lem, letter-out, rules)
 
 -- ---- letter by letter, before place i
 pub record Lettered (b : List ℕ) (o i : ℕ) : Type 0 where
@@ -176,7 +176,7 @@ pub dense-bytes : (t b d : List ℕ) (k p : ℕ) {r : Outcome} {e : List ℕ} �
     → e ≡ p ∷ letters_named 128 b ++ drop 129 d → Written (from_dense_questions t (length d)) (dense_record t) d e (Ok tt)
 dense-bytes t b d k p at ep h done w = written-done (own_done h done) (w ∙ ap (λ (l : List ℕ). l ++ drop 129 d) (named-record t b k p at ep) ∙ dense-record t d)
 
-pub ruleset dense-strings = (dense_written, dense-room, dense-bytes, answers, in_order, rules)
+pub ruleset dense_strings = (dense_written, dense-room, dense-bytes, answers, in_order, rules)
 
 -- the body, from the prefix to the trimmed end
 pub dense-at : {t : List ℕ} {h : Head} {k e : ℕ} → HeadRead t h → EndRead t k → e ≡ max k h.at → length t < 18446744073709551616

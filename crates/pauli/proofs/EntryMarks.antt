@@ -63,8 +63,6 @@ qubits_pass e m h = qubits-good e (none_left_lem m h) h
 
 pub ruleset entry_scans = (letter_refused, letters_pass, qubit_refused, qubits_pass, none_start, none_more, le-ltb, lt-leb, rules)
 
-pub ruleset entry-questions = (entries_odd, entries-even, rules)
-
 -- what they let by
 pub letters-small : (p : ℕ) (e : List ℕ) → entry_questions p e ≡ Ok tt → (j : ℕ) → j < entry_count e → entry_letter e j ≤ 3
 unfolding entry_questions entry_letters_question first_bad_entry

@@ -54,7 +54,7 @@ read_done p e {m} {room} h em hs = record {
   marks = λ d. em;
 }
 
-pub ruleset entry-reads = (read_refused, read_unmarked, read_done, in_order, rules)
+pub ruleset entry_reads = (read_refused, read_unmarked, read_done, in_order, rules)
 
 -- ---- the letters written from the marks
 pub letter_marked : (n : ℕ) (m : List ℕ) (i : ℕ) {x : ℕ} → x ≡ get_or m i 0 - 1 → i < n → x ≡ get_or (letters_marked n m) i 0
@@ -139,4 +139,4 @@ module _ {p : ℕ} {e : List ℕ} {m : List ℕ} {r : Outcome} (d : List ℕ) (r
 pub blank_zeros : Blank (replicate 128 0)
 blank_zeros = record { none = no_marks }
 
-pub ruleset entry-strings = (marked_written, row_fits, marks_fit, entries_written, answers, in_order, rules)
+pub ruleset entry_strings = (marked_written, row_fits, marks_fit, entries_written, answers, in_order, rules)

@@ -231,4 +231,4 @@ module _ (s t d : List ℕ) {sight : Sight} (l : Looked s t sight) (p : Ok tt �
 pub row_room : {s t d : List ℕ} {places : ℕ} → Operands s t places d → length (take 128 (drop 1 d)) ≡ 128
 row_room {d = d} f = length-take 128 (drop 1 d) ∙ omega (arith, f.room, length-drop 1 d)
 
-pub ruleset string-products = (mul-asked, product_written, operands, begins, multiplied, answers, in_order, rules)
+pub ruleset string_products = (mul-asked, product_written, operands, begins, multiplied, answers, in_order, rules)

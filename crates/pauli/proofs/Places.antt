@@ -178,7 +178,7 @@ none_bad s e h =
     never : length s < length s → ⊥
     never l = omega arith
 
-pub ruleset largest-bytes = (largest_start, largest_step, largest_all, rules)
+pub ruleset largest_bytes = (largest_start, largest_step, largest_all, rules)
 
 -- what a scan that keeps the first place p knows before place i; p is n where none is seen yet
 pub record FirstSeen (n : ℕ) (f : ℕ → Bool) (i p : ℕ) : Type 0 where

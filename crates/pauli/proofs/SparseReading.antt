@@ -261,4 +261,4 @@ module _ (t : List ℕ) (k l f : ℕ) (at : LetterAt t k l) (skip : Skipped lead
         entry_not (tokens k (drop k t)) t k l e f second (omega (arith, at.letter, letter-small (get_or t k 0)))
         (omega (arith, skip.onward, end.onward)) end.within apart_asked apart_named
 
-pub ruleset sparse-entries = (unknown_letter, attached, attached-not, alone, apart_none, apart_some, apart_not, rules)
+pub ruleset sparse_entries = (unknown_letter, attached, attached-not, alone, apart_none, apart_some, apart_not, rules)

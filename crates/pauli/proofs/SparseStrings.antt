@@ -87,4 +87,4 @@ module _ {t m : List ℕ} {r : Outcome} {h : Head} (d : List ℕ) (head : HeadRe
       (marked_bytes h.phase (sparse_entries t) m phase-is (read.good done).letters (done_first _ _ after-tokens) (read.marks done) d w
       ∙ ap (λ (p : ℕ). written (Ok tt) (string_record (entries_string p (sparse_entries t))) d) head.phase)
 
-pub ruleset sparse-strings = (sparse-at, sparse_fit, sparse_written, answers, in_order, rules)
+pub ruleset sparse_strings = (sparse-at, sparse_fit, sparse_written, answers, in_order, rules)

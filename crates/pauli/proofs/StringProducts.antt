@@ -42,7 +42,7 @@ row_by_none [] t h = refl
 row_by_none (x ∷ a) [] h = refl
 row_by_none (x ∷ a) (y ∷ b) h = absurd (omega arith)
 
-pub ruleset row-products = (row-product, row-none, row_by_none, rules)
+pub ruleset row_products = (row-product, row-none, row_by_none, rules)
 
 -- ---- the product of strings of w and n letters
 module _ (w n x y : ℕ) (a b : List ℕ) (n≤w : n ≤ w) (w≤ : w ≤ qubits) (fd : WellFormed w (x ∷ a)) (ft : WellFormed n (y ∷ b)) where

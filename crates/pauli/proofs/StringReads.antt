@@ -66,4 +66,4 @@ module _ (s t : List ℕ) (p : Ok tt ≡ strings_questions s t) where
       letter_here_lem : (u : List ℕ) (q : ℕ) → q < 128 → letter_of (get_or (from 1 u) q 0) ≡ (decode_string 128 u).letters q
       letter_here_lem u q l = ap letter_of (from_at u q) ∙ sym (decode_letter 128 u q l)
 
-pub ruleset string-reads = (get_asked, phase_read, phase-place, letter_read, letter-place, letter_index, first-place, second-place, places_are, answers, in_order, rules)
+pub ruleset string_reads = (get_asked, phase_read, phase-place, letter_read, letter-place, letter_index, first-place, second-place, places_are, answers, in_order, rules)

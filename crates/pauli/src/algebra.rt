@@ -56,6 +56,7 @@ pub fn multiply_paulis(a: u8, b: u8) -> PhasedLetter
 }
 
 // The product of two letters, as a phase and a letter.
+#[tactic(auto, using(crate::proofs::Asking::by_questions), unfolding(crate::specs::Answers::answer_to, crate::specs::Answers::reply_of, crate::specs::Answers::reply_to))]
 pub fn letter_product(a: u8, b: u8) -> Result<PhasedLetter, Refusal>
     ensures { LettersMultiplied a b result }
 {
@@ -71,6 +72,7 @@ struct Sight {
 }
 
 // What is seen with the bytes of one more place, q.
+#[tactic(auto, using(crate::proofs::Asking::by_tests, crate::proofs::Asking::by_questions), unfolding(crate::specs::Inside::Products::seen_with))]
 fn see(sight: Sight, x: u8, y: u8, q: usize) -> Sight
     requires { q < 128 }
     ensures { result ≡ seen_with sight x y q }
@@ -118,6 +120,7 @@ fn check_seen(s: &[u8], t: &[u8], largest: u8) -> Result<(), Refusal>
 }
 
 // The turns with those of one more product of letters; the byte wraps at 256, a multiple of 4.
+#[tactic(auto, using(crate::proofs::Turns::places))]
 fn add_turns(turns: u8, x: u8, y: u8) -> u8
     requires { LetterBytes x y }
     ensures { power result ≡ power turns · letter_phase (letter_of x) (letter_of y) }

@@ -31,6 +31,7 @@ fn text_end(t: &[u8]) -> usize
 }
 
 // One letter, at this offset, for this qubit.
+#[tactic(auto, using(crate::proofs::DenseReading::dense_letters))]
 fn check_letter(c: u8, offset: usize, qubit: usize) -> Result<(), Refusal>
     ensures { result ≡ dense_letter c offset qubit }
 {
@@ -47,6 +48,7 @@ fn check_letter(c: u8, offset: usize, qubit: usize) -> Result<(), Refusal>
 }
 
 // The letters of a body that begins at this offset, one after another.
+#[tactic(auto, using(crate::proofs::DenseReading::letterings))]
 fn check_letters(body: &[u8], offset: usize) -> Result<(), Refusal>
     requires { offset + length body.now < 18446744073709551616 }
     ensures { result ≡ letter_questions offset 0 body.now }

@@ -9,6 +9,7 @@ use crate::questions::{check_byte, check_room};
 use crate::refusal::Refusal;
 use crate::{QUBITS, STRING_LENGTH};
 
+#[tactic(auto, using(crate::proofs::Asking::by_tests, crate::proofs::Asking::by_questions), unfolding(crate::specs::Questions::even_question))]
 fn check_even(entries: &[u8]) -> Result<(), Refusal>
     ensures { result ≡ even_question entries.now }
 {
@@ -18,6 +19,7 @@ fn check_even(entries: &[u8]) -> Result<(), Refusal>
     Ok(())
 }
 
+#[tactic(auto, using(crate::proofs::EntryMarks::entry_scans))]
 fn check_entry_letters(entries: &[u8]) -> Result<(), Refusal>
     ensures { result ≡ entry_letters_question entries.now }
 {
@@ -42,6 +44,7 @@ fn check_entry_qubits(entries: &[u8]) -> Result<(), Refusal>
 }
 
 // The questions put to a phase and to entries before their qubits are compared.
+#[tactic(auto, using(crate::proofs::Asking::by_tests, crate::proofs::Asking::by_questions), unfolding(crate::specs::Questions::entry_questions))]
 pub(crate) fn check_entries(phase: u8, entries: &[u8]) -> Result<(), Refusal>
     ensures { result ≡ entry_questions phase entries.now }
 {
@@ -60,6 +63,7 @@ const TWICE: u8 = 5;
 pub(crate) struct Marks([u8; QUBITS]);
 
 impl Marks {
+    #[tactic(auto, using(crate::proofs::EntryStrings::blank_zeros))]
     pub(crate) fn new() -> Marks
         ensures { Blank result.0 }
     {
@@ -67,6 +71,7 @@ impl Marks {
     }
 
     // One more entry with this letter on this qubit.
+    #[tactic(auto, using(crate::proofs::Asking::by_tests, crate::proofs::Asking::by_questions), unfolding(crate::specs::Inside::Marks::mark_more))]
     pub(crate) fn mark(&mut self, letter: u8, qubit: usize)
         requires { MarkFits letter qubit }
         ensures { self.new.0 ≡ slice_set self.old.0 qubit (mark_more (slice_index self.old.0 qubit) letter) }
@@ -99,6 +104,7 @@ impl Marks {
     }
 
     // Question 12 by the marks, then 7.
+    #[tactic(auto, using(crate::proofs::Asking::questions))]
     pub(crate) fn check(&self, room: usize) -> Result<(), Refusal>
         ensures { result ≡ (marks_question self.now.0 and_then room_question 129 room) }
     {

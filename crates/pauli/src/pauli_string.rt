@@ -74,6 +74,7 @@ pub fn from_str(t: &[u8], dst: &mut [u8]) -> Result<(), Refusal>
 }
 
 // The questions of `to_sparse_str`, in their order: the room is asked for this very text.
+#[tactic(auto, using(crate::proofs::StringTexts::string_texts))]
 fn to_sparse_answer(s: &[u8], room: usize) -> Result<(), Refusal>
     ensures { result ≡ to_sparse_questions s.now room }
 {

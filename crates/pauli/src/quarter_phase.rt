@@ -10,6 +10,7 @@ use crate::refusal::Refusal;
 use crate::rows::phase_times;
 
 // The product of two phases.
+#[tactic(auto, using(crate::proofs::Asking::by_questions), unfolding(crate::specs::Answers::answer_to, crate::specs::Answers::reply_of, crate::specs::Answers::reply_to))]
 pub fn multiply(a: u8, b: u8) -> Result<u8, Refusal>
     ensures { PhasesMultiplied a b result }
 {
@@ -30,6 +31,7 @@ pub fn phase_conjugate(p: u8) -> u8
     }
 }
 
+#[tactic(auto, using(crate::proofs::Asking::by_questions), unfolding(crate::specs::Answers::answer_to, crate::specs::Answers::reply_of, crate::specs::Answers::reply_to))]
 pub fn conjugate(p: u8) -> Result<u8, Refusal>
     ensures { PhaseConjugated p result }
 {
@@ -38,12 +40,14 @@ pub fn conjugate(p: u8) -> Result<u8, Refusal>
 }
 
 // Whether a phase byte is +1 or -1; a byte above 3 is read as 3.
+#[tactic(auto, using(crate::proofs::Asking::by_tests, crate::proofs::Asking::by_questions), unfolding(pauli_group::specs::Phase::is_real, crate::specs::Layout::phase_of))]
 fn real_phase(p: u8) -> bool
     ensures { result ≡ is_real (phase_of p) }
 {
     p < 2
 }
 
+#[tactic(auto, using(crate::proofs::Asking::by_questions), unfolding(crate::specs::Answers::answer_to, crate::specs::Answers::reply_of, crate::specs::Answers::reply_to))]
 pub fn is_real(p: u8) -> Result<bool, Refusal>
     ensures { PhaseIsReal p result }
 {

@@ -6,6 +6,7 @@ use crate::refusal::Refusal;
 use crate::{QUBITS, STRING_LENGTH};
 
 // A phase or a letter given by itself.
+#[tactic(auto, using(crate::proofs::Asking::by_tests, crate::proofs::Asking::by_questions), unfolding(crate::specs::Questions::byte_question))]
 pub fn check_byte(b: u8) -> Result<(), Refusal>
     ensures { result ≡ byte_question b }
 {
@@ -16,6 +17,7 @@ pub fn check_byte(b: u8) -> Result<(), Refusal>
 }
 
 // Two of them, the first one first.
+#[tactic(auto, using(crate::proofs::Asking::by_tests, crate::proofs::Asking::by_questions), unfolding(crate::specs::Questions::pair_questions))]
 pub fn check_pair(a: u8, b: u8) -> Result<(), Refusal>
     ensures { result ≡ pair_questions a b }
 {
@@ -24,6 +26,7 @@ pub fn check_pair(a: u8, b: u8) -> Result<(), Refusal>
 }
 
 // A string record.
+#[tactic(auto, using(crate::proofs::Asking::questions))]
 pub fn check_string(s: &[u8]) -> Result<(), Refusal>
     ensures { result ≡ string_questions s.now }
 {
@@ -38,6 +41,7 @@ pub fn check_string(s: &[u8]) -> Result<(), Refusal>
 }
 
 // Two string records, the first one first.
+#[tactic(auto, using(crate::proofs::Asking::questions), unfolding(crate::specs::Questions::strings_questions))]
 pub fn check_strings(s: &[u8], t: &[u8]) -> Result<(), Refusal>
     ensures { result ≡ strings_questions s.now t.now }
 {
@@ -45,6 +49,7 @@ pub fn check_strings(s: &[u8], t: &[u8]) -> Result<(), Refusal>
     check_string(t)
 }
 
+#[tactic(auto, using(crate::proofs::Asking::questions))]
 pub fn check_qubit(qubit: usize) -> Result<(), Refusal>
     ensures { result ≡ qubit_question qubit }
 {
@@ -55,6 +60,7 @@ pub fn check_qubit(qubit: usize) -> Result<(), Refusal>
 }
 
 // Room for the bytes that an answer needs.
+#[tactic(auto, using(crate::proofs::Asking::by_tests, crate::proofs::Asking::by_questions), unfolding(crate::specs::Questions::room_question))]
 pub fn check_room(needed: usize, room: usize) -> Result<(), Refusal>
     ensures { result ≡ room_question needed room }
 {

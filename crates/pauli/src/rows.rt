@@ -1,5 +1,5 @@
 // Kernels on rows of letter bytes. They stop at the shortest row and read a byte above 3 as 3, so they ask nothing of a caller.
-ghost use Rattle.std.specs.Prelude.{◌≡◌, ◌%◌, ◌≤◌, min, max, length};
+ghost use Rattle.std.specs.Prelude.{◌≡◌, ◌%◌, ◌≤◌, length};
 ghost use Rattle.pauli_group.specs.Phase.{◌·◌};
 ghost use Rattle.pauli_group.specs.Letter.{letter_mul};
 ghost use Rattle.pauli_group.specs.Papers.{power};
@@ -8,13 +8,8 @@ ghost use Rattle.pauli.specs.Questions.{first_bad};
 ghost use Rattle.pauli.specs.Rows.{phase_bytes_product, places_of, letter_count, largest_to, Scanned, shorter, RowTimes, row_product, copied};
 ghost use Rattle.pauli.specs.Inside.Turns.{LetterByte, LetterBytes, ForY, LetterTurns, PhaseTurns, anticommuting, lettered, scanned_with};
 
-pub fn smaller(a: usize, b: usize) -> usize
-    ensures { result ≡ min a b }
-{
-    a.min(b)
-}
-
 // A letter byte; a byte above 3 is read as 3.
+#[tactic(auto, using(crate::proofs::Turns::places))]
 fn letter_byte(x: u8) -> u8
     ensures { LetterByte x result }
 {
@@ -22,6 +17,7 @@ fn letter_byte(x: u8) -> u8
 }
 
 // k for the byte of Y, else 0.
+#[tactic(auto, using(crate::proofs::Turns::places))]
 fn for_y(x: u8, k: u8) -> u8
     requires { x ≤ 3 }
     ensures { ForY k x result }
@@ -30,6 +26,7 @@ fn for_y(x: u8, k: u8) -> u8
 }
 
 // The letter of a product of two letters: the bits of X and of Z are added.
+#[tactic(auto, using(crate::proofs::Turns::places))]
 fn times_letter(a: u8, b: u8) -> u8
     ensures { result ≡ letter_byte (letter_mul (letter_of a) (letter_of b)) }
 {
@@ -46,6 +43,7 @@ pub(crate) fn letter_turns(x: u8, y: u8) -> u8
 }
 
 // The same of any two bytes.
+#[tactic(auto, using(crate::proofs::Turns::places))]
 fn times_turns(a: u8, b: u8) -> u8
     ensures { LetterTurns a b result }
 {
@@ -77,6 +75,7 @@ fn turns_phase(t: u8) -> u8
 }
 
 // The product of two phases.
+#[tactic(auto, using(crate::proofs::Turns::places))]
 pub fn phase_times(a: u8, b: u8) -> u8
     ensures { result ≡ phase_bytes_product a b }
 {
@@ -84,6 +83,7 @@ pub fn phase_times(a: u8, b: u8) -> u8
 }
 
 // The product of two phases and of quarter turns.
+#[tactic(auto, using(crate::proofs::Turns::places))]
 pub(crate) fn turned_phase(a: u8, b: u8, turns: u8) -> u8
     ensures { result ≡ phase_byte (phase_of a · phase_of b · power turns) }
 {
@@ -108,6 +108,7 @@ pub fn multiply_letters(acc: &mut [u8], b: &[u8], phase: u8) -> u8
 }
 
 // The row, a phase and letters, multiplied by the row t on the right, in place.
+#[tactic(auto, using(crate::proofs::StringProducts::row_products))]
 pub fn multiply_row(row: &mut [u8], t: &[u8])
     ensures { row.new ≡ row_product row.old t.now }
 {
@@ -120,6 +121,7 @@ pub fn multiply_row(row: &mut [u8], t: &[u8])
 }
 
 // 1 where two letters anticommute, else 0.
+#[tactic(auto, using(crate::proofs::Turns::places))]
 fn letters_anticommute(a: u8, b: u8) -> u8
     ensures { result ≡ anticommuting a b }
 {
@@ -129,6 +131,7 @@ fn letters_anticommute(a: u8, b: u8) -> u8
 }
 
 // The number of places, of those that both rows have, at which the letters anticommute, modulo 256.
+#[tactic(auto, using(crate::proofs::RowProducts::counts), unfolding(pauli_group::specs::PauliString::count_to))]
 pub fn count_anticommuting(a: &[u8], b: &[u8]) -> u8
     ensures { result ≡ places_of (shorter a.now b.now) a.now b.now % 256 }
 {
@@ -149,6 +152,7 @@ fn is_letter(x: u8) -> u8
 }
 
 // The number of letters other than I, modulo 256.
+#[tactic(auto, using(crate::proofs::RowProducts::counts), unfolding(pauli_group::specs::PauliString::count_to))]
 pub fn count_letters(s: &[u8]) -> u8
     ensures { result ≡ letter_count s.now % 256 }
 {
@@ -160,6 +164,7 @@ pub fn count_letters(s: &[u8]) -> u8
 }
 
 // The largest byte, 0 where there is none.
+#[tactic(auto, using(crate::proofs::Asking::by_tests, crate::proofs::Asking::by_questions), unfolding(crate::specs::Rows::largest_to))]
 fn largest(s: &[u8]) -> u8
     ensures { result ≡ largest_to (length s.now) s.now }
 {
@@ -178,6 +183,7 @@ pub struct LetterScan {
 }
 
 // What is seen with one more byte.
+#[tactic(auto, using(crate::proofs::Asking::by_tests, crate::proofs::Asking::by_questions), unfolding(crate::specs::Inside::Turns::scanned_with))]
 fn scan_one(seen: LetterScan, x: u8) -> LetterScan
     ensures { result ≡ scanned_with seen x }
 {
@@ -212,6 +218,7 @@ pub fn first_bad(s: &[u8]) -> usize
 }
 
 // src copied to the front of dst, as far as both reach.
+#[tactic(auto, using(crate::proofs::Asking::by_tests, crate::proofs::Asking::by_questions), unfolding(crate::specs::Rows::copied))]
 pub fn copy(src: &[u8], dst: &mut [u8])
     ensures { dst.new ≡ copied src.now dst.old }
 {

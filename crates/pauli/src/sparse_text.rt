@@ -10,6 +10,7 @@ use crate::QUBITS;
 use crate::text_writer::{put, put_decimal, put_text};
 
 // +, -, +i or -i; a byte above 3 is read as 3.
+#[tactic(auto, unfolding(crate::specs::SparseText::prefix_text, crate::specs::Layout::phase_of))]
 fn write_prefix(dst: &mut [u8], phase: u8) -> usize
     ensures { Stored 0 (prefix_text (phase_of phase)) dst.old dst.new result }
 {
@@ -74,6 +75,7 @@ pub(crate) fn write_sparse(phase: u8, letters: &[u8], dst: &mut [u8]) -> usize
 }
 
 // That text from a place on.
+#[tactic(auto, using(crate::proofs::TextWrites::part_puts))]
 pub fn put_sparse(dst: &mut [u8], at: usize, phase: u8, letters: &[u8]) -> usize
     ensures { Stored at (row_text phase letters.now) dst.old dst.new result }
 {

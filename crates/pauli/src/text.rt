@@ -70,6 +70,7 @@ pub(crate) struct Prefix {
 }
 
 // The prefix at a text's first two bytes.
+#[tactic(auto, using(std::proofs::lemmas::Bool::Decides::nat_tests), unfolding(crate::specs::Text::prefix_phase, crate::specs::Text::prefix_length, crate::specs::Text::is_sign, crate::specs::Text::is_small_i, crate::specs::Layout::phase_byte))]
 fn read_prefix(a: u8, b: u8) -> Prefix
     ensures { PrefixRead a b result }
 {
@@ -130,6 +131,7 @@ fn digits(ds: &[u8]) -> Option<u64>
 }
 
 // An index: an optional + and then digits, below 2^64.
+#[tactic(auto, using(crate::proofs::Numerals::indexes))]
 pub(crate) fn read_numeral(bs: &[u8]) -> Option<u64>
     ensures { result ≡ index_numeral bs.now }
 {

@@ -9,6 +9,7 @@ ghost use Rattle.pauli.specs.TextWriting.{Stored};
 use crate::rows::copy;
 
 // One byte.
+#[tactic(auto, using(crate::proofs::TextWrites::put_in, crate::proofs::TextWrites::put_out))]
 pub(crate) fn put(dst: &mut [u8], at: usize, c: u8) -> usize
     ensures { Stored at (c ∷ []) dst.old dst.new result }
 {
@@ -19,6 +20,7 @@ pub(crate) fn put(dst: &mut [u8], at: usize, c: u8) -> usize
 }
 
 // A text, through the part of the destination that starts at the place: an empty part where it does not reach.
+#[tactic(auto, using(crate::proofs::TextWrites::part_puts))]
 pub fn put_text(dst: &mut [u8], at: usize, text: &[u8]) -> usize
     ensures { Stored at text.now dst.old dst.new result }
 {

@@ -1,7 +1,7 @@
 -- `algebra::mul` meets its contract: the questions, and the product where they let it by.
 use Rattle.pauli.proofs.Answers.{number-exit}
 use Rattle.pauli.proofs.Asking.{first_not, first_done}
-use Rattle.pauli.proofs.Multiplying.{string-products}
+use Rattle.pauli.proofs.Multiplying.{string_products}
 use Rattle.pauli.specs.Questions.{mul_questions}
 use Rattle.pauli.proofs.algebra.mul.Goals as goal
 
@@ -14,7 +14,7 @@ unfolding mul_questions
 returns-in_err-check_room c = number-exit _ _ _ (first_done c.in_ok-check_seen.ensures c.in_err-check_room.ensures) c.from_residual-in_err-check_room.ensures.1
 
 pub write_product-requires : goal.write_product-requires
-write_product-requires c = search (string-products, c.in_ok-check_seen.ensures, c.in_ok-check_room.ensures)
+write_product-requires c = search (string_products, c.in_ok-check_seen.ensures, c.in_ok-check_room.ensures)
 
 pub returns : goal.returns
-returns c = search (string-products, c.in_ok-check_seen.ensures, c.in_ok-check_room.ensures)
+returns c = search (string_products, c.in_ok-check_seen.ensures, c.in_ok-check_room.ensures)

@@ -1,9 +1,9 @@
 -- `algebra::write_product` meets its contract.
-use Rattle.pauli.proofs.Multiplying.{string-products}
+use Rattle.pauli.proofs.Multiplying.{string_products}
 use Rattle.pauli.proofs.algebra.write_product.Goals as goal
 
 pub multiply_places-turns-requires : goal.multiply_places-turns-requires
-multiply_places-turns-requires c = search string-products
+multiply_places-turns-requires c = search string_products
 
 pub returns : goal.returns
-returns c = search string-products
+returns c = search string_products

@@ -1,7 +1,7 @@
 -- `pauli_string::get` meets its contract.
 use Rattle.pauli.proofs.Answers.{answered-exit}
 use Rattle.pauli.proofs.Asking.{first_not, first_done}
-use Rattle.pauli.proofs.StringReads.{string-reads}
+use Rattle.pauli.proofs.StringReads.{string_reads}
 use Rattle.pauli.specs.Questions.{get_questions}
 use Rattle.pauli.proofs.pauli_string.get.Goals as goal
 
@@ -14,10 +14,10 @@ unfolding get_questions
 returns-in_err-check_qubit c = answered-exit _ (first_done c.in_ok-check_string.ensures c.in_err-check_qubit.ensures) c.from_residual-in_err-check_qubit.ensures.1
 
 pub overflow_add-result : goal.overflow_add-result
-overflow_add-result c = search string-reads
+overflow_add-result c = search string_reads
 
 pub bounds-s-qubit : goal.bounds-s-qubit
-bounds-s-qubit c = search string-reads
+bounds-s-qubit c = search string_reads
 
 pub returns : goal.returns
-returns c = search string-reads
+returns c = search string_reads

@@ -1,9 +1,0 @@
--- `entries::check_entry_letters` meets its contract.
-use Rattle.pauli.proofs.EntryMarks.{entry_scans}
-use Rattle.pauli.proofs.entries.check_entry_letters.Goals as goal
-
-pub returns-then-entries-j-gt3 : goal.returns-then-entries-j-gt3
-returns-then-entries-j-gt3 c = search entry_scans
-
-pub returns : goal.returns
-returns c = search entry_scans
