@@ -124,18 +124,15 @@ module _ (p : List ℕ) (at : ℕ) where
     pub codes-clean : {m : ℕ} → RowAt at p m → m < 4 → Ok tt ≡ row_question at p
     codes-clean o l = all_good (omega (arith, none_bad (letters_of p) o.largest l))
 
-    module _ {k : ℕ} (ek : k ≡ first_bad (from 2 p)) where
-      place : k ≡ first_bad (letters_of p)
-      place = ek ∙ ap first_bad (letters-from p)
+    pub codes_bad_letter : {k : ℕ} → k ≡ first_bad (from 2 p) → first_bad (from 2 p) < length (from 2 p) → Err (BadByte (at + 2 + k)) ≡ row_question at p
+    unfolding row_question letter_place
+    codes_bad_letter {k} ek l =
+        let place : k ≡ first_bad (letters_of p) = ek ∙ ap first_bad (letters-from p) in
+        ap (λ (j : ℕ). Err (BadByte (at + 2 + j))) place
+        ∙ passed phase-good refl (bytes_bad (at + 2) (letters_of p) (omega (arith, place, ap length (letters-from p))))
 
-      pub codes_bad_letter : k < length (from 2 p) → Err (BadByte (at + 2 + k)) ≡ row_question at p
-      unfolding row_question letter_place
-      codes_bad_letter l =
-          ap (λ (j : ℕ). Err (BadByte (at + 2 + j))) place
-          ∙ passed phase-good refl (bytes_bad (at + 2) (letters_of p) (omega (arith, place, ap length (letters-from p))))
-
-      pub codes-good : length (from 2 p) ≤ k → Ok tt ≡ row_question at p
-      codes-good l = all_good (omega (arith, place, ap length (letters-from p)))
+    pub codes-good : (first_bad (from 2 p) < length (from 2 p) → ⊥) → Ok tt ≡ row_question at p
+    codes-good l = all_good (omega (arith, l, ap first_bad (letters-from p), ap length (letters-from p)))
 
 pub ruleset row-codes = (codes_bad_phase, codes-clean, codes_bad_letter, codes-good, rules)
 

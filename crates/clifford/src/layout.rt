@@ -60,12 +60,10 @@ fn check_codes(row: &[u8], at: usize, largest: u8) -> Result<(), Refusal>
     if largest < 4 {
         return Ok(());
     }
-    let letters = &row[2..];
-    let k = first_bad(letters);
-    if k < letters.len() {
-        return Err(Refusal::BadByte { offset: at + 2 + k });
+    match first_bad(&row[2..]) {
+        Some(k) => Err(Refusal::BadByte { offset: at + 2 + k }),
+        None => Ok(()),
     }
-    Ok(())
 }
 
 // Question 3, put to row r, and whether its weight is true, in one pass over its letters.

@@ -1,5 +1,5 @@
 -- Laws of answers: what each says in numbers, and what an answer made from questions is.
-use Rattle.std.proofs.Common.{◌≡◌, ℕ, List, sym, refl, ap, ◌∙◌, Ok, Err, IsErrAnd, Bool, true, is_err}
+use Rattle.std.proofs.Common.{◌≡◌, ℕ, List, sym, refl, ap, ◌∙◌, Ok, Err, IsErrAnd, true, is_err}
 use Rattle.pauli.specs.declared.refusal.Refusal.{Refusal}
 use Rattle.pauli.specs.Answers.{Answer, Outcome, reply_to, reply_of, no_value, number_value, answer_to, written, Answered, Written, NumberWritten}
 

@@ -153,15 +153,15 @@ string-short s h = refused (bytes_question 0 s) (asked_no Length (ne_eqb (length
 zero_add : (k : ℕ) → 0 + k ≡ k
 zero_add k = omega arith
 
-pub string_bad : (s : List ℕ) {k : ℕ} → length s ≡ 129 → k ≡ first_bad s → k < length s → Err (BadByte k) ≡ string_questions s
+pub string_bad : (s : List ℕ) {k : ℕ} → length s ≡ 129 → k ≡ first_bad s → first_bad s < length s → Err (BadByte k) ≡ string_questions s
 unfolding string_questions bytes_question
 string_bad s {k} l e h =
     passed (asked_yes Length (eq-eqb (length s) 129 l)) refl
     (ap (λ j. Err (BadByte j)) (e ∙ sym (zero_add (first_bad s))) ∙ asked_no (BadByte (0 + first_bad s)) (lt-leb (length s) (first_bad s) (omega arith)))
 
-pub string-good : (s : List ℕ) {k : ℕ} → length s ≡ 129 → k ≡ first_bad s → length s ≤ k → Ok tt ≡ string_questions s
+pub string-good : (s : List ℕ) → length s ≡ 129 → (first_bad s < length s → ⊥) → Ok tt ≡ string_questions s
 unfolding string_questions bytes_question
-string-good s l e h =
+string-good s l h =
     passed (asked_yes Length (eq-eqb (length s) 129 l)) refl (asked_yes (BadByte (0 + first_bad s)) (le-leb (length s) (first_bad s) (omega arith)))
 
 pub ruleset questions = (
@@ -199,7 +199,7 @@ string-formed s e = record {
 
 pub formed-good : (s : List ℕ) → WellFormed 128 s → string_questions s ≡ Ok tt
 unfolding first_bad
-formed-good s f = sym (string-good s f.long (first-is (length s) (λ j. ltb 3 (get_or s j 0)) (length s) (omega arith) (λ k h. le-ltb 3 (get_or s k 0) (f.small k h)) (λ h. absurd (never h))) (omega arith))
+formed-good s f = sym (string-good s f.long (λ l. omega (arith, first-is (length s) (λ j. ltb 3 (get_or s j 0)) (length s) (omega arith) (λ k h. le-ltb 3 (get_or s k 0) (f.small k h)) (λ h. absurd (never h)))))
   where
     never : length s < length s → ⊥
     never h = omega arith

@@ -1,5 +1,6 @@
 -- Dense text: its end, its letters, and the record that is written from them.
-use Rattle.std.proofs.Common.{◌≡◌, ℕ, suc, ◌+◌, ◌-◌, ◌<◌, ◌≤◌, max, Bool, true, false, not, reverse, ◌||◌, ltb, List, ◌∷◌, ◌++◌, length, get_or, take, drop, set, sym, refl, ap, ◌∙◌, ap₂, append-nil, add-one, arith, length-drop, drop_of_length-le, length-take, take_all, drop-cons, rules, le-ltb, lt-ltb, ne_eqb, Ok, Err}
+use Rattle.std.proofs.Common.{◌≡◌, ℕ, suc, ◌+◌, ◌-◌, ◌<◌, ◌≤◌, max, Bool, true, false, Option, not, reverse, ◌||◌, ltb, List, ◌∷◌, ◌++◌, length, get_or, take, drop, set, sym, refl, ap, ◌∙◌, ap₂, append-nil, add-one, arith, length-drop, drop_of_length-le, length-take, take_all, drop-cons, rules, le-ltb, lt-ltb, ne_eqb, Ok, Err}
+use Rattle.std.specs.Option.{unwrap_or, is_none}
 use Rattle.std.proofs.lemmas.List.{get_or-reverse, length-reverse}
 use borrow.Rule.Slice.PartMut.{put_mid}
 use Rattle.pauli_group.specs.PauliString.{qubits}
@@ -10,7 +11,7 @@ use Rattle.pauli.specs.Answers.{written, Written, Outcome}
 use Rattle.pauli.specs.Places.{listed, first_place}
 use Rattle.pauli.specs.Layout.{phase_byte, encode_string, string_record}
 use Rattle.pauli.specs.Questions.{◌and_then◌, room_question}
-use Rattle.pauli.specs.Inside.Reading.{EndRead, HeadRead, letters_named, DenseAt}
+use Rattle.pauli.specs.Inside.Reading.{EndRead, HeadRead, letter_if, letters_named, DenseAt}
 use Rattle.pauli.specs.Inside.Marks.{RecordFits}
 use Rattle.pauli.specs.Text.{is_space, is_identity, letter_named, text_end, text_phase, body_start, ascii_question, dense_body, dense_letter, letter_questions, dense_questions, dense_string, from_dense_questions, dense_record}
 use Rattle.pauli.proofs.Answers.{answers, written-done}
@@ -19,6 +20,7 @@ use Rattle.pauli.proofs.EntryStrings.{put_record}
 use Rattle.pauli.proofs.Places.{first_of, first_ext, length-listed, get_d_listed, listed_ext, Filled, filled_none, filled_step, filled_length, filled_room, filled_all}
 use Rattle.pauli.proofs.Records.{letter_there}
 use Rattle.pauli.proofs.SparseReading.{letter-small}
+use Rattle.pauli.proofs.TextBytes.{named_or, named_lacks, named_has}
 
 -- ---- I, i and 1
 pub identity-is : {c : ℕ} (k : ℕ) → c ≡ k → true ≡ is_identity k → true ≡ is_identity c
@@ -51,23 +53,26 @@ letter-identity c k q e h =
     let is : is_identity c ≡ true = sym e ∙ h in
     passed (asked_yes (NotLetter k) (ap (λ x. x || ltb 0 (letter_named c)) is)) refl (asked_yes (TextQubit k) (ap (λ x. x || ltb q qubits) is))
 
-module _ (c k q : ℕ) {b : Bool} {l : ℕ} (e : b ≡ is_identity c) (h : b ≡ false) (el : l ≡ letter_named c) where
+module _ (c k q : ℕ) {b : Bool} {r : Option ℕ} (e : b ≡ is_identity c) (h : b ≡ false) (el : r ≡ letter_if (letter_named c)) where
   not-identity : is_identity c ≡ false
   not-identity = sym e ∙ h
 
-  pub letter_unknown : l ≡ 0 → Err (NotLetter k) ≡ dense_letter c k q
+  pub letter_unknown : is_none r ≡ true → Err (NotLetter k) ≡ dense_letter c k q
   unfolding dense_letter
   letter_unknown z =
+      let none : letter_named c ≡ 0 = named_lacks (letter_named c) (ap is_none (sym el) ∙ z) in
       refused _ (asked_no (NotLetter k) (ap₂ ◌||◌ not-identity (le-ltb 0 (letter_named c) (omega arith)))) refl
 
-  known : (l ≡ 0 → ⊥) → (is_identity c || ltb 0 (letter_named c)) ≡ true
-  known z = ap₂ ◌||◌ not-identity (lt-ltb 0 (letter_named c) (omega arith))
+  known : is_none r ≡ false → (is_identity c || ltb 0 (letter_named c)) ≡ true
+  known z =
+      let some : letter_named c ≡ 0 → ⊥ = named_has (letter_named c) (ap is_none (sym el) ∙ z) in
+      ap₂ ◌||◌ not-identity (lt-ltb 0 (letter_named c) (omega arith))
 
-  pub letter_in_lem : (l ≡ 0 → ⊥) → q < 128 → Ok tt ≡ dense_letter c k q
+  pub letter_in_lem : is_none r ≡ false → q < 128 → Ok tt ≡ dense_letter c k q
   unfolding dense_letter qubits
   letter_in_lem z s = passed (asked_yes (NotLetter k) (known z)) refl (asked_yes (TextQubit k) (ap₂ ◌||◌ not-identity (lt-ltb q 128 s)))
 
-  pub letter-out : (l ≡ 0 → ⊥) → 128 ≤ q → Err (TextQubit k) ≡ dense_letter c k q
+  pub letter-out : is_none r ≡ false → 128 ≤ q → Err (TextQubit k) ≡ dense_letter c k q
   unfolding dense_letter qubits
   letter-out z s = passed (asked_yes (NotLetter k) (known z)) refl (asked_no (TextQubit k) (ap₂ ◌||◌ not-identity (le-ltb q 128 s)))
 
@@ -112,9 +117,10 @@ length-named : (n : ℕ) (b : List ℕ) → length (letters_named n b) ≡ n
 unfolding letters_named
 length-named n b = length-listed n _
 
-pub named-at : (n : ℕ) (b : List ℕ) (i : ℕ) {c x : ℕ} → c ≡ get_or b i 0 → x ≡ letter_named c → i < n → x ≡ get_or (letters_named n b) i 0
+pub named-at : (n : ℕ) (b : List ℕ) (i : ℕ) {c x : ℕ} {r : Option ℕ} → c ≡ get_or b i 0 → r ≡ letter_if (letter_named c) → x ≡ unwrap_or r 0 → i < n
+    → x ≡ get_or (letters_named n b) i 0
 unfolding letters_named
-named-at n b i ec ex h = ex ∙ ap letter_named ec ∙ sym (get_d_listed n _ i 0 h)
+named-at n b i {c} ec er ex h = ex ∙ ap (λ o. unwrap_or o 0) er ∙ named_or (letter_named c) ∙ ap letter_named ec ∙ sym (get_d_listed n _ i 0 h)
 
 pub named_none : (b d : List ℕ) → Filled (letters_named (length d) b) d (length d) 0 d
 named_none b d = filled_none (omega (arith, length-named (length d) b)) (omega arith)

@@ -1,7 +1,7 @@
 -- Laws of lists by place, of the first place that has a property, and of a destination that is filled from its front.
 use Rattle.std.proofs.Common.{◌≡◌, ℕ, zero, suc, not, inl, inr, ◌⊎◌, Option, Some, None, ◌+◌, ◌-◌, ◌<◌, ◌≤◌, max, min, Bool, true, false, cond, ltb, List, [], ◌∷◌, ◌++◌, length, get_or, take, drop, set, sym, refl, ap, ◌∙◌, subst, ap₂, le_refl, le_of_suc-le-suc, not-suc-le-zero, add-one, arith, length-append, length-drop, length-take, get_or-drop, take_all, ext_get_or, rules, le-ltb, lt-ltb, le-leb}
 use Rattle.std.specs.List.{position, position_or_len}
-use Rattle.std.specs.Option.{unwrap_or}
+use Rattle.std.specs.Option.{unwrap_or, SomeIff}
 use Rattle.std.proofs.lemmas.Bool.{cases_lt}
 use Rattle.std.proofs.lemmas.List.Recursion.{is_position_or_len}
 use Rattle.std.proofs.lemmas.List.Sums.{prefix_len-le-length}
@@ -111,6 +111,10 @@ module _ (p : ℕ → Bool) (xs : List ℕ) where
     where
       never : {k : ℕ} → None ≡ Some k → ⊥
       never e = cc
+
+  pub position_iff : (r : Option ℕ) → r ≡ position p xs → SomeIff r (first_of < length xs) first_of
+  position_iff (Some k) e = let at = position-at e in (omega (arith, at.0, at.1), at.1)
+  position_iff None e = λ l. omega (arith, position-none e)
 
   pub position-or : (r : Option ℕ) {n : ℕ} → n ≡ unwrap_or r (length xs) → r ≡ position p xs → n ≡ first_of
   position-or r h e = h ∙ ap (λ o. unwrap_or o (length xs)) e ∙ elim position_cases [

@@ -7,11 +7,12 @@ use Rattle.pauli.specs.declared.refusal.Refusal.{Refusal}
 use Rattle.pauli.specs.declared.refusal.Refusal.TheVariants.{NotLetter, NoIndex, NotNumeral, TextQubit}
 use Rattle.pauli.specs.declared.sparse_reader.Entry.{Entry}
 use Rattle.pauli.specs.Questions.{ask, ◌and_then◌}
-use Rattle.pauli.specs.Inside.Reading.{Skipped, numeral_if, index_numeral, WordAt, LetterAt, OneEntry, EntryRead, leading_word}
+use Rattle.pauli.specs.Inside.Reading.{Skipped, letter_if, numeral_if, index_numeral, WordAt, LetterAt, OneEntry, EntryRead, leading_word}
 use Rattle.pauli.specs.Text.{is_space, letter_named, leading_spaces, Token, token, tokens, is_index, index_value, index_questions, has_index, attached_questions, attached_entry, apart_entry, token_questions, token_entries}
 use Rattle.pauli.proofs.Asking.{asked_yes, asked_no, ask_done, first_not, first_done, done_second}
 use Rattle.pauli.specs.Places.{first_place}
 use Rattle.pauli.proofs.Places.{first_has}
+use Rattle.pauli.proofs.TextBytes.{named_some, named_not}
 use Rattle.pauli.proofs.Tokens.{word_here, refused-first, done_then, tokens_skip, tokens-word, not-letter, attached_questions_lem, attached_entries, no_index, apart_questions, apart_entries}
 
 -- ---- an index
@@ -154,12 +155,18 @@ module _ (t : List ℕ) (k : ℕ) (at : WordAt t k) where
   first-length : word-length ≤ length (drop k t) → length first.bytes ≡ word-length
   first-length h = length-take word-length (drop k t) ∙ omega arith
 
-  pub unknown_letter : {l : ℕ} → l ≡ letter_named (get_or t k 0) → l ≡ 0 → EntryRead (tokens k (drop k t)) t k (Err (NotLetter k))
-  unknown_letter {l} e h =
-      entry-refused (ap token_questions first-token ∙ not-letter first _ (first-letter l e ∙ h))
+  pub unknown_letter : None ≡ letter_if (letter_named (get_or t k 0)) → EntryRead (tokens k (drop k t)) t k (Err (NotLetter k))
+  unknown_letter e =
+      entry-refused (ap token_questions first-token ∙ not-letter first _ (ap letter_named first_byte ∙ named_not _ e))
 
   -- a letter with its index attached
-  module _ {l e : ℕ} (el : l ≡ letter_named (get_or t k 0)) (some-letter : l ≡ 0 → ⊥) (end : Skipped leading_word t k e) (long : k + 1 < e) where
+  module _ {l e : ℕ} (named : Some l ≡ letter_if (letter_named (get_or t k 0))) (end : Skipped leading_word t k e) (long : k + 1 < e) where
+    el : l ≡ letter_named (get_or t k 0)
+    el = (named_some _ named).0
+
+    some-letter : l ≡ 0 → ⊥
+    some-letter = (named_some _ named).1
+
     ends : k + word-length ≡ e
     ends = sym end.is
 
@@ -176,7 +183,7 @@ module _ (t : List ℕ) (k : ℕ) (at : WordAt t k) where
     questions_are : token_questions (tokens k (drop k t)) ≡ index_questions (k + 1) (take (e - (k + 1)) (drop (k + 1) t)) and_then token_questions (tokens e (drop e t))
     unfolding attached_questions
     questions_are =
-        ap token_questions first-token ∙ attached_questions_lem first _ (omega (arith, first-letter l el)) has
+        ap token_questions first-token ∙ attached_questions_lem first _ (omega (arith, some-letter, first-letter l el)) has
         ∙ ap₂ (λ (o : ℕ) (bs : List ℕ). index_questions o bs and_then token_questions (tokens (k + word-length) (drop (k + word-length) t))) (sym (add-one k)) index_bytes
         ∙ ap (λ (j : ℕ). index_questions (k + 1) (take (e - (k + 1)) (drop (k + 1) t)) and_then token_questions (tokens j (drop j t))) ends
 
@@ -192,14 +199,16 @@ module _ (t : List ℕ) (k : ℕ) (at : WordAt t k) where
 
     pub attached : {q : ℕ} → Ok q ≡ answer_to (index_questions (k + 1) index) (index_value index)
         → EntryRead (tokens k (drop k t)) t k (Ok (record { letter = l; qubit = q; next = e }))
-    attached = entry_read (tokens k (drop k t)) t k l e (k + 1) index (omega (arith, letter-small (get_or t k 0))) (omega arith) end.within questions_are entries_are
+    attached = entry_read (tokens k (drop k t)) t k l e (k + 1) index (omega (arith, el, letter-small (get_or t k 0))) (omega arith) end.within questions_are entries_are
 
     pub attached-not : {x : Refusal} {r : Answer Entry} → Err x ≡ answer_to (index_questions (k + 1) index) (index_value index) → IsErrAnd r (λ y. y ≡ x)
         → EntryRead (tokens k (drop k t)) t k r
-    attached-not = entry_not (tokens k (drop k t)) t k l e (k + 1) index (omega (arith, letter-small (get_or t k 0))) (omega arith) end.within questions_are entries_are
+    attached-not = entry_not (tokens k (drop k t)) t k l e (k + 1) index (omega (arith, el, letter-small (get_or t k 0))) (omega arith) end.within questions_are entries_are
 
-  pub alone : {l e : ℕ} → l ≡ letter_named (get_or t k 0) → (l ≡ 0 → ⊥) → Skipped leading_word t k e → e ≤ k + 1 → LetterAt t k l
-  alone el n end h = record { begins = at; letter = el; known = omega arith; alone = omega (arith, some, end.is) }
+  pub alone : {l e : ℕ} → Some l ≡ letter_if (letter_named (get_or t k 0)) → Skipped leading_word t k e → e ≤ k + 1 → LetterAt t k l
+  alone named end h =
+      let is = named_some _ named in
+      record { begins = at; letter = is.0; known = omega (arith, is.1); alone = omega (arith, some, end.is) }
 
 -- ---- a letter that stands alone
 module _ (t : List ℕ) (k l f : ℕ) (at : LetterAt t k l) (skip : Skipped leading_spaces t (k + 1) f) where

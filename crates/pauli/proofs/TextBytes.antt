@@ -1,6 +1,7 @@
 -- Bytes of text: what the tests on them find.
-use Rattle.std.proofs.Common.{◌≡◌, ℕ, suc, ◌+◌, ◌<◌, ◌≤◌, Bool, true, false, cond, not, ◌&&◌, ◌||◌, eqb, leb, ◌⊎◌, List, length, get_or, drop, sym, refl, ap, ◌∙◌, ap₂, inl, inr, add-one, arith, length-drop, rules, ne_eqb, eqb-true, le-leb, Some, None, Ok, Err}
+use Rattle.std.proofs.Common.{◌≡◌, ℕ, zero, suc, ◌+◌, ◌<◌, ◌≤◌, Bool, true, false, cond, not, ◌&&◌, ◌||◌, eqb, leb, ◌⊎◌, List, length, get_or, drop, sym, refl, ap, ◌∙◌, ap₂, inl, inr, add-one, arith, length-drop, rules, ne_eqb, eqb-true, le-leb, Some, None, Ok, Err}
 use Rattle.std.specs.List.{position}
+use Rattle.std.specs.Option.{unwrap_or, is_none}
 use native.Mathlib.Decide.{dec_lt}
 use lib.ListN.{get_or-eq_default}
 use borrow.Author.Tests.{lt-leb}
@@ -8,7 +9,7 @@ use Rattle.pauli_group.specs.Phase.{PlusOne, MinusOne, PlusI, MinusI}
 use Rattle.pauli.specs.declared.refusal.Refusal.TheVariants.{NotAscii}
 use Rattle.pauli.specs.declared.text.Prefix.{Prefix}
 use Rattle.pauli.specs.Layout.{phase_byte}
-use Rattle.pauli.specs.Inside.Reading.{Skipped, PrefixRead, HeadRead, leading_word}
+use Rattle.pauli.specs.Inside.Reading.{Skipped, PrefixRead, HeadRead, letter_if, leading_word}
 use Rattle.pauli.specs.Questions.{ask}
 use Rattle.pauli.specs.Text.{is_space, is_digit, is_sign, is_small_i, letter_named, leading_spaces, text_start, prefix_phase, prefix_length, text_phase, body_start, first_not_ascii, ascii_question}
 use Rattle.pauli.proofs.Asking.{asked_yes, asked_no}
@@ -48,6 +49,32 @@ unfolding letter_named
 named_none {c} h =
     sym (λ i. cond (ne_eqb c 88 h.0.0.0.0.0.1 i || ne_eqb c 120 h.0.0.0.0.1 i) 1
     (cond (ne_eqb c 90 h.0.0.0.1 i || ne_eqb c 122 h.0.0.1 i) 2 (cond (ne_eqb c 89 h.0.1 i || ne_eqb c 121 h.1 i) 3 0)))
+
+-- the letter's byte, where there is one
+pub named_some : (n : ℕ) {l : ℕ} → Some l ≡ letter_if n → (l ≡ n) × (l ≡ 0 → ⊥)
+unfolding letter_if
+named_some zero e = cc
+named_some (suc n) {l} e = let same : l ≡ suc n = cc in (same, λ z. omega arith)
+
+pub named_not : (n : ℕ) → None ≡ letter_if n → n ≡ 0
+unfolding letter_if
+named_not zero e = refl
+named_not (suc n) e = cc
+
+pub named_or : (n : ℕ) → unwrap_or (letter_if n) 0 ≡ n
+unfolding letter_if
+named_or zero = refl
+named_or (suc n) = refl
+
+pub named_lacks : (n : ℕ) → is_none (letter_if n) ≡ true → n ≡ 0
+unfolding letter_if
+named_lacks zero e = refl
+named_lacks (suc n) e = cc
+
+pub named_has : (n : ℕ) → is_none (letter_if n) ≡ false → n ≡ 0 → ⊥
+unfolding letter_if
+named_has zero e z = cc
+named_has (suc n) e z = omega arith
 
 -- ---- the first byte that is not ASCII
 ascii_asked : (t : List ℕ) (i : ℕ) → first_not_ascii t ≡ i → ask (leb (length t) i) (NotAscii i) ≡ ascii_question t

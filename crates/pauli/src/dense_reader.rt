@@ -38,7 +38,7 @@ fn check_letter(c: u8, offset: usize, qubit: usize) -> Result<(), Refusal>
     if is_identity(c) {
         return Ok(());
     }
-    if letter_named(c) == 0 {
+    if letter_named(c).is_none() {
         return Err(Refusal::NotLetter { offset });
     }
     if qubit < QUBITS {
@@ -64,7 +64,7 @@ fn write_named(body: &[u8], dst: &mut [u8])
     ensures { dst.new ≡ letters_named (length dst.old) body.now }
 {
     for i in 0..dst.len() {
-        dst[i] = letter_named(byte_at(body, i));
+        dst[i] = letter_named(byte_at(body, i)).unwrap_or(0);
     }
 }
 

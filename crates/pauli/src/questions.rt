@@ -3,6 +3,7 @@ ghost use Rattle.std.specs.Prelude.{◌≡◌};
 ghost use Rattle.pauli.specs.Questions.{byte_question, pair_questions, string_questions, strings_questions, qubit_question, room_question};
 
 use crate::refusal::Refusal;
+use crate::rows::first_bad;
 use crate::{QUBITS, STRING_LENGTH};
 
 // A phase or a letter given by itself.
@@ -33,11 +34,10 @@ pub fn check_string(s: &[u8]) -> Result<(), Refusal>
     if s.len() != STRING_LENGTH {
         return Err(Refusal::Length);
     }
-    let k = crate::rows::first_bad(s);
-    if k < s.len() {
-        return Err(Refusal::BadByte { offset: k });
+    match first_bad(s) {
+        Some(offset) => Err(Refusal::BadByte { offset }),
+        None => Ok(()),
     }
-    Ok(())
 }
 
 // Two string records, the first one first.

@@ -1,5 +1,6 @@
 // Kernels on rows of letter bytes. They stop at the shortest row and read a byte above 3 as 3, so they ask nothing of a caller.
-ghost use Rattle.std.specs.Prelude.{◌≡◌, ◌%◌, ◌≤◌, length};
+ghost use Rattle.std.specs.Prelude.{◌≡◌, ◌%◌, ◌<◌, ◌≤◌, length};
+ghost use Rattle.std.specs.Option.{SomeIff};
 ghost use Rattle.pauli_group.specs.Phase.{◌·◌};
 ghost use Rattle.pauli_group.specs.Letter.{letter_mul};
 ghost use Rattle.pauli_group.specs.Papers.{power};
@@ -207,14 +208,14 @@ pub fn scan_letters(s: &[u8]) -> LetterScan
     seen
 }
 
-// The first offset with a byte above 3, or the length. The largest byte is found sixteen bytes at a time, so it is asked first.
-pub fn first_bad(s: &[u8]) -> usize
-    ensures { result ≡ first_bad s.now }
+// The first offset with a byte above 3. The largest byte is found sixteen bytes at a time, so it is asked first.
+pub fn first_bad(s: &[u8]) -> Option<usize>
+    ensures { SomeIff result (first_bad s.now < length s.now) (first_bad s.now) }
 {
     if largest(s) < 4 {
-        return s.len();
+        return None;
     }
-    s.iter().position(|x| 3 < *x).unwrap_or(s.len())
+    s.iter().position(|x| 3 < *x)
 }
 
 // src copied to the front of dst, as far as both reach.

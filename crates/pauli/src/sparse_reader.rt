@@ -55,10 +55,9 @@ fn read_entry(t: &[u8], at: usize) -> Result<Entry, Refusal>
     requires { WordAt t.now at }
     ensures { EntryRead (tokens at (drop at t.now)) t.now at result }
 {
-    let letter = letter_named(t[at]);
-    if letter == 0 {
+    let Some(letter) = letter_named(t[at]) else {
         return Err(Refusal::NotLetter { offset: at });
-    }
+    };
     let from = at + 1;
     let next = skip_word(t, at);
     if next <= from {

@@ -1,7 +1,7 @@
 // Text: its bytes, words and prefix, and the numerals in it. Ports the parsers of pauli_string.rs of PECOS, changed:
 // Copyright 2024 The PECOS Developers, Apache License, Version 2.0.
 ghost use Rattle.std.specs.Prelude.{◌≡◌, ◌≤◌, length, slice_index};
-ghost use Rattle.pauli.specs.Inside.Reading.{Skipped, PrefixRead, HeadRead, digits_numeral, index_numeral, leading_word};
+ghost use Rattle.pauli.specs.Inside.Reading.{Skipped, PrefixRead, HeadRead, letter_if, index_numeral, leading_word};
 ghost use Rattle.pauli.specs.Text.{is_space, letter_named, leading_spaces, ascii_question, is_sparse};
 
 use crate::refusal::Refusal;
@@ -13,16 +13,16 @@ pub(crate) fn is_space(c: u8) -> bool
     matches!(c, b'\t'..=b'\r' | b' ')
 }
 
-// The byte of the letter that X, Y or Z names, either case; 0, the byte of I, for any other.
-#[tactic(auto, unfolding(crate::specs::Text::letter_named), using(std::proofs::lemmas::Bool::Decides::nat_tests))]
-pub(crate) fn letter_named(c: u8) -> u8
-    ensures { result ≡ letter_named c }
+// The byte of the letter that X, Y or Z names, either case.
+#[tactic(auto, unfolding(crate::specs::Text::letter_named, crate::specs::Inside::Reading::letter_if), using(std::proofs::lemmas::Bool::Decides::nat_tests))]
+pub(crate) fn letter_named(c: u8) -> Option<u8>
+    ensures { result ≡ letter_if (letter_named c) }
 {
     match c {
-        b'X' | b'x' => 1,
-        b'Z' | b'z' => 2,
-        b'Y' | b'y' => 3,
-        _ => 0,
+        b'X' | b'x' => Some(1),
+        b'Z' | b'z' => Some(2),
+        b'Y' | b'y' => Some(3),
+        _ => None,
     }
 }
 
@@ -113,30 +113,9 @@ pub(crate) fn any_digit(t: &[u8]) -> bool
     t.iter().any(|c| c.is_ascii_digit())
 }
 
-// The value of digits alone. Overflow is tested, digits are not counted, so leading zeros cost nothing.
-fn digits(ds: &[u8]) -> Option<u64>
-    ensures { result ≡ digits_numeral ds.now }
-{
-    if ds.is_empty() {
-        return None;
-    }
-    let mut value: u64 = 0;
-    for c in ds {
-        if !c.is_ascii_digit() {
-            return None;
-        }
-        value = value.checked_mul(10)?.checked_add(u64::from(*c - b'0'))?;
-    }
-    Some(value)
-}
-
-// An index: an optional + and then digits, below 2^64.
-#[tactic(auto, using(crate::proofs::Numerals::indexes))]
+// An index: an optional + and then digits, below 2^64, as `parse` reads it.
 pub(crate) fn read_numeral(bs: &[u8]) -> Option<u64>
     ensures { result ≡ index_numeral bs.now }
 {
-    match bs {
-        [b'+', ds @ ..] => digits(ds),
-        _ => digits(bs),
-    }
+    str::from_utf8(bs).ok()?.parse().ok()
 }

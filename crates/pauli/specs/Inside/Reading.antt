@@ -1,5 +1,5 @@
 -- What the functions that read text promise one another.
-use Rattle.std.specs.Prelude.{◌≡◌, ℕ, ◌+◌, ◌^◌, ◌<◌, ◌≤◌, Bool, true, false, ◌&&◌, Option, Some, None, List, ◌∷◌, length, drop, nat_lt, slice_index, Ok, Err}
+use Rattle.std.specs.Prelude.{◌≡◌, ℕ, zero, suc, ◌+◌, ◌<◌, ◌≤◌, Bool, true, false, Option, Some, None, List, ◌∷◌, length, drop, slice_index, Ok, Err}
 use Rattle.pauli.specs.declared.text.Prefix.{Prefix}
 use Rattle.pauli.specs.declared.text.Head.{Head}
 use Rattle.pauli.specs.declared.sparse_reader.Entry.{Entry}
@@ -8,7 +8,7 @@ use Rattle.pauli.specs.Entries.{entry_count, entry_letter, entry_qubit}
 use Rattle.pauli.specs.Inside.Marks.{marks_to, Blank}
 use Rattle.pauli.specs.Places.{listed, first_place}
 use Rattle.pauli.specs.Layout.{phase_byte}
-use Rattle.pauli.specs.Text.{text_end, dense_body, sparse_entries, from_sparse_questions, is_space, letter_named, Token, tokens, token_questions, token_entries, prefix_phase, prefix_length, text_phase, body_start, all_digits, digits_value, is_index, index_value}
+use Rattle.pauli.specs.Text.{text_end, dense_body, sparse_entries, from_sparse_questions, is_space, letter_named, Token, tokens, token_questions, token_entries, prefix_phase, prefix_length, text_phase, body_start, is_index, index_value}
 use Rattle.pauli.specs.Answers.{Answer, Outcome}
 
 -- the bytes before the first space
@@ -31,16 +31,15 @@ pub record HeadRead (t : List ℕ) (r : Head) : Type 0 where
   pub place : r.at ≡ body_start t
   pub within : r.at ≤ length t
 
--- digits, and an index, as a value below 2^64 or none
+-- a letter's byte, or none for 0
+unfoldable pub letter_if : ℕ → Option ℕ
+letter_if zero = None
+letter_if (suc l) = Some (suc l)
+
+-- an index, as a value below 2^64 or none
 abbrev pub numeral_if : Bool → ℕ → Option ℕ
 numeral_if true v = Some v
 numeral_if false v = None
-
-unfoldable pub are_digits : List ℕ → Bool
-are_digits ds = (nat_lt 0 (length ds) && all_digits ds) && nat_lt (digits_value 0 ds) (2 ^ 64)
-
-unfoldable pub digits_numeral : List ℕ → Option ℕ
-digits_numeral ds = numeral_if (are_digits ds) (digits_value 0 ds)
 
 unfoldable pub index_numeral : List ℕ → Option ℕ
 index_numeral bs = numeral_if (is_index bs) (index_value bs)

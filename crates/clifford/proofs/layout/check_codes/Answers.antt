@@ -8,8 +8,8 @@ returns-then-row-gt3 c = search row-codes
 pub returns-then-largest-lt4 : goal.returns-then-largest-lt4
 returns-then-largest-lt4 c = search row-codes
 
-pub returns-then-k-letters : goal.returns-then-k-letters
-returns-then-k-letters c = search row-codes
+pub returns-in-Some : goal.returns-in-Some
+returns-in-Some c = search (row-codes, c.in-Some.ensures)
 
-pub returns : goal.returns
-returns c = search row-codes
+pub returns-in-None : goal.returns-in-None
+returns-in-None c = search (row-codes, c.in-None.ensures)

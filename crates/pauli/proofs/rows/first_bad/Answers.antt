@@ -1,17 +1,16 @@
 -- `rows::first_bad` meets its contract: no byte is above 3, or `position` finds the first.
-use Rattle.std.proofs.Common.{ltb, rules, tests}
+use Rattle.std.proofs.Common.{ltb, arith, rules, tests}
 use Rattle.std.proofs.lemmas.Iterator.{YieldsList-from_slice}
 use Rattle.std.proofs.lemmas.Iterator.Search.{position_from_yields_List}
 use Rattle.pauli.specs.Questions.{first_bad}
-use Rattle.pauli.proofs.Places.{none_bad, position-or}
+use Rattle.pauli.proofs.Places.{none_bad, position_iff}
 use Rattle.pauli.proofs.rows.first_bad.Goals as goal
 
 pub returns-then-largest-lt4 : goal.returns-then-largest-lt4
-returns-then-largest-lt4 c = search (none_bad, rules)
+returns-then-largest-lt4 c = λ l. omega (arith, none_bad _ c.largest.ensures c.if-largest-lt4.true)
 
 pub returns : goal.returns
 unfolding first_bad
 returns c =
-    position-or
-    (ltb 3) _ _ c.unwrap_or.ensures
-    (position_from_yields_List (ltb 3) _ _ _ c.position.ensures.ran (YieldsList-from_slice c.args.s.now cc) (λ x b q k. search (rules, tests)))
+    position_iff
+    (ltb 3) _ _ (position_from_yields_List (ltb 3) _ _ _ c.position.ensures.ran (YieldsList-from_slice c.args.s.now cc) (λ x b q k. search (rules, tests)))
