@@ -1,5 +1,6 @@
 -- Entries and their marks: the questions put to entries, what the marks say of them, and the string that they name.
-use Rattle.std.proofs.Common.{◌≡◌, ℕ, zero, suc, ◌+◌, ◌-◌, ◌*◌, ◌/◌, ◌%◌, ◌<◌, ◌≤◌, Bool, true, false, cond, eqb, ltb, leb, ◌≢◌, List, length, get_or, set, replicate, sym, refl, ap, ◌∙◌, ap₂, add-one, arith, length-set, get_or-set_other, get_or-set_same, ext_get_or, rules, ltb-false, le-ltb, lt-ltb, eq-eqb, ne_eqb, le-leb, leb-false, leb-true, Ok, Err}
+use Rattle.std.proofs.Common.{◌≡◌, ℕ, zero, suc, ◌+◌, ◌-◌, ◌*◌, ◌/◌, ◌%◌, ◌<◌, ◌≤◌, Bool, true, false, cond, eqb, ltb, leb, ◌≢◌, List, [], length, get_or, drop, set, replicate, sym, refl, ap, ◌∙◌, ap₂, add-one, arith, length-set, length-drop, get_or-drop, get_or-take, not-suc-le-zero, get_or-set_other, get_or-set_same, ext_get_or, rules, ltb-false, le-ltb, lt-ltb, eq-eqb, ne_eqb, le-leb, leb-false, leb-true, Ok, Err}
+use Rattle.std.specs.Simd.{first_chunks}
 use native.Mathlib.Decide.{ℕ_discrete}
 use lib.ListN.{get_or-replicate, length-replicate}
 use borrow.Author.Tests.{lt-leb}
@@ -9,7 +10,7 @@ use Rattle.pauli.specs.declared.refusal.Refusal.TheVariants.{Length, BadByte, Qu
 use Rattle.pauli.specs.Places.{first_place}
 use Rattle.pauli.specs.Layout.{letter_of, letter_byte}
 use Rattle.pauli.specs.Entries.{entry_count, entry_letter, entry_qubit, occurrences, entry_of, entries_string}
-use Rattle.pauli.specs.Inside.Marks.{mark_more, mark_to, marks_to, first_twice, unmarked, MarkFits, Unmarked}
+use Rattle.pauli.specs.Inside.Marks.{mark_more, mark_to, marks_to, first_twice, unmarked, MarkFits, Unmarked, Paired}
 use Rattle.pauli.specs.Questions.{byte_question, even_question, first_bad_entry, entry_letters_question, first_high_entry, entry_qubits_question, entry_questions, smallest_duplicate}
 use Rattle.pauli.proofs.Asking.{asked_yes, asked_no, ask_done, done_first, done_second}
 use Rattle.pauli.proofs.Places.{NoneBefore, none_start, none_more, none_found, none_left_lem, length-listed, get_d_listed, first_le, first-is, first-before, first_has}
@@ -24,44 +25,77 @@ pub entries-even : (e : List ℕ) → length e % 2 ≡ 0 → Ok tt ≡ even_ques
 unfolding even_question
 entries-even e h = asked_yes Length (eq-eqb (length e % 2) 0 h)
 
-pub letters_bad : (e : List ℕ) {j : ℕ} → j ≡ first_bad_entry e → j < length e / 2 → Err (BadByte (2 * j)) ≡ entry_letters_question e
-unfolding entry_letters_question entry_count
-letters_bad e p h = ap (λ (k : ℕ). Err (BadByte (2 * k))) p ∙ asked_no (BadByte (2 * first_bad_entry e)) (lt-leb (length e / 2) (first_bad_entry e) (omega arith))
+pub letters_bad : (e : List ℕ) {j : ℕ} → j ≡ first_bad_entry e → j < entry_count e → Err (BadByte (2 * j)) ≡ entry_letters_question e
+unfolding entry_letters_question
+letters_bad e p h = ap (λ (k : ℕ). Err (BadByte (2 * k))) p ∙ asked_no (BadByte (2 * first_bad_entry e)) (lt-leb (entry_count e) (first_bad_entry e) (omega arith))
 
-pub letters-good : (e : List ℕ) {j : ℕ} → j ≡ first_bad_entry e → length e / 2 ≤ j → Ok tt ≡ entry_letters_question e
-unfolding entry_letters_question entry_count
-letters-good e p h = asked_yes (BadByte (2 * first_bad_entry e)) (le-leb (length e / 2) (first_bad_entry e) (omega arith))
+pub letters-good : (e : List ℕ) {j : ℕ} → j ≡ first_bad_entry e → entry_count e ≤ j → Ok tt ≡ entry_letters_question e
+unfolding entry_letters_question
+letters-good e p h = asked_yes (BadByte (2 * first_bad_entry e)) (le-leb (entry_count e) (first_bad_entry e) (omega arith))
 
-pub qubits_bad : (e : List ℕ) {j q : ℕ} → j ≡ first_high_entry e → j < length e / 2 → q ≡ get_or e (2 * j + 1) 0 → Err (Qubit q) ≡ entry_qubits_question e
-unfolding entry_qubits_question entry_count entry_qubit
+pub qubits_bad : (e : List ℕ) {j q : ℕ} → j ≡ first_high_entry e → j < entry_count e → q ≡ entry_qubit e j → Err (Qubit q) ≡ entry_qubits_question e
+unfolding entry_qubits_question
 qubits_bad e p h eq =
-    ap (λ (k : ℕ). Err (Qubit k)) (eq ∙ ap (λ (k : ℕ). get_or e (2 * k + 1) 0) p)
-    ∙ asked_no (Qubit (get_or e (2 * first_high_entry e + 1) 0)) (lt-leb (length e / 2) (first_high_entry e) (omega arith))
+    ap (λ (k : ℕ). Err (Qubit k)) (eq ∙ ap (entry_qubit e) p)
+    ∙ asked_no (Qubit (entry_qubit e (first_high_entry e))) (lt-leb (entry_count e) (first_high_entry e) (omega arith))
 
-pub qubits-good : (e : List ℕ) {j : ℕ} → j ≡ first_high_entry e → length e / 2 ≤ j → Ok tt ≡ entry_qubits_question e
-unfolding entry_qubits_question entry_count
-qubits-good e p h = asked_yes (Qubit (entry_qubit e (first_high_entry e))) (le-leb (length e / 2) (first_high_entry e) (omega arith))
+pub qubits-good : (e : List ℕ) {j : ℕ} → j ≡ first_high_entry e → entry_count e ≤ j → Ok tt ≡ entry_qubits_question e
+unfolding entry_qubits_question
+qubits-good e p h = asked_yes (Qubit (entry_qubit e (first_high_entry e))) (le-leb (entry_count e) (first_high_entry e) (omega arith))
 
--- a loop over the entries stops at the first that is refused
-pub letter_refused : (e : List ℕ) {j : ℕ} → NoneBefore (length e / 2) (λ k. ltb 3 (get_or e (2 * k) 0)) j → j < length e / 2 → 3 < get_or e (2 * j) 0
-    → Err (BadByte (2 * j)) ≡ entry_letters_question e
-unfolding first_bad_entry entry_count entry_letter
-letter_refused e {j} m h b = letters_bad e (none_found m h (lt-ltb 3 (get_or e (2 * j) 0) b)) h
+-- ---- the entries as pairs
+chunk_at : (n : ℕ) (e : List ℕ) (j k : ℕ) → j < n → 2 * n ≤ length e → k < 2 → get_or (get_or (first_chunks 2 n e) j []) k 0 ≡ get_or e (2 * j + k) 0
+chunk_at zero e j k h l b = absurd (not-suc-le-zero h)
+chunk_at (suc n) e zero k h l b = let same : k ≡ 2 * 0 + k = omega arith in get_or-take 2 e k 0 b ∙ ap (λ (i : ℕ). get_or e i 0) same
+chunk_at (suc n) e (suc j) k h l b =
+    let next : 2 + (2 * j + k) ≡ 2 * suc j + k = omega arith in
+    chunk_at n (drop 2 e) j k (omega arith) (omega (arith, length-drop 2 e)) b ∙ get_or-drop 2 e (2 * j + k) 0 ∙ ap (λ (i : ℕ). get_or e i 0) next
 
-pub letters_pass : (e : List ℕ) {j : ℕ} → NoneBefore (length e / 2) (λ k. ltb 3 (get_or e (2 * k) 0)) j → length e / 2 ≤ j → Ok tt ≡ entry_letters_question e
-unfolding first_bad_entry entry_count entry_letter
-letters_pass e m h = letters-good e (none_left_lem m h) h
+pub paired : (e : List ℕ) {p : List (List ℕ)} → p ≡ first_chunks 2 (length e / 2) e → length p ≡ length e / 2 → Paired e p
+unfolding entry_count entry_letter entry_qubit
+paired e {p} h l = record {
+  count = l;
+  letters = λ j b. at j 0 b (omega arith) ∙ ap (λ (i : ℕ). get_or e i 0) (none j);
+  qubits = λ j b. at j 1 b (omega arith);
+}
+  where
+    at : (j k : ℕ) → j < length p → k < 2 → get_or (get_or p j []) k 0 ≡ get_or e (2 * j + k) 0
+    at j k b c = ap (λ (q : List (List ℕ)). get_or (get_or q j []) k 0) h ∙ chunk_at (length e / 2) e j k (omega arith) (omega arith) c
 
-pub qubit_refused : (e : List ℕ) {j q : ℕ} → NoneBefore (length e / 2) (λ k. leb 128 (get_or e (2 * k + 1) 0)) j → j < length e / 2 → q ≡ get_or e (2 * j + 1) 0 → 128 ≤ q
-    → Err (Qubit q) ≡ entry_qubits_question e
-unfolding first_high_entry entry_count entry_qubit qubits
-qubit_refused e {j} m h eq b = qubits_bad e (none_found m h (le-leb 128 (get_or e (2 * j + 1) 0) (omega arith))) h eq
+    none : (j : ℕ) → 2 * j + 0 ≡ 2 * j
+    none j = omega arith
 
-pub qubits_pass : (e : List ℕ) {j : ℕ} → NoneBefore (length e / 2) (λ k. leb 128 (get_or e (2 * k + 1) 0)) j → length e / 2 ≤ j → Ok tt ≡ entry_qubits_question e
-unfolding first_high_entry entry_count entry_qubit qubits
-qubits_pass e m h = qubits-good e (none_left_lem m h) h
+-- a loop over them stops at the first that is refused
+module _ {e : List ℕ} {p : List (List ℕ)} (pairs : Paired e p) {j : ℕ} where
+  module _ (m : NoneBefore (entry_count e) (λ k. ltb 3 (entry_letter e k)) j) where
+    pub letter_refused : j < length p → 3 < get_or (get_or p j []) 0 0 → Err (BadByte (2 * j)) ≡ entry_letters_question e
+    unfolding first_bad_entry
+    letter_refused h b =
+        let within : j < entry_count e = omega (arith, pairs.count) in
+        letters_bad e (none_found m within (lt-ltb 3 (entry_letter e j) (omega (arith, pairs.letters j h)))) within
 
-pub ruleset entry_scans = (letter_refused, letters_pass, qubit_refused, qubits_pass, none_start, none_more, le-ltb, lt-leb, rules)
+    pub letter_more : j < length p → get_or (get_or p j []) 0 0 ≤ 3 → NoneBefore (entry_count e) (λ k. ltb 3 (entry_letter e k)) (j + 1)
+    letter_more h b = none_more m (omega (arith, pairs.count)) (le-ltb 3 (entry_letter e j) (omega (arith, pairs.letters j h)))
+
+    pub letters_pass : length p ≤ j → Ok tt ≡ entry_letters_question e
+    unfolding first_bad_entry
+    letters_pass h = letters-good e (none_left_lem m (omega (arith, pairs.count))) (omega (arith, pairs.count))
+
+  module _ (m : NoneBefore (entry_count e) (λ k. leb 128 (entry_qubit e k)) j) where
+    pub qubit_refused : {q : ℕ} → j < length p → q ≡ get_or (get_or p j []) 1 0 → 128 ≤ q → Err (Qubit q) ≡ entry_qubits_question e
+    unfolding first_high_entry qubits
+    qubit_refused h eq b =
+        let within : j < entry_count e = omega (arith, pairs.count) in
+        qubits_bad e (none_found m within (le-leb 128 (entry_qubit e j) (omega (arith, pairs.qubits j h)))) within (eq ∙ pairs.qubits j h)
+
+    pub qubit_more : {q : ℕ} → j < length p → q ≡ get_or (get_or p j []) 1 0 → q < 128 → NoneBefore (entry_count e) (λ k. leb 128 (entry_qubit e k)) (j + 1)
+    qubit_more h eq b = none_more m (omega (arith, pairs.count)) (lt-leb 128 (entry_qubit e j) (omega (arith, pairs.qubits j h)))
+
+    pub qubits_pass : length p ≤ j → Ok tt ≡ entry_qubits_question e
+    unfolding first_high_entry qubits
+    qubits_pass h = qubits-good e (none_left_lem m (omega (arith, pairs.count))) (omega (arith, pairs.count))
+
+pub ruleset entry_scans = (none_start, letter_refused, letter_more, letters_pass, qubit_refused, qubit_more, qubits_pass, rules)
 
 -- what they let by
 pub letters-small : (p : ℕ) (e : List ℕ) → entry_questions p e ≡ Ok tt → (j : ℕ) → j < entry_count e → entry_letter e j ≤ 3
@@ -149,12 +183,12 @@ mark_step e j l q el eq h =
       | no d ↦ other k b d
     ]
 
--- ---- the loop that marks entries: n of them in all, j so far
-pub record Marking (e : List ℕ) (n j : ℕ) (m : List ℕ) : Type 0 where
-  pub within : j ≤ n
+-- ---- the loop that marks entries, j so far
+pub record Marking (e : List ℕ) (j : ℕ) (m : List ℕ) : Type 0 where
+  pub within : j ≤ entry_count e
   pub marks : m ≡ marks_to e j
-  pub letters : (i : ℕ) → i < n → entry_letter e i ≤ 3
-  pub places : (i : ℕ) → i < n → entry_qubit e i < 128
+  pub letters : (i : ℕ) → i < entry_count e → entry_letter e i ≤ 3
+  pub places : (i : ℕ) → i < entry_count e → entry_qubit e i < 128
 
 pub no_marks : (e : List ℕ) → replicate 128 0 ≡ marks_to e 0
 unfolding marks_to mark_to
@@ -163,39 +197,31 @@ no_marks e = ext_get_or 0 _ (marks_to e 0) (length-replicate {A = ℕ} 128 0 ∙
     zeros : (k : ℕ) → k < 128 → get_or (replicate 128 0) k 0 ≡ get_or (marks_to e 0) k 0
     zeros k b = get_or-replicate 128 k 0 0 b ∙ sym (mark_at e 0 k b)
 
-pub marking_none : {e m : List ℕ} {n : ℕ} → n ≡ length e / 2 → Unmarked e m → Marking e n 0 m
-unfolding entry_count
-marking_none {e} {m} {n} h u = record {
-  within = omega arith;
-  marks = u.none;
-  letters = λ i l. u.letters i (omega arith);
-  places = λ i l. u.places i (omega arith);
-}
+pub marking_none : {e m : List ℕ} → Unmarked e m → Marking e 0 m
+marking_none u = record { within = omega arith; marks = u.none; letters = u.letters; places = u.places }
 
-pub marking_fits : {e m : List ℕ} {n j l q : ℕ} → Marking e n j m → j < n → l ≡ get_or e (2 * j) 0 → q ≡ get_or e (2 * j + 1) 0 → MarkFits l q
-unfolding entry_letter entry_qubit
-marking_fits {e} {m} {n} {j} k h el eq = record {
-  letter = omega (arith, k.letters j h);
-  place = omega (arith, k.places j h);
-}
+module _ {e : List ℕ} {p : List (List ℕ)} (pairs : Paired e p) {m : List ℕ} {j : ℕ} (k : Marking e j m) where
+  pub marking_fits : {q : ℕ} → j < length p → q ≡ get_or (get_or p j []) 1 0 → MarkFits (get_or (get_or p j []) 0 0) q
+  marking_fits h eq = record {
+    letter = omega (arith, pairs.count, pairs.letters j h, k.letters j (omega (arith, pairs.count)));
+    place = omega (arith, pairs.count, pairs.qubits j h, k.places j (omega (arith, pairs.count)));
+  }
 
-pub marking_step : {e m d : List ℕ} {n j q : ℕ} → Marking e n j m → j < n → q ≡ get_or e (2 * j + 1) 0
-    → d ≡ set m q (mark_more (get_or m q 0) (get_or e (2 * j) 0)) → Marking e n (j + 1) d
-unfolding entry_letter entry_qubit
-marking_step {e} {m} {d} {n} {j} {q} k h eq ed = record {
-  within = omega arith;
-  marks = ed ∙ ap (λ (x : List ℕ). set x q (mark_more (get_or x q 0) (get_or e (2 * j) 0))) k.marks
-      ∙ mark_step e j (get_or e (2 * j) 0) q refl eq (omega (arith, k.places j h)) ∙ ap (marks_to e) (sym (add-one j));
-  letters = k.letters;
-  places = k.places;
-}
+  pub marking_step : {d : List ℕ} {q : ℕ} → j < length p → q ≡ get_or (get_or p j []) 1 0
+      → d ≡ set m q (mark_more (get_or m q 0) (get_or (get_or p j []) 0 0)) → Marking e (j + 1) d
+  marking_step {d} {q} h eq ed = record {
+    within = omega (arith, pairs.count);
+    marks = ed ∙ ap (λ (x : List ℕ). set x q (mark_more (get_or x q 0) (get_or (get_or p j []) 0 0))) k.marks
+        ∙ mark_step e j (get_or (get_or p j []) 0 0) q (pairs.letters j h) (eq ∙ pairs.qubits j h) (marking_fits h eq).place ∙ ap (marks_to e) (sym (add-one j));
+    letters = k.letters;
+    places = k.places;
+  }
 
-pub marking_length : {e m d : List ℕ} {n j : ℕ} → Marking e n j d → Unmarked e m → length d ≡ length m
-marking_length {e} {m} {d} {n} {j} k u = ap length k.marks ∙ length-marks e j ∙ sym (ap length u.none ∙ length-marks e 0)
+  pub marking_all : length p ≤ j → m ≡ marks_to e (entry_count e)
+  marking_all l = let within : j ≤ entry_count e = k.within in let whole : j ≡ entry_count e = omega (arith, pairs.count) in k.marks ∙ ap (marks_to e) whole
 
-pub marking_all : {e m : List ℕ} {n j : ℕ} → n ≡ length e / 2 → n ≤ j → Marking e n j m → m ≡ marks_to e (entry_count e)
-unfolding entry_count
-marking_all {e} {m} {n} {j} h l k = let within : j ≤ n = k.within in let whole : j ≡ length e / 2 = omega arith in k.marks ∙ ap (marks_to e) whole
+pub marking_length : {e m d : List ℕ} {j : ℕ} → Marking e j d → Unmarked e m → length d ≡ length m
+marking_length {e} {m} {d} {j} k u = ap length k.marks ∙ length-marks e j ∙ sym (ap length u.none ∙ length-marks e 0)
 
 pub ruleset marks = (marking_none, marking_fits, marking_step, marking_length, marking_all, rules)
 

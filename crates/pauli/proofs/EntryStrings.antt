@@ -65,12 +65,13 @@ pub length_marked : (n : ℕ) (m : List ℕ) → length (letters_marked n m) ≡
 unfolding letters_marked
 length_marked n m = length-listed n _
 
-pub letters-none : (m : List ℕ) {d : List ℕ} → length d ≡ 128 → Filled (letters_marked 128 m) d 128 0 d
+pub letters-none : (m : List ℕ) {d : List ℕ} → length d ≡ 128 → Filled (letters_marked 128 m) d (length d) 0 d
 letters-none m {d} h = filled_none (omega (arith, length_marked 128 m)) (omega arith)
 
-pub letters_all : (m : List ℕ) {d : List ℕ} {i : ℕ} {e : List ℕ} → length d ≡ 128 → Filled (letters_marked 128 m) d 128 i e → 128 ≤ i → e ≡ letters_marked 128 m
+pub letters_all : (m : List ℕ) {d : List ℕ} {i : ℕ} {e : List ℕ} → length d ≡ 128 → Filled (letters_marked 128 m) d (length d) i e → length d ≤ i
+    → e ≡ letters_marked 128 m
 letters_all m {d} {i} {e} l f h =
-    filled_all 128 refl f h
+    filled_all 128 l f h
     ∙ ap₂ ◌++◌ (take_all 128 (letters_marked 128 m) (omega (arith, length_marked 128 m))) (drop_of_length-le d {i = 128} (omega arith))
     ∙ append-nil (letters_marked 128 m)
 

@@ -63,8 +63,8 @@ fn check_letters(body: &[u8], offset: usize) -> Result<(), Refusal>
 fn write_named(body: &[u8], dst: &mut [u8])
     ensures { dst.new ≡ letters_named (length dst.old) body.now }
 {
-    for i in 0..dst.len() {
-        dst[i] = letter_named(byte_at(body, i)).unwrap_or(0);
+    for (i, letter) in dst.iter_mut().enumerate() {
+        *letter = letter_named(byte_at(body, i)).unwrap_or(0);
     }
 }
 

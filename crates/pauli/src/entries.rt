@@ -2,7 +2,7 @@
 // `with_phase_and_paulis` of pauli_string.rs of PECOS, changed: Copyright 2024 The PECOS Developers, Apache License, Version 2.0.
 ghost use Rattle.std.specs.Prelude.{◌≡◌, ◌∷◌, ◌++◌, length, drop, slice_index, slice_set};
 ghost use Rattle.pauli.specs.Entries.{entry_count};
-ghost use Rattle.pauli.specs.Inside.Marks.{mark_more, marks_to, MarkFits, Unmarked, marks_question, Blank, EntriesRead, letters_marked, RecordFits};
+ghost use Rattle.pauli.specs.Inside.Marks.{mark_more, marks_to, MarkFits, Unmarked, marks_question, Blank, EntriesRead, letters_marked, RecordFits, Paired};
 ghost use Rattle.pauli.specs.Questions.{even_question, entry_letters_question, entry_qubits_question, entry_questions, room_question, ◌and_then◌};
 
 use crate::questions::{check_byte, check_room};
@@ -19,12 +19,19 @@ fn check_even(entries: &[u8]) -> Result<(), Refusal>
     Ok(())
 }
 
-#[tactic(auto, using(crate::proofs::EntryMarks::entry_scans))]
+// The entries, pairs (letter, qubit).
+fn pairs(entries: &[u8]) -> &[[u8; 2]]
+    ensures { Paired entries.now result.now }
+{
+    entries.as_chunks().0
+}
+
+// Two loops: each letter is asked before any qubit.
 fn check_entry_letters(entries: &[u8]) -> Result<(), Refusal>
     ensures { result ≡ entry_letters_question entries.now }
 {
-    for j in 0..entries.len() / 2 {
-        if 3 < entries[2 * j] {
+    for (j, [letter, _]) in pairs(entries).iter().enumerate() {
+        if 3 < *letter {
             return Err(Refusal::BadByte { offset: 2 * j });
         }
     }
@@ -34,8 +41,8 @@ fn check_entry_letters(entries: &[u8]) -> Result<(), Refusal>
 fn check_entry_qubits(entries: &[u8]) -> Result<(), Refusal>
     ensures { result ≡ entry_qubits_question entries.now }
 {
-    for j in 0..entries.len() / 2 {
-        let qubit = usize::from(entries[2 * j + 1]);
+    for [_, qubit] in pairs(entries) {
+        let qubit = usize::from(*qubit);
         if QUBITS <= qubit {
             return Err(Refusal::Qubit { qubit });
         }
@@ -88,8 +95,8 @@ impl Marks {
         requires { Unmarked entries.now self.old.0 }
         ensures { self.new.0 ≡ marks_to entries.now (entry_count entries.now) }
     {
-        for j in 0..entries.len() / 2 {
-            self.mark(entries[2 * j], usize::from(entries[2 * j + 1]));
+        for [letter, qubit] in pairs(entries) {
+            self.mark(*letter, usize::from(*qubit));
         }
     }
 
@@ -117,8 +124,8 @@ impl Marks {
         requires { length row.old ≡ 128 }
         ensures { row.new ≡ letters_marked 128 self.now.0 }
     {
-        for q in 0..QUBITS {
-            row[q] = self.0[q].saturating_sub(1);
+        for (q, letter) in row.iter_mut().enumerate() {
+            *letter = self.0[q].saturating_sub(1);
         }
     }
 

@@ -1,6 +1,6 @@
 -- What the code keeps of the entries read so far: a mark for each qubit, 0 where no entry names it, 1 + its letter where one
 -- does, 5 where more do.
-use Rattle.std.specs.Prelude.{◌≡◌, ℕ, zero, suc, ◌<◌, ◌≤◌, Bool, cond, List, length, nat_eq, nat_le, slice_index, Ok}
+use Rattle.std.specs.Prelude.{◌≡◌, ℕ, zero, suc, ◌<◌, ◌≤◌, Bool, cond, List, [], length, nat_eq, nat_le, slice_index, slice_index_or, Ok}
 use Rattle.pauli_group.specs.PauliString.{qubits}
 use Rattle.pauli.specs.declared.refusal.Refusal.TheVariants.{Duplicate}
 use Rattle.pauli.specs.Questions.{ask, with_phase_questions}
@@ -45,6 +45,12 @@ pub record Unmarked (e m : List ℕ) : Type 0 where
   pub letters : (j : ℕ) → j < entry_count e → entry_letter e j ≤ 3
   pub places : (j : ℕ) → j < entry_count e → entry_qubit e j < 128
   pub none : m ≡ marks_to e 0
+
+-- entries as pairs (letter, qubit)
+pub record Paired (e : List ℕ) (p : List (List ℕ)) : Type 0 where
+  pub count : length p ≡ entry_count e
+  pub letters : (j : ℕ) → j < length p → slice_index_or (slice_index_or p j []) 0 0 ≡ entry_letter e j
+  pub qubits : (j : ℕ) → j < length p → slice_index_or (slice_index_or p j []) 1 0 ≡ entry_qubit e j
 
 -- no marks, whatever the entries will be
 pub record Blank (m : List ℕ) : Type 0 where

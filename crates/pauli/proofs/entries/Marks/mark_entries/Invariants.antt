@@ -1,7 +1,6 @@
 -- `entries::Marks::mark_entries` meets its contract, by the laws of `Marking`.
-use Rattle.std.proofs.Common.{◌/◌, length}
 use Rattle.pauli.proofs.EntryMarks.{Marking}
 use Rattle.pauli.proofs.entries.Marks.mark_entries.Given as goal
 
-abbrev pub invariant-loop-j : goal.invariant-loop-j
-invariant-loop-j l = Marking l.entries (length l.entries / 2) l.j l.self.0
+abbrev pub invariant-loop-letter : goal.invariant-loop-letter
+invariant-loop-letter l = Marking l.entries l.letter-index l.self.0
