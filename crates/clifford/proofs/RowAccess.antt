@@ -12,7 +12,7 @@ use Rattle.pauli.proofs.Places.{length-listed, get_d_listed, from, from_is, none
 use Rattle.pauli.proofs.StringProducts.{row-product, row_product-is}
 use Rattle.clifford.specs.Layout.{letter_place, row_length, letters_of, decode_row, row_offset, record_length, longest_record, row_of, width_of, row_part, tableau_of, row_qubit, row_letter, read_row, letter_in, row_with, row_with_pair, FormedTableau}
 use Rattle.pauli.specs.Places.{listed}
-use Rattle.clifford.specs.Inside.Rows.{letter_bytes, Sized, RowIndex, RowInside, RowAt, row_answer, OwnRow, WorkOnRow, Finished, row_times, row_written, letters_in, string_in, row_letters, OwnLetter}
+use Rattle.clifford.specs.Inside.Rows.{letter_bytes, Sized, RowIndex, RowInside, RowAt, OwnQubit, row_answer, OwnRow, WorkOnRow, Finished, row_times, row_written, letters_in, string_in, row_letters, OwnLetter}
 use Rattle.clifford.proofs.Records.{record-small}
 use Rattle.pauli.specs.declared.refusal.Refusal.TheVariants.{BadByte}
 use Rattle.pauli.specs.declared.rows.LetterScan.{LetterScan}
@@ -21,7 +21,7 @@ use Rattle.pauli.proofs.Asking.{asked_yes, asked_no, refused, passed}
 use Rattle.clifford.specs.Questions.{row_question, true_weight}
 use lib.Bits.{bit_xor}
 use Rattle.clifford.specs.Playing.{table_entry, letter_table_on_row, pair_table_on_row}
-use Rattle.clifford.proofs.Rows.{place_is, row-some, letter_in-row, letters-from, row-letter, row-phase, row_inside, row_part_lem, row_room, row-string, row_as_string_lem, row_of-work, own_letters_long, own-letter_byte, get_d_part, capped_letter, capped_phase, read_own, read_wide, read_over, length_part, own_row, own-some, own-more, own-letter, weight_counted}
+use Rattle.clifford.proofs.Rows.{place_is, row-x, row-z, width_of_lem, row-some, letter_in-row, letters-from, row-letter, row-phase, row_inside, row_part_lem, row_room, row-string, row_as_string_lem, row_of-work, own_letters_long, own-letter_byte, get_d_part, capped_letter, capped_phase, read_own, read_wide, read_over, length_part, own_row, own-some, own-more, own-letter, weight_counted}
 use Rattle.clifford.proofs.Asking.{bytes_bad, bytes_good}
 use Rattle.pauli.specs.Answers.{Answer, answer_to}
 use Rattle.pauli.specs.declared.refusal.Refusal.{Refusal}
@@ -94,6 +94,32 @@ module _ {b : List ℕ} {r : ℕ} (f : FormedTableau b) (h : r < 2 * width_of b)
       (λ q k. own-letter_byte o q (omega arith) ∙ sym (get_d_listed w byte q 0 (omega arith)))
 
 pub ruleset formed_rows = (formed-phase, formed_letters, rules)
+
+-- ---- a qubit of such a record, and its rows
+pub qubit_taken : {b : List ℕ} {q : ℕ} → FormedTableau b → q < width_of b → OwnQubit b q
+qubit_taken f h = record { tableau = f; own = h }
+
+pub qubit_before : {b : List ℕ} {q r : ℕ} → OwnQubit b q → r < q → OwnQubit b r
+qubit_before o h = record { tableau = o.tableau; own = omega (arith, o.own) }
+
+module _ {b : List ℕ} {q : ℕ} (o : OwnQubit b q) where
+  pub x_taken : OwnRow b q
+  x_taken = record { tableau = o.tableau; own = omega (arith, o.own) }
+
+  pub x_is : row_of (tableau_of b) q ≡ (tableau_of b).x_image q
+  x_is = row-x (tableau_of b) q (omega (arith, o.own, width_of_lem b))
+
+  module _ {n : ℕ} (e : n ≡ width_of b) where
+    pub z_taken : OwnRow b (n + q)
+    z_taken = record { tableau = o.tableau; own = omega (arith, o.own) }
+
+    pub z_small : n + q ≤ 256
+    z_small = omega (arith, o.own, o.tableau.narrow)
+
+    pub z_is : row_of (tableau_of b) (n + q) ≡ (tableau_of b).z_image q
+    z_is = ap (λ (j : ℕ). row_of (tableau_of b) (j + q)) (e ∙ sym (width_of_lem b)) ∙ row-z (tableau_of b) q
+
+pub ruleset qubit_rows = (qubit_taken, qubit_before, x_taken, x_is, z_taken, z_small, z_is, rules)
 
 -- ---- one letter of a row
 pub letter-row : {b : List ℕ} {r q : ℕ} → OwnLetter b r q → OwnRow b r
