@@ -240,7 +240,7 @@ module _ {b : List ℕ} {p : Option ℕ} (o : FirstFalse b p) where
       let all : 2 * width_of b ≡ first_false b = sym (ap (λ p. unwrap_or p (2 * width_of b)) h) ∙ o.is in
       asked_yes (FalseWeight _) (le-leb (2 * width_of b) (first_false b) (omega arith))
 
-pub ruleset false-rows = (false_index, false-row, false-none, rules)
+pub ruleset false_rows = (false_index, false-row, false-none, rules)
 
 -- ---- all of them
 pub tableau-none : (b : List ℕ) → length b ≡ 0 → Err Length ≡ tableau_questions b

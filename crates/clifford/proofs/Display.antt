@@ -75,7 +75,7 @@ pub letter-z : {d e : List ℕ} {w k r s : ℕ} → w ≤ r → Stored k (90 ∷
 unfolding letter_text row_letter
 letter-z {w = w} {r = r} h a = stored_as (sym (ap (λ b. letter_text (cond b X Z) ∷ 95 ∷ []) (le-ltb r w h))) a
 
-pub ruleset generator-letters = (letter-x, letter-z, stored_same, rules)
+pub ruleset generator_letters = (letter-x, letter-z, stored_same, rules)
 
 pub label_made : (w r : ℕ) {k q a b c s : ℕ} {d e f g h : List ℕ} → q ≡ row_qubit w r → Stored k (32 ∷ 32 ∷ []) d e a
     → Stored a (letter_text (row_letter w r) ∷ 95 ∷ []) e f b → Stored b (decimal q) f g c → Stored c arrow_text g h s → Stored k (label_text (row_letter w r) (row_qubit w r)) d h s

@@ -22,7 +22,7 @@ use Rattle.clifford.specs.Images.{pauli_tableau}
 use Rattle.clifford.specs.GateQuestions.{gate_width}
 use Rattle.clifford.specs.Inside.Rows.{Sized, Finished, AppliesString, AppliesLetter, row_written, letters_in, string_in}
 use Rattle.clifford.specs.Inside.Writing.{PauliRow, conjugated}
-use Rattle.clifford.specs.Inside.InverseRows.{InvertsRow}
+use Rattle.clifford.specs.Inside.InverseRows.{RowBack}
 use Rattle.clifford.specs.Inside.GateRows.{row_image_string, RowImageOf, ImageAsked, PutsImage}
 use Rattle.clifford.specs.Inside.Made.{Made, MakesRow, WritesRow, WritesAll, Widens, Composes, Spans, GateInside}
 use Rattle.clifford.proofs.Rows.{width_of_lem, rows-within, some_bytes}
@@ -88,12 +88,8 @@ module _ {w r : ℕ} {s k : List ℕ} (o : MakesRow w r s k) where
   held : {x row : PauliString} {k' : List ℕ} → k' ≡ encode_string (letters_in k) x → x ≡ row → k' ≡ encode_string w row
   held e h = e ∙ ap₂ encode_string letters_k h
 
-  pub inverse_here : {t : List ℕ} → FormedTableau t → w ≡ width_of t → InvertsRow t w r s k
-  inverse_here f e = record {
-    row = record { old = record { tableau = f; own = omega (arith, o.own) }; wide = e };
-    source = o.source;
-    work = o.work;
-  }
+  pub inverse_back : {t : List ℕ} {n : ℕ} → FormedTableau t → w ≡ width_of t → n ≡ width_of t → RowBack t n r
+  inverse_back f e en = record { old = record { tableau = f; own = omega (arith, o.own) }; wide = en }
 
   module _ {q : ℕ} (eq : q ≡ row_qubit w r) where
     below : q < w
@@ -196,7 +192,7 @@ pub ruleset made_rows = (
   composite_letter,
   composite_applies,
   composite_row,
-  inverse_here,
+  inverse_back,
   pauli_here,
   pauli_made,
   gate-asked,

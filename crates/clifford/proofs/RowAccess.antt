@@ -131,7 +131,7 @@ letter-inside {b} {p} {r} {q} o e = omega (arith, place_is q, letter_in-row (wid
 pub letter_read : {b p : List ℕ} {r q : ℕ} → OwnLetter b r q → p ≡ row_part b r → get_or p (q + 2) 0 ≡ letter_byte ((row_of (tableau_of b) r).letters q)
 letter_read {b} {p} {r} {q} o e = ap₂ (λ (l : List ℕ) (j : ℕ). get_or l j 0) e (sym (place_is q)) ∙ own-letter o.row q o.qubit
 
-pub ruleset letter-reads = (letter-row, letter-inside, letter_read, own-inside, rules)
+pub ruleset letter_reads = (letter-row, letter-inside, letter_read, own-inside, rules)
 
 -- ---- question 3, put to a row
 module _ (p : List ℕ) (at : ℕ) where
@@ -163,7 +163,7 @@ module _ (p : List ℕ) (at : ℕ) where
       pub codes-good : length (from 2 p) ≤ k → Ok tt ≡ row_question at p
       codes-good l = all_good (omega (arith, place, ap length (letters-from p)))
 
-pub ruleset row-codes = (codes_bad_phase, codes-clean, codes_bad_letter, codes-good, rules)
+pub ruleset row_codes = (codes_bad_phase, codes-clean, codes_bad_letter, codes-good, rules)
 
 -- and whether its weight is true
 module _ {b : List ℕ} {r : ℕ} (o : RowInside b r) {n at : ℕ} (en : n ≡ width_of b) (s : Sized (row_offset n r) at) {p : List ℕ} (ep : p ≡ row_part b r)
@@ -239,7 +239,7 @@ module _ (b : List ℕ) (r : ℕ) {n : ℕ} (e : n ≡ width_of b) where
 pub read_none : (b : List ℕ) (k : ℕ) → length b ≤ k → 0 ≡ min (get_or b k 0) 3
 read_none b k h = omega (arith, get_or-eq_default b 0 {n = k} h)
 
-pub ruleset row-reading = (read_none, phase-wide, phase_over, phase-own, letter-wide, letter_over, letter_beyond, letter-own, rules)
+pub ruleset row_reading = (read_none, phase-wide, phase_over, phase-own, letter-wide, letter_over, letter_beyond, letter-own, rules)
 
 -- ---- a work row multiplied by a row of a record
 pub work-on : {b d : List ℕ} {r : ℕ} → WorkOnRow b d r → OwnRow b r

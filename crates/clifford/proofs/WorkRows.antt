@@ -233,7 +233,7 @@ image_over b d {e} {q} l en h k = k ∙ ap (row_times d) (sym (image_above (tabl
 
 pub ruleset clearing = (cleared_all, rules)
 
-pub ruleset letter-products = (times-letter, rules)
+pub ruleset letter_products = (times-letter, rules)
 
 pub ruleset images = (turned-work, work-x, work-z, work-next, own_x, own-z, own_y, own-work, times_both, rules)
 

@@ -13,6 +13,7 @@ use pauli::algebra::multiply_paulis;
 use pauli::rows::phase_times;
 
 // The work row of this phase, with I on every qubit.
+#[tactic(auto, using(crate::proofs::WorkRows::clearing))]
 pub(crate) fn clear_row(work: &mut [u8], phase: u8)
     requires { ClearRow work.old phase }
     ensures { work.new ≡ cleared_row (length work.old) phase }
@@ -22,6 +23,7 @@ pub(crate) fn clear_row(work: &mut [u8], phase: u8)
 }
 
 // A work row multiplied by one letter, on qubit q.
+#[tactic(auto, using(crate::proofs::WorkRows::letter_products))]
 pub(crate) fn multiply_letter(work: &mut [u8], q: usize, letter: u8)
     requires { WorkPlace work.old q }
     ensures { work.new ≡ row_times work.old (single (letter_of letter) q) }
@@ -43,6 +45,7 @@ fn multiply_both(work: &mut [u8], t: &[u8], q: usize)
 }
 
 // A work row multiplied by the image, by rows, of a letter other than I on qubit q; a byte above 3 is read as 3.
+#[tactic(auto, using(crate::proofs::WorkRows::images))]
 fn multiply_own(work: &mut [u8], t: &[u8], q: usize, letter: u8)
     requires { WorkOnLetter t.now work.old q letter }
     ensures { work.new ≡ row_times work.old (row_image (tableau_of t.now) q (letter_of letter)) }
@@ -55,6 +58,7 @@ fn multiply_own(work: &mut [u8], t: &[u8], q: usize, letter: u8)
 }
 
 // A work row multiplied by the image of a letter on qubit q: by rows below the width; letters at the width or above pass through.
+#[tactic(auto, using(crate::proofs::WorkRows::image_products))]
 fn multiply_image(work: &mut [u8], t: &[u8], q: usize, letter: u8)
     requires { WorkOnQubit t.now work.old q }
     ensures { work.new ≡ row_times work.old (image_of (tableau_of t.now) q (letter_of letter)) }

@@ -22,6 +22,7 @@ fn write_header(dst: &mut [u8], width: usize) -> usize
 }
 
 // The letter of the generator whose image is row r.
+#[tactic(auto, using(pauli::proofs::Asking::by_tests, pauli::proofs::Asking::by_questions), unfolding(crate::specs::Layout::row_letter, pauli::specs::SparseText::letter_text))]
 fn write_letter(dst: &mut [u8], at: usize, width: usize, r: usize) -> usize
     ensures { Stored at (letter_text (row_letter width r) ∷ 95 ∷ []) dst.old dst.new result }
 {

@@ -24,6 +24,7 @@ pub fn width(t: &[u8]) -> usize
 pub const LONGEST_RECORD: usize = 33281;
 
 // The length of a record.
+#[tactic(auto, using(crate::proofs::RowAccess::row_access))]
 pub(crate) fn record_length(width: usize) -> usize
     requires { width ≤ 128 }
     ensures { Sized (record_length width) result }
@@ -32,6 +33,7 @@ pub(crate) fn record_length(width: usize) -> usize
 }
 
 // Where row r starts.
+#[tactic(auto, using(crate::proofs::RowAccess::row_access))]
 pub(crate) fn row_offset(width: usize, r: usize) -> usize
     requires { RowIndex width r }
     ensures { Sized (row_offset width r) result }
@@ -40,6 +42,7 @@ pub(crate) fn row_offset(width: usize, r: usize) -> usize
 }
 
 // The row's own part of the record.
+#[tactic(auto, using(crate::proofs::RowAccess::row_access))]
 pub(crate) fn row(t: &[u8], r: usize) -> &[u8]
     requires { RowInside t.now r }
     ensures { result.now ≡ row_part t.now r }
@@ -50,6 +53,7 @@ pub(crate) fn row(t: &[u8], r: usize) -> &[u8]
 }
 
 // Question 3, put to a row that starts at this offset, the largest of its letters being known.
+#[tactic(auto, using(crate::proofs::RowAccess::row_codes))]
 fn check_codes(row: &[u8], at: usize, largest: u8) -> Result<(), Refusal>
     requires { RowAt at row.now largest }
     ensures { result ≡ row_question at row.now }
@@ -80,6 +84,7 @@ pub(crate) fn check_row(t: &[u8], r: usize) -> Result<bool, Refusal>
 }
 
 // Question 24, where the first row with a false weight is known.
+#[tactic(auto, using(crate::proofs::Asking::false_rows))]
 pub(crate) fn check_weights(t: &[u8], first: Option<usize>) -> Result<(), Refusal>
     requires { FirstFalse t.now first }
     ensures { result ≡ weights_question t.now }
@@ -93,6 +98,7 @@ pub(crate) fn check_weights(t: &[u8], first: Option<usize>) -> Result<(), Refusa
 }
 
 // The letters of row r.
+#[tactic(auto, using(crate::proofs::RowAccess::row_reads))]
 pub(crate) fn row_letters(t: &[u8], r: usize) -> &[u8]
     requires { OwnRow t.now r }
     ensures { result.now ≡ row_letters t.now r }
@@ -102,6 +108,7 @@ pub(crate) fn row_letters(t: &[u8], r: usize) -> &[u8]
 }
 
 // A work row, multiplied by row r of the record.
+#[tactic(auto, using(crate::proofs::RowAccess::row_access))]
 pub(crate) fn multiply_by(work: &mut [u8], t: &[u8], r: usize)
     requires { WorkOnRow t.now work.old r }
     ensures { work.new ≡ row_times work.old (row_of (tableau_of t.now) r) }
@@ -113,6 +120,7 @@ pub(crate) fn multiply_by(work: &mut [u8], t: &[u8], r: usize)
 }
 
 // A finished work row, written with its weight as the row at the front of dst.
+#[tactic(auto, using(crate::proofs::RowAccess::row_access))]
 pub(crate) fn write_row(work: &[u8], dst: &mut [u8])
     requires { Finished work.now dst.old }
     ensures { dst.new ≡ row_written (letters_in work.now) (string_in work.now) dst.old }
@@ -123,12 +131,14 @@ pub(crate) fn write_row(work: &[u8], dst: &mut [u8])
 }
 
 // The qubit of row r, and its letter: X rows come first.
+#[tactic(auto, using(pauli::proofs::Asking::by_tests, pauli::proofs::Asking::by_questions), unfolding(crate::specs::Layout::row_qubit))]
 pub(crate) fn row_qubit(width: usize, r: usize) -> usize
     ensures { result ≡ row_qubit width r }
 {
     if r < width { r } else { r - width }
 }
 
+#[tactic(auto, using(pauli::proofs::Asking::by_tests, pauli::proofs::Asking::by_questions), unfolding(crate::specs::Layout::row_letter, pauli::specs::Layout::letter_byte))]
 pub(crate) fn row_letter(width: usize, r: usize) -> u8
     ensures { result ≡ letter_byte (row_letter width r) }
 {
@@ -154,6 +164,7 @@ fn read_at(t: &[u8], at: usize) -> u8
 }
 
 // The phase of row r, whatever the bytes of t: +1 where a record of this width has no such row.
+#[tactic(auto, using(crate::proofs::RowAccess::row_reading))]
 pub fn phase_at(t: &[u8], r: usize) -> u8
     ensures { result ≡ phase_byte (read_row t.now r).phase }
 {
@@ -165,6 +176,7 @@ pub fn phase_at(t: &[u8], r: usize) -> u8
 }
 
 // The letter of row r on qubit q, whatever the bytes of t: I where a record of this width has no such row or qubit.
+#[tactic(auto, using(crate::proofs::RowAccess::row_reading))]
 pub fn letter_at(t: &[u8], r: usize, q: usize) -> u8
     ensures { result ≡ letter_byte ((read_row t.now r).letters q) }
 {
@@ -176,6 +188,7 @@ pub fn letter_at(t: &[u8], r: usize, q: usize) -> u8
 }
 
 // The row at the front of b, changed on qubit q as the table says.
+#[tactic(auto, using(crate::proofs::RowAccess::row_changes))]
 pub(crate) fn change_letter(b: &mut [u8], q: usize, table: &[[u8; 4]; 2])
     requires { q + 2 < length b.old }
     ensures { b.new ≡ letter_table_on_row table.now q b.old }
@@ -186,6 +199,7 @@ pub(crate) fn change_letter(b: &mut [u8], q: usize, table: &[[u8; 4]; 2])
 }
 
 // The row at the front of b, changed on qubits q and r as the table says, with its weight.
+#[tactic(auto, using(crate::proofs::RowAccess::row_changes))]
 pub(crate) fn change_pair(b: &mut [u8], q: usize, r: usize, table: &[[u8; 16]; 4])
     requires first { q + 2 < length b.old }
     requires second { r + 2 < length b.old }

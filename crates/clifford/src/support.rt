@@ -12,7 +12,7 @@ use crate::clifford_rep::{Generator, X, Z};
 use crate::tableau::{Qubit, Row, TableauRecord};
 
 // The byte of X or Z on qubit q, at qubit c.
-#[tactic(auto, using(crate::proofs::SupportQubits::single_bytes))]
+#[tactic(auto, using(pauli::proofs::Asking::by_tests, pauli::proofs::Asking::by_questions), unfolding(pauli_group::specs::PauliString::single, pauli::specs::Layout::letter_byte))]
 fn single_byte<G: Generator>(q: usize, c: usize) -> u8
     ensures { result ≡ letter_byte ((single (generator G.letter) q).letters c) }
 {

@@ -11,7 +11,7 @@ ghost use Rattle.clifford.specs.Inside.Made.{Made, MakesRow, WritesRow, WritesAl
 
 use crate::applying::{apply_letter, apply_string};
 use crate::gates::{gate_image, put_image};
-use crate::inverting::inverse_row;
+use crate::inverting::InverseRow;
 use crate::layout::{record_length, row_letter, row_offset, row_qubit, width, write_row};
 use crate::pauli_tableau::pauli_row;
 use pauli::STRING_LENGTH;
@@ -50,6 +50,7 @@ impl<'a> RowMaker for Widened<'a> {
         self.width
     }
 
+    #[tactic(auto, using(crate::proofs::Made::made_rows))]
     fn make_row(&self, r: usize, _source: &mut [u8], work: &mut [u8]) {
         let letter = row_letter(self.width, r);
         apply_letter(self.t, row_qubit(self.width, r), letter, work);
@@ -98,7 +99,12 @@ impl<'a> RowMaker for Inverse<'a> {
     }
 
     fn make_row(&self, r: usize, source: &mut [u8], work: &mut [u8]) {
-        inverse_row(self.t, width(self.t), r, source, work);
+        let row = InverseRow {
+            t: self.t,
+            width: width(self.t),
+            r,
+        };
+        row.write(source, work);
     }
 }
 
@@ -119,6 +125,7 @@ impl<'a> RowMaker for OfPauli<'a> {
         self.width
     }
 
+    #[tactic(auto, using(crate::proofs::Made::made_rows))]
     fn make_row(&self, r: usize, _source: &mut [u8], work: &mut [u8]) {
         let letter = row_letter(self.width, r);
         pauli_row(self.s, row_qubit(self.width, r), letter, work);
@@ -144,6 +151,7 @@ impl RowMaker for OfGate {
         self.width
     }
 
+    #[tactic(auto, using(crate::proofs::Made::made_rows))]
     fn make_row(&self, r: usize, _source: &mut [u8], work: &mut [u8]) {
         let qubit = row_qubit(self.width, r);
         let letter = row_letter(self.width, r);
@@ -153,6 +161,7 @@ impl RowMaker for OfGate {
 }
 
 // The apply routine for rows: the generator of row r sent through what is made, as the row at the front of dst.
+#[tactic(auto, using(crate::proofs::Made::written_rows))]
 fn apply_to_row<M: RowMaker>(made: &M, r: usize, dst: &mut [u8])
     requires { WritesRow (M.wide made.now) (M.made made.now) r dst.old }
     ensures { dst.new ≡ row_written (M.wide made.now) (row_of (M.made made.now) r) dst.old }
