@@ -29,7 +29,7 @@ use Rattle.clifford.specs.Layout.{letter_place, letter_in, row_length, row_offse
 use Rattle.clifford.specs.Questions.{tableau_questions}
 use Rattle.clifford.specs.Tableaux.{identity_record, compose_record}
 use Rattle.clifford.specs.GateAnswers.{gate_record}
-use Rattle.clifford.specs.Inside.Rows.{OwnRow, letter_bytes}
+use Rattle.clifford.specs.Inside.Rows.{OwnRow, RowIndex, letter_bytes}
 use Rattle.clifford.proofs.Joining.{joined-more}
 use Rattle.clifford.proofs.RowWriting.{qubit-below}
 use Rattle.clifford.proofs.Rows.{row-x, row-z, row_inside, width_of_lem}
@@ -67,16 +67,6 @@ header_made n x y z = stored_join x (stored_join y z)
 pub ruleset headers = (header_made, stored_same, rules)
 
 -- ---- a label
-pub letter-x : {d e : List ℕ} {w k r s : ℕ} → r < w → Stored k (88 ∷ 95 ∷ []) d e s → Stored k (letter_text (row_letter w r) ∷ 95 ∷ []) d e s
-unfolding letter_text row_letter
-letter-x {w = w} {r = r} h a = stored_as (sym (ap (λ b. letter_text (cond b X Z) ∷ 95 ∷ []) (lt-ltb r w h))) a
-
-pub letter-z : {d e : List ℕ} {w k r s : ℕ} → w ≤ r → Stored k (90 ∷ 95 ∷ []) d e s → Stored k (letter_text (row_letter w r) ∷ 95 ∷ []) d e s
-unfolding letter_text row_letter
-letter-z {w = w} {r = r} h a = stored_as (sym (ap (λ b. letter_text (cond b X Z) ∷ 95 ∷ []) (le-ltb r w h))) a
-
-pub ruleset generator_letters = (letter-x, letter-z, stored_same, rules)
-
 pub label_made : (w r : ℕ) {k q a b c s : ℕ} {d e f g h : List ℕ} → q ≡ row_qubit w r → Stored k (32 ∷ 32 ∷ []) d e a
     → Stored a (letter_text (row_letter w r) ∷ 95 ∷ []) e f b → Stored b (decimal q) f g c → Stored c arrow_text g h s → Stored k (label_text (row_letter w r) (row_qubit w r)) d h s
 unfolding label_text generator_text
@@ -86,6 +76,11 @@ label_made w r eq x y z u =
 pub ruleset labels = (label_made, stored_same, rules)
 
 -- ---- a line
+pub line_place : {b : List ℕ} {r n : ℕ} → OwnRow b r → n ≡ width_of b → RowIndex n r
+line_place o e = record { narrow = omega (arith, o.tableau.narrow); own = omega (arith, o.own) }
+
+pub ruleset line_places = (line_place, rules)
+
 pub line_made : (t : List ℕ) (r : ℕ) {d e f g l : List ℕ} {k n a b s : ℕ} (p : ℕ) → OwnRow t r → n ≡ width_of t → p ≡ phase_byte (row_of (tableau_of t) r).phase
     → l ≡ letter_bytes (tableau_of t) r → Stored k (label_text (row_letter n r) (row_qubit n r)) d e a → Stored a (row_text p l) e f b → Stored b (10 ∷ []) f g s
     → Stored k (line_text (tableau_of t) r) d g s

@@ -4,13 +4,12 @@ use Rattle.std.proofs.Common.{◌≡◌, ℕ, suc, ◌+◌, ◌-◌, ◌*◌, �
 use lib.ListN.{get_or-eq_default}
 use borrow.Rule.Slice.PartMut.{put_mid}
 use borrow.Author.Tests.{lt-leb}
-use Rattle.pauli_group.specs.Letter.{X, Z}
 use Rattle.pauli_group.specs.PauliString.{qubits, mul, identity_string, weight_to}
 use Rattle.pauli.specs.Layout.{phase_byte, phase_of, letter_byte, encode_string}
 use Rattle.pauli.specs.Rows.{phase_bytes_product, RowTimes, letter_count, largest_to, Scanned}
 use Rattle.pauli.proofs.Places.{length-listed, get_d_listed, from, from_is, none_bad}
 use Rattle.pauli.proofs.StringProducts.{row-product, row_product-is}
-use Rattle.clifford.specs.Layout.{letter_place, row_length, letters_of, decode_row, row_offset, record_length, longest_record, row_of, width_of, row_part, tableau_of, row_qubit, row_letter, read_row, letter_in, row_with, row_with_pair, FormedTableau}
+use Rattle.clifford.specs.Layout.{letter_place, row_length, letters_of, decode_row, row_offset, record_length, longest_record, row_of, width_of, row_part, tableau_of, read_row, letter_in, row_with, row_with_pair, FormedTableau}
 use Rattle.pauli.specs.Places.{listed}
 use Rattle.clifford.specs.Inside.Rows.{letter_bytes, Sized, RowIndex, RowInside, RowAt, OwnQubit, row_answer, OwnRow, WorkOnRow, Finished, row_times, row_written, letters_in, string_in, row_letters, OwnLetter}
 use Rattle.clifford.proofs.Records.{record-small}
@@ -285,24 +284,7 @@ row_written_lem d (y ∷ z ∷ out) {n} {ys} f c h =
     ap₂ (λ (l : List ℕ) (j : ℕ). x ∷ n ∷ (l ++ drop j out)) (h ∙ from_is 1 d) size
     ∙ ap (λ (l : List ℕ). l ++ drop (letters_in d) out) (sym (row_of-work f.row (omega (arith, f.narrow)) (c ∙ ap (λ (l : List ℕ). letter_count l % 256) (from_is 1 d))))
 
--- ---- the generator of a row
-pub qubit-x : (w r : ℕ) → r < w → r ≡ row_qubit w r
-unfolding row_qubit
-qubit-x w r h = sym (ap (λ b. cond b r (r - w)) (lt-ltb r w h))
-
-pub qubit-z : (w r : ℕ) → w ≤ r → r - w ≡ row_qubit w r
-unfolding row_qubit
-qubit-z w r h = sym (ap (λ b. cond b r (r - w)) (le-ltb r w h))
-
-pub letter-x : (w r : ℕ) → r < w → 1 ≡ letter_byte (row_letter w r)
-unfolding row_letter letter_byte
-letter-x w r h = sym (ap (λ b. letter_byte (cond b X Z)) (lt-ltb r w h))
-
-pub letter-z : (w r : ℕ) → w ≤ r → 2 ≡ letter_byte (row_letter w r)
-unfolding row_letter letter_byte
-letter-z w r h = sym (ap (λ b. letter_byte (cond b X Z)) (le-ltb r w h))
-
-pub ruleset row_access = (own-some, own-more, finished_next, finished_room, record_sized, offset_sized, part_end, part_is, qubit-x, qubit-z, letter-x, letter-z, work-on, times-row, finished_letters, row_written_lem, rules)
+pub ruleset row_access = (own-some, own-more, finished_next, finished_room, record_sized, offset_sized, part_end, part_is, work-on, times-row, finished_letters, row_written_lem, rules)
 
 -- ---- a row changed by a gate's table
 -- a letter as it is read

@@ -24,17 +24,6 @@ use Rattle.clifford.proofs.Ranges.{range-more, all-range, any-range}
 use Rattle.pauli.proofs.Places.{length-listed, get_d_listed}
 use lib.ListN.{get_or-eq_default}
 
--- ---- one letter
-pub byte_here : (l : Letter) (q c : ℕ) {b : ℕ} → b ≡ letter_byte l → c ≡ q → b ≡ letter_byte ((single l q).letters c)
-unfolding single
-byte_here l q c e h = e ∙ ap (λ b. letter_byte (cond b l I)) (sym (eq-eqb c q h))
-
-pub byte_other : (l : Letter) (q c : ℕ) → (c ≡ q → ⊥) → 0 ≡ letter_byte ((single l q).letters c)
-unfolding single letter_byte
-byte_other l q c e = ap (λ b. letter_byte (cond b l I)) (sym (ne_eqb c q e))
-
-pub ruleset single_bytes = (byte_here, byte_other, rules)
-
 -- ---- a letter by its byte
 byte-not_i : (s : PauliString) (k x : ℕ) → x ≡ letter_byte (s.letters k) → has_letter s k ≡ not (eqb x 0)
 unfolding has_letter

@@ -7,7 +7,7 @@ ghost use Rattle.pauli.specs.Inside.TextWriting.{TextWritten};
 ghost use Rattle.clifford.specs.Display.{header_text, label_text, line_text, text_of_tableau};
 ghost use Rattle.clifford.specs.Layout.{tableau_of, row_letter, row_qubit};
 
-use crate::layout::{row_qubit, width};
+use crate::layout::{RowPlace, width};
 use crate::tableau::{Row, TableauRecord};
 use pauli::sparse_text::put_sparse;
 use pauli::text_writer::{put_decimal, put_text};
@@ -21,34 +21,39 @@ fn write_header(dst: &mut [u8], width: usize) -> usize
     put_text(dst, rest, b" qubits):")
 }
 
-// The letter of the generator whose image is row r.
+// The letter of the generator whose image the row is.
 #[tactic(auto, using(pauli::proofs::Asking::by_tests, pauli::proofs::Asking::by_questions), unfolding(crate::specs::Layout::row_letter, pauli::specs::SparseText::letter_text))]
-fn write_letter(dst: &mut [u8], at: usize, width: usize, r: usize) -> usize
-    ensures { Stored at (letter_text (row_letter width r) ∷ 95 ∷ []) dst.old dst.new result }
+fn write_letter(dst: &mut [u8], at: usize, row: RowPlace) -> usize
+    ensures { Stored at (letter_text (row_letter row.width row.r) ∷ 95 ∷ []) dst.old dst.new result }
 {
-    if r < width {
+    if row.r < row.width {
         put_text(dst, at, b"X_")
     } else {
         put_text(dst, at, b"Z_")
     }
 }
 
-// The label of row r.
-fn write_label(dst: &mut [u8], at: usize, width: usize, r: usize) -> usize
-    ensures { Stored at (label_text (row_letter width r) (row_qubit width r)) dst.old dst.new result }
+// The label of the row.
+fn write_label(dst: &mut [u8], at: usize, row: RowPlace) -> usize
+    ensures { Stored at (label_text (row_letter row.width row.r) (row_qubit row.width row.r)) dst.old dst.new result }
 {
     let name = put_text(dst, at, b"  ");
-    let number = write_letter(dst, name, width, r);
-    let arrow = put_decimal(dst, number, row_qubit(width, r) as u64);
+    let number = write_letter(dst, name, row);
+    let arrow = put_decimal(dst, number, row.qubit() as u64);
     put_text(dst, arrow, b" -> ")
 }
 
 impl Row<'_> {
     // Its line.
+    #[tactic(auto, using(crate::proofs::Display::line_places))]
     fn write_line(&self, dst: &mut [u8], at: usize) -> usize
         ensures { Stored at (line_text (tableau_of self.now.bytes.now) self.now.r) dst.old dst.new result }
     {
-        let image = write_label(dst, at, width(self.bytes), self.r);
+        let row = RowPlace {
+            width: width(self.bytes),
+            r: self.r,
+        };
+        let image = write_label(dst, at, row);
         let end = put_sparse(dst, image, self.phase(), self.letters());
         put_text(dst, end, b"\n")
     }

@@ -7,27 +7,26 @@ ghost use Rattle.clifford.specs.Layout.{row_of, tableau_of};
 ghost use Rattle.clifford.specs.Inside.InverseRows.{bit_read, bit_byte, body_of, RowBack};
 
 use crate::applying::apply_string;
-use crate::layout::{letter_in_row, row_qubit};
+use crate::layout::{RowPlace, letter_in_row};
 use pauli::quarter_phase::phase_conjugate;
 
-// Row r of the inverse of t, which has this width.
+// A row of the inverse of t.
 #[derive(Drop)]
 pub(crate) struct InverseRow<'a> {
     pub(crate) t: &'a [u8],
-    pub(crate) width: usize,
-    pub(crate) r: usize,
-    ghost back: { RowBack t.now width r },
+    pub(crate) row: RowPlace,
+    ghost back: { RowBack t.now row.width row.r },
 }
 
 impl InverseRow<'_> {
     // The bit that it reads in row s of t, in the column of its qubit: the z bit for an X row, the x bit for a Z row.
     #[tactic(auto, using(crate::proofs::Inverse::bit_reads))]
     fn bit(&self, s: usize) -> u8
-        requires { s < 2 * self.now.width }
-        ensures { result ≡ bit_byte (bit_read (tableau_of self.now.t.now) self.now.r s) }
+        requires { s < 2 * self.now.row.width }
+        ensures { result ≡ bit_byte (bit_read (tableau_of self.now.t.now) self.now.row.r s) }
     {
-        let letter = letter_in_row(self.t, s, row_qubit(self.width, self.r));
-        if self.r < self.width {
+        let letter = letter_in_row(self.t, s, self.row.qubit());
+        if self.row.r < self.row.width {
             letter / 2
         } else {
             letter % 2
@@ -36,10 +35,10 @@ impl InverseRow<'_> {
 
     // The letter at qubit c of its body: its x bit is read in Z row c, its z bit in X row c.
     fn body_letter(&self, c: usize) -> u8
-        requires { c < self.now.width }
-        ensures { result ≡ letter_byte ((body_of (tableau_of self.now.t.now) self.now.r).letters c) }
+        requires { c < self.now.row.width }
+        ensures { result ≡ letter_byte ((body_of (tableau_of self.now.t.now) self.now.row.r).letters c) }
     {
-        let x = self.bit(self.width + c);
+        let x = self.bit(self.row.width + c);
         let z = self.bit(c);
         x + 2 * z
     }
@@ -47,11 +46,11 @@ impl InverseRow<'_> {
     // Its body, as a work row.
     #[tactic(auto, using(crate::proofs::Inverse::bodies))]
     fn write_body(&self, body: &mut [u8])
-        requires { length body.old ≡ self.now.width + 1 }
-        ensures { body.new ≡ encode_string self.now.width (body_of (tableau_of self.now.t.now) self.now.r) }
+        requires { length body.old ≡ self.now.row.width + 1 }
+        ensures { body.new ≡ encode_string self.now.row.width (body_of (tableau_of self.now.t.now) self.now.row.r) }
     {
         body[0] = 0;
-        for c in 0..self.width {
+        for c in 0..self.row.width {
             body[c + 1] = self.body_letter(c);
         }
     }
@@ -59,9 +58,9 @@ impl InverseRow<'_> {
     // The row, as a work row: its body, with the conjugate of the phase met when the body is sent forward.
     #[tactic(auto, using(crate::proofs::Inverse::inverting))]
     pub(crate) fn write(&self, source: &mut [u8], work: &mut [u8])
-        requires source { length source.old ≡ self.now.width + 1 }
-        requires work { length work.old ≡ self.now.width + 1 }
-        ensures { work.new ≡ encode_string self.now.width (row_of (inverse (tableau_of self.now.t.now)) self.now.r) }
+        requires source { length source.old ≡ self.now.row.width + 1 }
+        requires work { length work.old ≡ self.now.row.width + 1 }
+        ensures { work.new ≡ encode_string self.now.row.width (row_of (inverse (tableau_of self.now.t.now)) self.now.row.r) }
     {
         self.write_body(work);
         apply_string(self.t, work, source);

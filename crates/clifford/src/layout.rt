@@ -130,19 +130,33 @@ pub(crate) fn write_row(work: &[u8], dst: &mut [u8])
     dst[2..work.len() + 1].copy_from_slice(&work[1..]);
 }
 
-// The qubit of row r, and its letter: X rows come first.
-#[tactic(auto, using(pauli::proofs::Asking::by_tests, pauli::proofs::Asking::by_questions), unfolding(crate::specs::Layout::row_qubit))]
-pub(crate) fn row_qubit(width: usize, r: usize) -> usize
-    ensures { result ≡ row_qubit width r }
-{
-    if r < width { r } else { r - width }
+// The place of row r in a record of this width: X rows come first.
+#[derive(Clone, Copy)]
+pub(crate) struct RowPlace {
+    pub(crate) width: usize,
+    pub(crate) r: usize,
+    ghost own: { RowIndex width r },
 }
 
-#[tactic(auto, using(pauli::proofs::Asking::by_tests, pauli::proofs::Asking::by_questions), unfolding(crate::specs::Layout::row_letter, pauli::specs::Layout::letter_byte))]
-pub(crate) fn row_letter(width: usize, r: usize) -> u8
-    ensures { result ≡ letter_byte (row_letter width r) }
-{
-    if r < width { 1 } else { 2 }
+// The qubit and the letter that it has the image of.
+impl RowPlace {
+    #[tactic(auto, using(pauli::proofs::Asking::by_tests, pauli::proofs::Asking::by_questions), unfolding(crate::specs::Layout::row_qubit))]
+    pub(crate) fn qubit(self) -> usize
+        ensures { result ≡ row_qubit self.width self.r }
+    {
+        if self.r < self.width {
+            self.r
+        } else {
+            self.r - self.width
+        }
+    }
+
+    #[tactic(auto, using(pauli::proofs::Asking::by_tests, pauli::proofs::Asking::by_questions), unfolding(crate::specs::Layout::row_letter, pauli::specs::Layout::letter_byte))]
+    pub(crate) fn letter(self) -> u8
+        ensures { result ≡ letter_byte (row_letter self.width self.r) }
+    {
+        if self.r < self.width { 1 } else { 2 }
+    }
 }
 
 // The letter of row r at qubit q.
