@@ -11,7 +11,7 @@ use Rattle.pauli.proofs.Places.{length-listed, get_d_listed, from, from_is, none
 use Rattle.pauli.proofs.StringProducts.{row-product, row_product-is}
 use Rattle.clifford.specs.Layout.{letter_place, row_length, letters_of, decode_row, row_offset, record_length, longest_record, row_of, width_of, row_part, tableau_of, read_row, letter_in, row_with, row_with_pair, FormedTableau}
 use Rattle.pauli.specs.Places.{listed}
-use Rattle.clifford.specs.Inside.Rows.{letter_bytes, Sized, RowIndex, RowInside, RowAt, OwnQubit, row_answer, OwnRow, WorkOnRow, Finished, row_times, row_written, letters_in, string_in, row_letters, OwnLetter}
+use Rattle.clifford.specs.Inside.Rows.{letter_bytes, Sized, RowIndex, RowInside, RowAt, OwnQubit, row_answer, OwnRow, WorkRow, Finished, row_times, row_written, letters_in, string_in, row_letters, OwnLetter}
 use Rattle.clifford.proofs.Records.{record-small}
 use Rattle.pauli.specs.declared.refusal.Refusal.TheVariants.{BadByte}
 use Rattle.pauli.specs.declared.rows.LetterScan.{LetterScan}
@@ -241,19 +241,16 @@ read_none b k h = omega (arith, get_or-eq_default b 0 {n = k} h)
 pub ruleset row_reading = (read_none, phase-wide, phase_over, phase-own, letter-wide, letter_over, letter_beyond, letter-own, rules)
 
 -- ---- a work row multiplied by a row of a record
-pub work-on : {b d : List ℕ} {r : ℕ} → WorkOnRow b d r → OwnRow b r
-work-on o = record { tableau = o.work.tableau; own = o.own }
-
-pub times-row : {b d f ys : List ℕ} {r p x : ℕ} → WorkOnRow b d r → f ≡ row_part b r → p ≡ phase_bytes_product (get_or d 0 0) (get_or f 0 0)
+pub times-row : {b d f ys : List ℕ} {r p x : ℕ} → WorkRow b d → OwnRow b r → f ≡ row_part b r → p ≡ phase_bytes_product (get_or d 0 0) (get_or f 0 0)
     → RowTimes (from 1 d) (from 2 f) p ys x → set (put_mid 1 (length d - 1) d ys) 0 x ≡ row_times d (row_of (tableau_of b) r)
 unfolding row_times qubits
-times-row {b} {d} {f} {ys} {r} {p} {x} o ef ep m =
+times-row {b} {d} {f} {ys} {r} {p} {x} o h ef ep m =
     let t : List ℕ = get_or (row_part b r) 0 0 ∷ letters_of (row_part b r) in
     let lettered : from 2 f ≡ from 1 t = letters-from f ∙ ap letters_of ef ∙ sym (from_is 1 t) in
-    row-product d t (some o.work.wide) (λ e. absurd (some_more e)) (ep ∙ ap (λ (l : List ℕ). phase_bytes_product (get_or d 0 0) (get_or l 0 0)) ef)
+    row-product d t (some o.wide) (λ e. absurd (some_more e)) (ep ∙ ap (λ (l : List ℕ). phase_bytes_product (get_or d 0 0) (get_or l 0 0)) ef)
     (subst (λ (z : List ℕ). RowTimes (from 1 d) z p ys x) lettered m)
-    ∙ row_product-is (omega (arith, o.work.wide, o.work.row.long)) (omega (arith, o.work.narrow)) o.work.row (row-string (o.work.tableau.rows r o.own))
-    ∙ ap (λ s. encode_string (letters_in d) (mul (string_in d) s)) (sym (row_part_lem b r o.own ∙ row_as_string_lem (width_of b) (row_part b r)))
+    ∙ row_product-is (omega (arith, o.wide, o.row.long)) (omega (arith, o.narrow)) o.row (row-string (h.tableau.rows r h.own))
+    ∙ ap (λ s. encode_string (letters_in d) (mul (string_in d) s)) (sym (row_part_lem b r h.own ∙ row_as_string_lem (width_of b) (row_part b r)))
   where
     some : {n : ℕ} → n < length d → length d ≡ 0 → ⊥
     some h e = omega arith
@@ -284,7 +281,7 @@ row_written_lem d (y ∷ z ∷ out) {n} {ys} f c h =
     ap₂ (λ (l : List ℕ) (j : ℕ). x ∷ n ∷ (l ++ drop j out)) (h ∙ from_is 1 d) size
     ∙ ap (λ (l : List ℕ). l ++ drop (letters_in d) out) (sym (row_of-work f.row (omega (arith, f.narrow)) (c ∙ ap (λ (l : List ℕ). letter_count l % 256) (from_is 1 d))))
 
-pub ruleset row_access = (own-some, own-more, finished_next, finished_room, record_sized, offset_sized, part_end, part_is, work-on, times-row, finished_letters, row_written_lem, rules)
+pub ruleset row_access = (own-some, own-more, finished_next, finished_room, record_sized, offset_sized, part_end, part_is, times-row, finished_letters, row_written_lem, rules)
 
 -- ---- a row changed by a gate's table
 -- a letter as it is read

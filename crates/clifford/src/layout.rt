@@ -4,8 +4,9 @@ ghost use Rattle.pauli.specs.Layout.{phase_byte, letter_byte};
 ghost use Rattle.clifford.specs.Playing.{letter_table_on_row, pair_table_on_row};
 ghost use Rattle.clifford.specs.Layout.{width_of, record_length, row_offset, row_of, row_part, read_row, tableau_of, row_qubit, row_letter};
 ghost use Rattle.clifford.specs.Questions.{row_question, weights_question};
-ghost use Rattle.clifford.specs.Inside.Rows.{Sized, RowIndex, RowInside, RowAt, row_answer, FirstFalse, OwnRow, OwnLetter, WorkOnRow, Finished, row_times, row_written, row_letters, letters_in, string_in};
+ghost use Rattle.clifford.specs.Inside.Rows.{Sized, RowIndex, RowInside, RowAt, row_answer, FirstFalse, OwnRow, OwnLetter, WorkRow, Finished, row_times, row_written, row_letters, letters_in, string_in};
 
+use crate::tableau::Row;
 use pauli::QUBITS;
 use pauli::refusal::Refusal;
 use pauli::rows::{count_letters, first_bad, multiply_letters, phase_times, scan_letters};
@@ -107,13 +108,13 @@ pub(crate) fn row_letters(t: &[u8], r: usize) -> &[u8]
     &whole[2..]
 }
 
-// A work row, multiplied by row r of the record.
+// A work row, multiplied by a row of a record.
 #[tactic(auto, using(crate::proofs::RowAccess::row_access))]
-pub(crate) fn multiply_by(work: &mut [u8], t: &[u8], r: usize)
-    requires { WorkOnRow t.now work.old r }
-    ensures { work.new ≡ row_times work.old (row_of (tableau_of t.now) r) }
+pub(crate) fn multiply_by(work: &mut [u8], by: &Row)
+    requires { WorkRow by.now.bytes.now work.old }
+    ensures { work.new ≡ row_times work.old (row_of (tableau_of by.now.bytes.now) by.now.r) }
 {
-    let factor = row(t, r);
+    let factor = row(by.bytes, by.r);
     let p = phase_times(work[0], factor[0]);
     let phase = multiply_letters(&mut work[1..], &factor[2..], p);
     work[0] = phase;

@@ -110,23 +110,10 @@ pub record WorkRow (b d : List ℕ) : Type 0 where
   pub wide : width_of b < length d
   pub narrow : length d ≤ 129
 
--- the same, with a row of b; and with a qubit of the work row
-pub record WorkOnRow (b d : List ℕ) (r : ℕ) : Type 0 where
-  pub work : WorkRow b d
-  pub own : r < 2 * width_of b
-
+-- the same, with a qubit of the work row
 pub record WorkOnQubit (b d : List ℕ) (q : ℕ) : Type 0 where
   pub work : WorkRow b d
   pub place : q + 1 < length d
-
--- the same, with a qubit of b; and with a letter other than I
-pub record WorkOnOwn (b d : List ℕ) (q : ℕ) : Type 0 where
-  pub work : WorkRow b d
-  pub own : q < width_of b
-
-pub record WorkOnLetter (b d : List ℕ) (q l : ℕ) : Type 0 where
-  pub work : WorkOnOwn b d q
-  pub letter : l ≡ 0 → ⊥
 
 -- a work row and a qubit of it
 pub record WorkPlace (d : List ℕ) (q : ℕ) : Type 0 where
