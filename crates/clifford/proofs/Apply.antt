@@ -134,7 +134,7 @@ applied_all {b} {s} {d} {d₀} o k m h =
     applied_end m (omega (arith, length_from 1 s))
     ∙ ap (λ (j : ℕ). encode_string (j - 1) (apply (tableau_of b) (string_in s))) (length_cleared (get_or s 0 0) (omega (arith, o.wide)) k)
 
-pub ruleset applied-strings = (string-clear, applied-none, applied-work, applied-step, applied_all, rules)
+pub ruleset applied_strings = (string-clear, applied-none, applied-work, applied-step, applied_all, rules)
 
 -- ---- one letter
 pub letter-clear : (b : List ℕ) {d : List ℕ} {q : ℕ} → AppliesLetter b d q → ClearRow d 0
@@ -160,4 +160,4 @@ letter-applied b d {e} {f} q l o k m =
     ∙ ap (λ s. encode_string (letters_in d) (mul s image)) (decoded_clear e (length d) 0 k ∙ scale_one identity_string)
     ∙ ap (encode_string (letters_in d)) (identity-mul image)
 
-pub ruleset applied-letters = (letter-clear, letter-work, letter-applied, rules)
+pub ruleset applied_letters = (letter-clear, letter-work, letter-applied, rules)

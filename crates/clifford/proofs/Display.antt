@@ -29,7 +29,7 @@ use Rattle.clifford.specs.Layout.{letter_place, letter_in, row_length, row_offse
 use Rattle.clifford.specs.Questions.{tableau_questions}
 use Rattle.clifford.specs.Tableaux.{identity_record, compose_record}
 use Rattle.clifford.specs.GateAnswers.{gate_record}
-use Rattle.clifford.specs.Inside.Rows.{letter_bytes}
+use Rattle.clifford.specs.Inside.Rows.{OwnRow, RowIndex, letter_bytes}
 use Rattle.clifford.proofs.Joining.{joined-more}
 use Rattle.clifford.proofs.RowWriting.{qubit-below}
 use Rattle.clifford.proofs.Rows.{row-x, row-z, row_inside, width_of_lem}
@@ -67,16 +67,6 @@ header_made n x y z = stored_join x (stored_join y z)
 pub ruleset headers = (header_made, stored_same, rules)
 
 -- ---- a label
-pub letter-x : {d e : List ℕ} {w k r s : ℕ} → r < w → Stored k (88 ∷ 95 ∷ []) d e s → Stored k (letter_text (row_letter w r) ∷ 95 ∷ []) d e s
-unfolding letter_text row_letter
-letter-x {w = w} {r = r} h a = stored_as (sym (ap (λ b. letter_text (cond b X Z) ∷ 95 ∷ []) (lt-ltb r w h))) a
-
-pub letter-z : {d e : List ℕ} {w k r s : ℕ} → w ≤ r → Stored k (90 ∷ 95 ∷ []) d e s → Stored k (letter_text (row_letter w r) ∷ 95 ∷ []) d e s
-unfolding letter_text row_letter
-letter-z {w = w} {r = r} h a = stored_as (sym (ap (λ b. letter_text (cond b X Z) ∷ 95 ∷ []) (le-ltb r w h))) a
-
-pub ruleset generator-letters = (letter-x, letter-z, stored_same, rules)
-
 pub label_made : (w r : ℕ) {k q a b c s : ℕ} {d e f g h : List ℕ} → q ≡ row_qubit w r → Stored k (32 ∷ 32 ∷ []) d e a
     → Stored a (letter_text (row_letter w r) ∷ 95 ∷ []) e f b → Stored b (decimal q) f g c → Stored c arrow_text g h s → Stored k (label_text (row_letter w r) (row_qubit w r)) d h s
 unfolding label_text generator_text
@@ -86,16 +76,19 @@ label_made w r eq x y z u =
 pub ruleset labels = (label_made, stored_same, rules)
 
 -- ---- a line
-pub line_made : (t : List ℕ) (r : ℕ) {d e f g l : List ℕ} {k n a b s : ℕ} (p : ℕ) → n ≡ width_of t → n ≤ 128 → p ≡ phase_byte (row_of (tableau_of t) r).phase
+pub line_place : {b : List ℕ} {r n : ℕ} → OwnRow b r → n ≡ width_of b → RowIndex n r
+line_place o e = record { narrow = omega (arith, o.tableau.narrow); own = omega (arith, o.own) }
+
+pub ruleset line_places = (line_place, rules)
+
+pub line_made : (t : List ℕ) (r : ℕ) {d e f g l : List ℕ} {k n a b s : ℕ} (p : ℕ) → OwnRow t r → n ≡ width_of t → p ≡ phase_byte (row_of (tableau_of t) r).phase
     → l ≡ letter_bytes (tableau_of t) r → Stored k (label_text (row_letter n r) (row_qubit n r)) d e a → Stored a (row_text p l) e f b → Stored b (10 ∷ []) f g s
     → Stored k (line_text (tableau_of t) r) d g s
 unfolding line_text
-line_made t r p en small ep el x y z =
+line_made t r p o en ep el x y z =
     stored_as
     (ap (λ (j : ℕ). label_text (row_letter j r) (row_qubit j r) ++ (sparse_text (row_of (tableau_of t) r) ++ (10 ∷ []))) (en ∙ sym (width_of_lem t)))
-    (stored_join x (stored_join (stored_as (row_is t r (omega arith) p ep el) y) z))
-
-pub ruleset text_lines = (line_made, stored_same, rules)
+    (stored_join x (stored_join (stored_as (row_is t r o.tableau.narrow p ep el) y) z))
 
 -- ---- the order of the lines
 pub order_even : (w i : ℕ) → i % 2 ≡ 0 → i / 2 ≡ display_row w i
@@ -193,10 +186,11 @@ pub lines_none : (t : List ℕ) {e f : List ℕ} {w : List ℕ} {h a : ℕ} → 
 unfolding lines_text joined
 lines_none t y = record { text = stored-none (record { fits = omega (arith, y.place) }) }
 
-module _ {t d e : List ℕ} {n a q k : ℕ} (en : n ≡ width_of t) (m : Lines t d a q k e) (h : q < n) where
-  pub lines_more : {f g : List ℕ} {s u : ℕ} → Stored k (line_text (tableau_of t) q) e f s → Stored s (line_text (tableau_of t) (n + q)) f g u → Lines t d a (q + 1) u g
+module _ {t d e : List ℕ} {a q k : ℕ} (m : Lines t d a q k e) where
+  two_more : {f g : List ℕ} {s u : ℕ} → Stored k (line_text (tableau_of t) q) e f s → Stored s (line_text (tableau_of t) (width_of t + q)) f g u
+      → Lines t d a (q + 1) u g
   unfolding lines_text
-  lines_more x y = record { text = stored_as more (stored_join (stored_join m.text x) y) }
+  two_more x y = record { text = stored_as more (stored_join (stored_join m.text x) y) }
     where
       T : Tableau
       T = tableau_of t
@@ -204,13 +198,20 @@ module _ {t d e : List ℕ} {n a q k : ℕ} (en : n ≡ width_of t) (m : Lines t
       line : ℕ → List ℕ
       line i = line_text T (display_row T.width i)
 
-      more : (joined (2 * q) line ++ line_text T q) ++ line_text T (n + q) ≡ joined (2 * (q + 1)) line
+      more : (joined (2 * q) line ++ line_text T q) ++ line_text T (width_of t + q) ≡ joined (2 * (q + 1)) line
       more =
           ap₂ (λ (i j : ℕ). (joined (2 * q) line ++ line_text T i) ++ line_text T j) (sym (order_x T.width q))
-          (ap (λ (j : ℕ). j + q) (en ∙ sym (width_of_lem t)) ∙ sym (order_z T.width q))
+          (ap (λ (j : ℕ). j + q) (sym (width_of_lem t)) ∙ sym (order_z T.width q))
           ∙ ap (λ (l : List ℕ). l ++ line (2 * q + 1)) (sym (joined-more (2 * q) line))
           ∙ ap₂ (λ (i : ℕ) (j : ℕ). joined i line ++ line j) (sym (add-one (2 * q))) refl
           ∙ sym (joined-more (2 * q + 1) line) ∙ ap (λ (j : ℕ). joined j line) (omega arith)
+
+  -- of the rows of a qubit p of b
+  module _ {b x z : List ℕ} {p i j : ℕ} (eb : b ≡ t) (ep : p ≡ q) (ex : x ≡ b) (ei : i ≡ p) (ez : z ≡ b) (ej : j ≡ width_of b + p) where
+    pub lines_more : {f g : List ℕ} {s u : ℕ} → Stored k (line_text (tableau_of x) i) e f s → Stored s (line_text (tableau_of z) j) f g u → Lines t d a (q + 1) u g
+    lines_more v w =
+        two_more (stored_as (ap₂ (λ (l : List ℕ) (r : ℕ). line_text (tableau_of l) r) (ex ∙ eb) (ei ∙ ep)) v)
+        (stored_as (ap₂ (λ (l : List ℕ) (r : ℕ). line_text (tableau_of l) r) (ez ∙ eb) (ej ∙ ap₂ (λ (l : List ℕ) (r : ℕ). width_of l + r) eb ep)) w)
 
 pub lines_all : {t d e f g : List ℕ} {n h a q k : ℕ} → n ≡ width_of t → n ≤ 128 → q ≤ n → n ≤ q → Stored 0 (header_text n) d e h → Stored h (10 ∷ []) e f a
     → Lines t f a q k g → TextWritten (text_of_tableau t) d g k

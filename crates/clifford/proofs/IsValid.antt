@@ -1,7 +1,10 @@
 -- Validity, read off the rows of a record.
 use Rattle.std.proofs.Common.{◌≡◌, ℕ, zero, suc, ◌+◌, ◌*◌, ◌%◌, ◌<◌, ◌≤◌, Bool, true, false, not, ◌&&◌, eqb, ltb, List, length, sym, refl, ap, ◌∙◌, ap₂, not-suc-le-zero, add-one, arith, rules, le-ltb, lt-ltb, Ok}
+use native.Mathlib.Decide.{dec_lt}
 use Rattle.pauli_group.specs.Phase.{is_real}
 use Rattle.pauli_group.specs.PauliString.{PauliString, qubits, anticommuting_places, commute}
+use Rattle.pauli_group.proofs.Laws.{anticommute_sym}
+use Rattle.pauli_group.proofs.Products.{count_to_ext}
 use Rattle.clifford_group.specs.Tableau.{Tableau, all_to, valid_qubit, valid_pair, is_valid}
 use Rattle.pauli.specs.Layout.{phase_byte, phase_of}
 use Rattle.pauli.specs.Rows.{letter_at, places_of, shorter}
@@ -9,12 +12,13 @@ use Rattle.pauli.proofs.Answers.{answers}
 use Rattle.pauli.proofs.Asking.{in_order}
 use Rattle.pauli.proofs.Records.{phase-back}
 use Rattle.pauli.proofs.RowProducts.{places_of-rows}
-use Rattle.clifford.specs.Layout.{row_of, width_of, tableau_of, FormedTableau}
+use Rattle.clifford.specs.Layout.{row_of, width_of, tableau_of}
 use Rattle.clifford.specs.Inside.Rows.{OwnRow, row_letters}
 use Rattle.clifford.specs.Tableaux.{record_valid}
 use Rattle.std.specs.List.{range_with_len, list_all}
 use Rattle.clifford.proofs.Ranges.{all-range}
-use Rattle.clifford.proofs.Rows.{row-x, row-z, row_letters-at, row_inside, own_letters_long, width_of_lem}
+use Rattle.clifford.proofs.Rows.{row_letters-at, row_inside, own_letters_long, width_of_lem}
+use Rattle.clifford.proofs.RowAccess.{own-inside}
 use Rattle.clifford.proofs.Asking.{checked}
 
 -- ---- the phase of a row
@@ -28,64 +32,66 @@ real-is s p e = by p ∙ ap is_real (ap phase_of e ∙ phase-back s.phase)
     by (suc (suc (suc p))) = unfold phase_of is_real in le-ltb (suc (suc (suc p))) 2 (omega arith)
 
 -- ---- commutation of two rows
-module _ {b : List ℕ} {r p : ℕ} (f : FormedTableau b) (hr : r < 2 * width_of b) (hp : p < 2 * width_of b) where
-  abbrev T : Tableau
-  T = tableau_of b
+places_sym : (n : ℕ) (x y : List ℕ) → places_of n x y ≡ places_of n y x
+unfolding places_of
+places_sym n x y = count_to_ext n _ _ (λ q l. anticommute_sym (letter_at x q) (letter_at y q))
 
-  abbrev w : ℕ
-  w = width_of b
+anticommuting_sym : (s u : PauliString) → anticommuting_places s u ≡ anticommuting_places u s
+unfolding anticommuting_places
+anticommuting_sym s u = count_to_ext qubits _ _ (λ q l. anticommute_sym (s.letters q) (u.letters q))
 
-  first-row : OwnRow b r
-  first-row = record { tableau = f; own = hr }
+module _ {a b : List ℕ} {r p : ℕ} (o : OwnRow a r) (m : OwnRow b p) {x y : List ℕ} (ex : x ≡ row_letters a r) (ey : y ≡ row_letters b p) where
+  abbrev S : PauliString
+  S = row_of (tableau_of a) r
 
-  second-row : OwnRow b p
-  second-row = record { tableau = f; own = hp }
+  abbrev U : PauliString
+  U = row_of (tableau_of b) p
 
-  places_are : {a c : List ℕ} {n : ℕ} → a ≡ row_letters b r → c ≡ row_letters b p → n ≡ places_of (shorter a c) a c % 256
-      → n ≡ anticommuting_places (row_of T r) (row_of T p)
+  long_x : length x ≡ width_of a
+  long_x = ap length ex ∙ own_letters_long o
+
+  long_y : length y ≡ width_of b
+  long_y = ap length ey ∙ own_letters_long m
+
+  letters_x : (q : ℕ) → q < width_of a → letter_at x q ≡ S.letters q
+  letters_x q l = ap (λ (d : List ℕ). letter_at d q) ex ∙ row_letters-at a r q l
+
+  letters_y : (q : ℕ) → q < width_of b → letter_at y q ≡ U.letters q
+  letters_y q l = ap (λ (d : List ℕ). letter_at d q) ey ∙ row_letters-at b p q l
+
+  -- the letters of the shorter row end at its width
+  places_are : places_of (shorter x y) x y % 256 ≡ anticommuting_places S U
   unfolding qubits
-  places_are {a} {c} {n} ea ec e =
-      let la : length a ≡ w = ap length ea ∙ own_letters_long first-row in
-      let lc : length c ≡ w = ap length ec ∙ own_letters_long second-row in
-      let short : shorter a c ≡ w = omega arith in
-      e ∙ ap (λ (j : ℕ). places_of j a c % 256) short
-      ∙ places_of-rows (row_of T r) (row_of T p) w a c f.narrow (λ q l. ap (λ (x : List ℕ). letter_at x q) ea ∙ row_letters-at b r q l)
-      (λ q l. ap (λ (x : List ℕ). letter_at x q) ec ∙ row_letters-at b p q l) (row_inside b p)
+  places_are = elim (dec_lt (width_of a) (width_of b)) [
+    | yes h ↦
+        (let short : shorter x y ≡ width_of a = omega (arith, long_x, long_y) in ap (λ (j : ℕ). places_of j x y % 256) short)
+        ∙ ap (λ (j : ℕ). j % 256) (places_sym (width_of a) x y)
+        ∙ places_of-rows U S (width_of a) y x o.tableau.narrow (λ q l. letters_y q (omega arith)) letters_x (row_inside a r) ∙ anticommuting_sym U S
+    | no h ↦
+        (let short : shorter x y ≡ width_of b = omega (arith, long_x, long_y) in ap (λ (j : ℕ). places_of j x y % 256) short)
+        ∙ places_of-rows S U (width_of b) x y m.tableau.narrow (λ q l. letters_x q (omega arith)) letters_y (row_inside b p)
+  ]
 
-  pub commute-is : {a c : List ℕ} {n : ℕ} → a ≡ row_letters b r → c ≡ row_letters b p → n ≡ places_of (shorter a c) a c % 256
-      → eqb (n % 2) 0 ≡ commute (row_of T r) (row_of T p)
+  pub commute-is : {n : ℕ} → n ≡ places_of (shorter x y) x y % 256 → eqb (n % 2) 0 ≡ commute S U
   unfolding commute
-  commute-is ea ec e = ap (λ (n : ℕ). eqb (n % 2) 0) (places_are ea ec e)
+  commute-is e = ap (λ (n : ℕ). eqb (n % 2) 0) (e ∙ places_are)
 
-pub ruleset row_commutation = (commute-is, rules)
+pub ruleset row_commutation = (commute-is, own-inside, rules)
 
 -- ---- the rows of one qubit, and of two
-module _ (t : List ℕ) {n : ℕ} (en : n ≡ width_of t) where
-  abbrev Q : Tableau
-  Q = tableau_of t
-
-  row-of_x : (q : ℕ) → q < width_of t → row_of Q q ≡ Q.x_image q
-  row-of_x q h = row-x Q q (omega (arith, width_of_lem t))
-
-  row-of_z : (q : ℕ) → row_of Q (n + q) ≡ Q.z_image q
-  row-of_z q = ap (λ (j : ℕ). row_of Q (j + q)) (en ∙ sym (width_of_lem t)) ∙ row-z Q q
-
-  pub qubit-is : {q x z : ℕ} {c : Bool} → q < width_of t → x ≡ phase_byte (row_of Q q).phase → z ≡ phase_byte (row_of Q (n + q)).phase
-      → c ≡ commute (row_of Q q) (row_of Q (n + q)) → (ltb x 2 && ltb z 2) && not c ≡ valid_qubit Q q
+module _ (t : Tableau) (q : ℕ) {x z : PauliString} (ex : x ≡ t.x_image q) (ez : z ≡ t.z_image q) where
+  pub qubit-is : {p r : ℕ} {c : Bool} → p ≡ phase_byte x.phase → r ≡ phase_byte z.phase → c ≡ commute x z
+      → (ltb p 2 && ltb r 2) && not c ≡ valid_qubit t q
   unfolding valid_qubit
-  qubit-is {q} {x} {z} h ex ez ec =
-      ap₂ (λ x y. x && y)
-      (ap₂ (λ x y. x && y) (real-is (row_of Q q) x ex ∙ ap (λ s. is_real s.phase) (row-of_x q h)) (real-is (row_of Q (n + q)) z ez ∙ ap (λ s. is_real s.phase) (row-of_z q)))
-      (ap not (ec ∙ ap₂ commute (row-of_x q h) (row-of_z q)))
+  qubit-is {p} {r} ep er ec =
+      ap₂ (λ i j. i && j)
+      (ap₂ (λ i j. i && j) (real-is x p ep ∙ ap (λ s. is_real s.phase) ex) (real-is z r er ∙ ap (λ s. is_real s.phase) ez))
+      (ap not (ec ∙ ap₂ commute ex ez))
 
-  pub pair_is : {q r : ℕ} {a b c d : Bool} → q < width_of t → r < width_of t → a ≡ commute (row_of Q q) (row_of Q r) → b ≡ commute (row_of Q q) (row_of Q (n + r))
-      → c ≡ commute (row_of Q (n + q)) (row_of Q r) → d ≡ commute (row_of Q (n + q)) (row_of Q (n + r)) → (a && b) && (c && d) ≡ valid_pair Q q r
+  pub pair_is : (p : ℕ) {u v : PauliString} → u ≡ t.x_image p → v ≡ t.z_image p → (commute x u && commute x v) && (commute z u && commute z v) ≡ valid_pair t q p
   unfolding valid_pair
-  pair_is {q} {r} hq hr ea eb ec ed =
-      let x = row-of_x q hq in
-      let y = row-of_x r hr in
-      ap₂ (λ x y. x && y) (ap₂ (λ x y. x && y) (ea ∙ ap₂ commute x y) (eb ∙ ap₂ commute x (row-of_z r)))
-      (ap₂ (λ x y. x && y) (ec ∙ ap₂ commute (row-of_z q) y) (ed ∙ ap₂ commute (row-of_z q) (row-of_z r)))
+  pair_is p eu ev =
+      ap₂ (λ i j. i && j) (ap₂ (λ i j. i && j) (ap₂ commute ex eu) (ap₂ commute ex ev)) (ap₂ (λ i j. i && j) (ap₂ commute ez eu) (ap₂ commute ez ev))
 
 -- ---- all rows
 unfoldable pub valid_row : Tableau → ℕ → Bool

@@ -20,9 +20,9 @@ use Rattle.clifford.specs.declared.gates.RowImage.{RowImage}
 use Rattle.clifford.specs.Layout.{row_length, row_offset, record_length, row_of, width_of, tableau_of, tableau_record, row_qubit, row_letter, FormedTableau}
 use Rattle.clifford.specs.Images.{pauli_tableau}
 use Rattle.clifford.specs.GateQuestions.{gate_width}
-use Rattle.clifford.specs.Inside.Rows.{Sized, Finished, AppliesString, AppliesLetter, row_written, letters_in, string_in}
+use Rattle.clifford.specs.Inside.Rows.{Sized, RowIndex, Finished, AppliesString, AppliesLetter, row_written, letters_in, string_in}
 use Rattle.clifford.specs.Inside.Writing.{PauliRow, conjugated}
-use Rattle.clifford.specs.Inside.InverseRows.{InvertsRow}
+use Rattle.clifford.specs.Inside.InverseRows.{RowBack}
 use Rattle.clifford.specs.Inside.GateRows.{row_image_string, RowImageOf, ImageAsked, PutsImage}
 use Rattle.clifford.specs.Inside.Made.{Made, MakesRow, WritesRow, WritesAll, Widens, Composes, Spans, GateInside}
 use Rattle.clifford.proofs.Rows.{width_of_lem, rows-within, some_bytes}
@@ -80,7 +80,10 @@ gate-made {g} {p} {v} {w} o = record {
 }
 
 -- ---- a row made as a work row
-module _ {w r : ℕ} {s k : List ℕ} (o : MakesRow w r s k) where
+module _ {w n r : ℕ} {s k : List ℕ} (i : RowIndex n r) (o : MakesRow w n s k) where
+  own : r < 2 * w
+  own = omega (arith, i.own, o.place)
+
   letters_k : letters_in k ≡ w
   letters_k = omega (arith, o.work)
 
@@ -88,16 +91,15 @@ module _ {w r : ℕ} {s k : List ℕ} (o : MakesRow w r s k) where
   held : {x row : PauliString} {k' : List ℕ} → k' ≡ encode_string (letters_in k) x → x ≡ row → k' ≡ encode_string w row
   held e h = e ∙ ap₂ encode_string letters_k h
 
-  pub inverse_here : {t : List ℕ} → FormedTableau t → w ≡ width_of t → InvertsRow t w r s k
-  inverse_here f e = record {
-    row = record { old = record { tableau = f; own = omega (arith, o.own) }; wide = e };
-    source = o.source;
-    work = o.work;
-  }
+  pub inverse_back : {t : List ℕ} → FormedTableau t → w ≡ width_of t → RowBack t n r
+  inverse_back f e = record { old = record { tableau = f; own = omega (arith, own) }; wide = o.place ∙ e }
 
-  module _ {q : ℕ} (eq : q ≡ row_qubit w r) where
+  module _ {q : ℕ} (en : q ≡ row_qubit n r) where
+    eq : q ≡ row_qubit w r
+    eq = en ∙ ap (λ (j : ℕ). row_qubit j r) o.place
+
     below : q < w
-    below = qubit-below w r eq o.own
+    below = qubit-below w r eq own
 
     pub widened_letter : {t : List ℕ} → Widens t w → AppliesLetter t k q
     widened_letter d = record {
@@ -115,11 +117,14 @@ module _ {w r : ℕ} {s k : List ℕ} (o : MakesRow w r s k) where
       narrow = omega (arith, o.source, c.wide, c.first.narrow, c.second.narrow);
     }
 
-    module _ {l : ℕ} (el : l ≡ letter_byte (row_letter w r)) where
+    module _ {l : ℕ} (em : l ≡ letter_byte (row_letter n r)) where
+      el : l ≡ letter_byte (row_letter w r)
+      el = em ∙ ap (λ (j : ℕ). letter_byte (row_letter j r)) o.place
+
       -- the row is what f makes of the letter and the qubit
       by_letter : (t : Tableau) (f : ℕ → Letter → PauliString) → ((q : ℕ) → t.x_image q ≡ f q X) → ((q : ℕ) → t.z_image q ≡ f q Z)
           → t.width ≡ w → f q (letter_of l) ≡ row_of t r
-      by_letter t f x z e = ap₂ f eq (letter_of-row w r el) ∙ sym (row_made t f x z w r e o.own)
+      by_letter t f x z e = ap₂ f eq (letter_of-row w r el) ∙ sym (row_made t f x z w r e own)
 
       pub widened_row : {t k' : List ℕ} → Widens t w → k' ≡ encode_string (letters_in k) (image_of (tableau_of t) q (letter_of l))
           → k' ≡ encode_string w (row_of (widen w (tableau_of t)) r)
@@ -169,26 +174,26 @@ module _ {w r : ℕ} {s k : List ℕ} (o : MakesRow w r s k) where
         pub pauli_made : {k' : List ℕ} → k' ≡ encode_string (letters_in k) (conjugated (string_of t) (single (letter_of l) q))
             → k' ≡ encode_string w (row_of (pauli_tableau (string_of t)) r)
         pauli_made ek =
-            held ek (ap (conjugated (string_of t)) (ap₂ single (letter_of-row w r el) eq) ∙ sym (row_pauli (string_of t) w r d.wide.is o.own))
+            held ek (ap (conjugated (string_of t)) (ap₂ single (letter_of-row w r el) eq) ∙ sym (row_pauli (string_of t) w r d.wide.is own))
 
-      module _ {g p v : ℕ} (i : GateInside g p v w) where
+      module _ {g p v : ℕ} (h : GateInside g p v w) where
         pub gate-asked : ImageAsked g p v l
-        gate-asked = record { on = i.on; letter = generator-is w r el }
+        gate-asked = record { on = h.on; letter = generator-is w r el }
 
         module _ {x : RowImage} (im : RowImageOf (max (gate_width g p v) (suc q)) (image_of (gate_tableau g p v) q (letter_of l)) x) where
           pub gate_puts : PutsImage x k
           gate_puts = record {
             sign = im.sign;
-            first = omega (arith, im.first, i.wide, below, o.work);
-            second = omega (arith, im.second, i.wide, below, o.work);
-            narrow = omega (arith, o.work, i.narrow);
+            first = omega (arith, im.first, h.wide, below, o.work);
+            second = omega (arith, im.second, h.wide, below, o.work);
+            narrow = omega (arith, o.work, h.narrow);
           }
 
           pub gate_row : {k' : List ℕ} → k' ≡ encode_string (letters_in k) (row_image_string x) → k' ≡ encode_string w (row_of (widen w (gate_tableau g p v)) r)
           unfolding widen
           gate_row ek =
               held ek
-              (im.string ∙ by_letter (widen w (gate_tableau g p v)) (image_of (gate_tableau g p v)) (λ q. refl) (λ q. refl) (gate_inside_width i))
+              (im.string ∙ by_letter (widen w (gate_tableau g p v)) (image_of (gate_tableau g p v)) (λ q. refl) (λ q. refl) (gate_inside_width h))
 
 pub ruleset made_rows = (
   widened_letter,
@@ -196,7 +201,7 @@ pub ruleset made_rows = (
   composite_letter,
   composite_applies,
   composite_row,
-  inverse_here,
+  inverse_back,
   pauli_here,
   pauli_made,
   gate-asked,
@@ -206,30 +211,30 @@ pub ruleset made_rows = (
 )
 
 -- ---- a row made and written
-module _ {w : ℕ} {t : Tableau} {r : ℕ} {out : List ℕ} (o : WritesRow w t r out) where
+module _ {w n : ℕ} {t : Tableau} {out : List ℕ} (o : WritesRow w t n out) where
   m : Made w t
   m = o.made
 
-  module _ {n : ℕ} (en : n ≡ w) where
-    pub row_end : n + 1 ≤ 129
+  module _ {v : ℕ} (en : v ≡ w) where
+    pub row_end : v + 1 ≤ 129
     row_end = omega (arith, m.narrow)
 
     abbrev zeros : List ℕ
-    zeros = take (n + 1 - 0) (drop 0 (replicate 129 0))
+    zeros = take (v + 1 - 0) (drop 0 (replicate 129 0))
 
     part : length zeros ≡ w + 1
-    part = (let all : List ℕ = replicate 129 0 in length-take (n + 1 - 0) all) ∙ omega (arith, m.narrow)
+    part = (let all : List ℕ = replicate 129 0 in length-take (v + 1 - 0) all) ∙ omega (arith, m.narrow)
 
-    pub row_makes : MakesRow w r zeros zeros
-    row_makes = record { own = o.own; source = part; work = part }
+    pub row_makes : MakesRow w n zeros zeros
+    row_makes = record { place = o.place; source = part; work = part }
 
-  module _ {k : List ℕ} (ek : k ≡ encode_string w (row_of t r)) where
+  module _ {r : ℕ} (i : RowIndex n r) {k : List ℕ} (ek : k ≡ encode_string w (row_of t r)) where
     pub row_finished : Finished k out
     row_finished = put_room w (row_of t r) ek m.narrow o.room
 
     pub row_put : {e : List ℕ} → e ≡ row_written (letters_in k) (string_in k) out → e ≡ row_written w (row_of t r) out
     row_put ee = put_row w out (row_of t r) ek
-        (subst (λ (j : ℕ). Within j (row_of t r)) m.wide (rows-within t m.proper r (omega (arith, m.wide, o.own)))) ee
+        (subst (λ (j : ℕ). Within j (row_of t r)) m.wide (rows-within t m.proper r (omega (arith, m.wide, i.own, o.place)))) ee
 
 pub ruleset written_rows = (row_end, row_makes, row_finished, row_put, rules)
 
@@ -247,8 +252,8 @@ module _ {w : ℕ} {t : Tableau} {d : List ℕ} (o : WritesAll w t d) where
 
     module _ {d₀ : List ℕ} {r : ℕ} {e : List ℕ} (rows : RowsTo n (row_of t) d₀ r e) where
       module _ (h : r < 2 * n) {at : ℕ} (z : Sized (row_offset n r) at) where
-        pub all_here : WritesRow w t r (from at e)
-        all_here = record { made = o.made; own = omega arith; room = subst (λ (j : ℕ). row_length j ≤ length (from at e)) en (rows-room e at rows h z) }
+        pub all_here : WritesRow w t n (from at e)
+        all_here = record { made = o.made; place = en; room = subst (λ (j : ℕ). row_length j ≤ length (from at e)) en (rows-room e at rows h z) }
 
         pub all_more : {ys : List ℕ} → ys ≡ row_written w (row_of t r) (from at e) → RowsTo n (row_of t) d₀ (r + 1) (put_mid at (length e - at) e ys)
         all_more k = rows_more rows h z (k ∙ ap (λ (j : ℕ). row_written j (row_of t r) (from at e)) (sym en))

@@ -90,7 +90,7 @@ pub sign-minus : {a l : ℕ} → IsGenerator l → (a ≡ 0 → ⊥) → (a ≡ 
 unfolding sign_byte sign phase_byte
 sign-minus {a} {l} g h k = sym (ap (λ b. phase_byte (sign b)) (differ a l h k g.some g.small))
 
-pub ruleset sign-bytes = (sign-none, sign_same, sign-minus, rules)
+pub ruleset sign_bytes = (sign-none, sign_same, sign-minus, rules)
 
 generator_of : (b : Bool) {l : ℕ} → l ≡ letter_byte (cond b X Z) → IsGenerator l
 unfolding letter_byte

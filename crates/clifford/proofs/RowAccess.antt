@@ -4,15 +4,14 @@ use Rattle.std.proofs.Common.{◌≡◌, ℕ, suc, ◌+◌, ◌-◌, ◌*◌, �
 use lib.ListN.{get_or-eq_default}
 use borrow.Rule.Slice.PartMut.{put_mid}
 use borrow.Author.Tests.{lt-leb}
-use Rattle.pauli_group.specs.Letter.{X, Z}
 use Rattle.pauli_group.specs.PauliString.{qubits, mul, identity_string, weight_to}
 use Rattle.pauli.specs.Layout.{phase_byte, phase_of, letter_byte, encode_string}
 use Rattle.pauli.specs.Rows.{phase_bytes_product, RowTimes, letter_count, largest_to, Scanned}
 use Rattle.pauli.proofs.Places.{length-listed, get_d_listed, from, from_is, none_bad}
 use Rattle.pauli.proofs.StringProducts.{row-product, row_product-is}
-use Rattle.clifford.specs.Layout.{letter_place, row_length, letters_of, decode_row, row_offset, record_length, longest_record, row_of, width_of, row_part, tableau_of, row_qubit, row_letter, read_row, letter_in, row_with, row_with_pair, FormedTableau}
+use Rattle.clifford.specs.Layout.{letter_place, row_length, letters_of, decode_row, row_offset, record_length, longest_record, row_of, width_of, row_part, tableau_of, read_row, letter_in, row_with, row_with_pair, FormedTableau}
 use Rattle.pauli.specs.Places.{listed}
-use Rattle.clifford.specs.Inside.Rows.{letter_bytes, Sized, RowIndex, RowInside, RowAt, row_answer, OwnRow, WorkOnRow, Finished, row_times, row_written, letters_in, string_in, row_letters, OwnLetter}
+use Rattle.clifford.specs.Inside.Rows.{letter_bytes, Sized, RowIndex, RowInside, RowAt, OwnQubit, row_answer, OwnRow, WorkRow, Finished, row_times, row_written, letters_in, string_in, row_letters, OwnLetter}
 use Rattle.clifford.proofs.Records.{record-small}
 use Rattle.pauli.specs.declared.refusal.Refusal.TheVariants.{BadByte}
 use Rattle.pauli.specs.declared.rows.LetterScan.{LetterScan}
@@ -21,7 +20,7 @@ use Rattle.pauli.proofs.Asking.{asked_yes, asked_no, refused, passed}
 use Rattle.clifford.specs.Questions.{row_question, true_weight}
 use lib.Bits.{bit_xor}
 use Rattle.clifford.specs.Playing.{table_entry, letter_table_on_row, pair_table_on_row}
-use Rattle.clifford.proofs.Rows.{place_is, row-some, letter_in-row, letters-from, row-letter, row-phase, row_inside, row_part_lem, row_room, row-string, row_as_string_lem, row_of-work, own_letters_long, own-letter_byte, get_d_part, capped_letter, capped_phase, read_own, read_wide, read_over, length_part, own_row, own-some, own-more, own-letter, weight_counted}
+use Rattle.clifford.proofs.Rows.{place_is, row-x, row-z, width_of_lem, row-some, letter_in-row, letters-from, row-letter, row-phase, row_inside, row_part_lem, row_room, row-string, row_as_string_lem, row_of-work, own_letters_long, own-letter_byte, get_d_part, capped_letter, capped_phase, read_own, read_wide, read_over, length_part, own_row, own-some, own-more, own-letter, weight_counted}
 use Rattle.clifford.proofs.Asking.{bytes_bad, bytes_good}
 use Rattle.pauli.specs.Answers.{Answer, answer_to}
 use Rattle.pauli.specs.declared.refusal.Refusal.{Refusal}
@@ -95,6 +94,32 @@ module _ {b : List ℕ} {r : ℕ} (f : FormedTableau b) (h : r < 2 * width_of b)
 
 pub ruleset formed_rows = (formed-phase, formed_letters, rules)
 
+-- ---- a qubit of such a record, and its rows
+pub qubit_taken : {b : List ℕ} {q : ℕ} → FormedTableau b → q < width_of b → OwnQubit b q
+qubit_taken f h = record { tableau = f; own = h }
+
+pub qubit_before : {b : List ℕ} {q r : ℕ} → OwnQubit b q → r < q → OwnQubit b r
+qubit_before o h = record { tableau = o.tableau; own = omega (arith, o.own) }
+
+module _ {b : List ℕ} {q : ℕ} (o : OwnQubit b q) where
+  pub x_taken : OwnRow b q
+  x_taken = record { tableau = o.tableau; own = omega (arith, o.own) }
+
+  pub x_is : row_of (tableau_of b) q ≡ (tableau_of b).x_image q
+  x_is = row-x (tableau_of b) q (omega (arith, o.own, width_of_lem b))
+
+  module _ {n : ℕ} (e : n ≡ width_of b) where
+    pub z_taken : OwnRow b (n + q)
+    z_taken = record { tableau = o.tableau; own = omega (arith, o.own) }
+
+    pub z_small : n + q ≤ 256
+    z_small = omega (arith, o.own, o.tableau.narrow)
+
+    pub z_is : row_of (tableau_of b) (n + q) ≡ (tableau_of b).z_image q
+    z_is = ap (λ (j : ℕ). row_of (tableau_of b) (j + q)) (e ∙ sym (width_of_lem b)) ∙ row-z (tableau_of b) q
+
+pub ruleset qubit_rows = (qubit_taken, qubit_before, x_taken, x_is, z_taken, z_small, z_is, rules)
+
 -- ---- one letter of a row
 pub letter-row : {b : List ℕ} {r q : ℕ} → OwnLetter b r q → OwnRow b r
 letter-row o = o.row
@@ -105,7 +130,7 @@ letter-inside {b} {p} {r} {q} o e = omega (arith, place_is q, letter_in-row (wid
 pub letter_read : {b p : List ℕ} {r q : ℕ} → OwnLetter b r q → p ≡ row_part b r → get_or p (q + 2) 0 ≡ letter_byte ((row_of (tableau_of b) r).letters q)
 letter_read {b} {p} {r} {q} o e = ap₂ (λ (l : List ℕ) (j : ℕ). get_or l j 0) e (sym (place_is q)) ∙ own-letter o.row q o.qubit
 
-pub ruleset letter-reads = (letter-row, letter-inside, letter_read, own-inside, rules)
+pub ruleset letter_reads = (letter-row, letter-inside, letter_read, own-inside, rules)
 
 -- ---- question 3, put to a row
 module _ (p : List ℕ) (at : ℕ) where
@@ -134,7 +159,7 @@ module _ (p : List ℕ) (at : ℕ) where
     pub codes-good : (first_bad (from 2 p) < length (from 2 p) → ⊥) → Ok tt ≡ row_question at p
     codes-good l = all_good (omega (arith, l, ap first_bad (letters-from p), ap length (letters-from p)))
 
-pub ruleset row-codes = (codes_bad_phase, codes-clean, codes_bad_letter, codes-good, rules)
+pub ruleset row_codes = (codes_bad_phase, codes-clean, codes_bad_letter, codes-good, rules)
 
 -- and whether its weight is true
 module _ {b : List ℕ} {r : ℕ} (o : RowInside b r) {n at : ℕ} (en : n ≡ width_of b) (s : Sized (row_offset n r) at) {p : List ℕ} (ep : p ≡ row_part b r)
@@ -210,22 +235,19 @@ module _ (b : List ℕ) (r : ℕ) {n : ℕ} (e : n ≡ width_of b) where
 pub read_none : (b : List ℕ) (k : ℕ) → length b ≤ k → 0 ≡ min (get_or b k 0) 3
 read_none b k h = omega (arith, get_or-eq_default b 0 {n = k} h)
 
-pub ruleset row-reading = (read_none, phase-wide, phase_over, phase-own, letter-wide, letter_over, letter_beyond, letter-own, rules)
+pub ruleset row_reading = (read_none, phase-wide, phase_over, phase-own, letter-wide, letter_over, letter_beyond, letter-own, rules)
 
 -- ---- a work row multiplied by a row of a record
-pub work-on : {b d : List ℕ} {r : ℕ} → WorkOnRow b d r → OwnRow b r
-work-on o = record { tableau = o.work.tableau; own = o.own }
-
-pub times-row : {b d f ys : List ℕ} {r p x : ℕ} → WorkOnRow b d r → f ≡ row_part b r → p ≡ phase_bytes_product (get_or d 0 0) (get_or f 0 0)
+pub times-row : {b d f ys : List ℕ} {r p x : ℕ} → WorkRow b d → OwnRow b r → f ≡ row_part b r → p ≡ phase_bytes_product (get_or d 0 0) (get_or f 0 0)
     → RowTimes (from 1 d) (from 2 f) p ys x → set (put_mid 1 (length d - 1) d ys) 0 x ≡ row_times d (row_of (tableau_of b) r)
 unfolding row_times qubits
-times-row {b} {d} {f} {ys} {r} {p} {x} o ef ep m =
+times-row {b} {d} {f} {ys} {r} {p} {x} o h ef ep m =
     let t : List ℕ = get_or (row_part b r) 0 0 ∷ letters_of (row_part b r) in
     let lettered : from 2 f ≡ from 1 t = letters-from f ∙ ap letters_of ef ∙ sym (from_is 1 t) in
-    row-product d t (some o.work.wide) (λ e. absurd (some_more e)) (ep ∙ ap (λ (l : List ℕ). phase_bytes_product (get_or d 0 0) (get_or l 0 0)) ef)
+    row-product d t (some o.wide) (λ e. absurd (some_more e)) (ep ∙ ap (λ (l : List ℕ). phase_bytes_product (get_or d 0 0) (get_or l 0 0)) ef)
     (subst (λ (z : List ℕ). RowTimes (from 1 d) z p ys x) lettered m)
-    ∙ row_product-is (omega (arith, o.work.wide, o.work.row.long)) (omega (arith, o.work.narrow)) o.work.row (row-string (o.work.tableau.rows r o.own))
-    ∙ ap (λ s. encode_string (letters_in d) (mul (string_in d) s)) (sym (row_part_lem b r o.own ∙ row_as_string_lem (width_of b) (row_part b r)))
+    ∙ row_product-is (omega (arith, o.wide, o.row.long)) (omega (arith, o.narrow)) o.row (row-string (h.tableau.rows r h.own))
+    ∙ ap (λ s. encode_string (letters_in d) (mul (string_in d) s)) (sym (row_part_lem b r h.own ∙ row_as_string_lem (width_of b) (row_part b r)))
   where
     some : {n : ℕ} → n < length d → length d ≡ 0 → ⊥
     some h e = omega arith
@@ -256,24 +278,7 @@ row_written_lem d (y ∷ z ∷ out) {n} {ys} f c h =
     ap₂ (λ (l : List ℕ) (j : ℕ). x ∷ n ∷ (l ++ drop j out)) (h ∙ from_is 1 d) size
     ∙ ap (λ (l : List ℕ). l ++ drop (letters_in d) out) (sym (row_of-work f.row (omega (arith, f.narrow)) (c ∙ ap (λ (l : List ℕ). letter_count l % 256) (from_is 1 d))))
 
--- ---- the generator of a row
-pub qubit-x : (w r : ℕ) → r < w → r ≡ row_qubit w r
-unfolding row_qubit
-qubit-x w r h = sym (ap (λ b. cond b r (r - w)) (lt-ltb r w h))
-
-pub qubit-z : (w r : ℕ) → w ≤ r → r - w ≡ row_qubit w r
-unfolding row_qubit
-qubit-z w r h = sym (ap (λ b. cond b r (r - w)) (le-ltb r w h))
-
-pub letter-x : (w r : ℕ) → r < w → 1 ≡ letter_byte (row_letter w r)
-unfolding row_letter letter_byte
-letter-x w r h = sym (ap (λ b. letter_byte (cond b X Z)) (lt-ltb r w h))
-
-pub letter-z : (w r : ℕ) → w ≤ r → 2 ≡ letter_byte (row_letter w r)
-unfolding row_letter letter_byte
-letter-z w r h = sym (ap (λ b. letter_byte (cond b X Z)) (le-ltb r w h))
-
-pub ruleset row_access = (own-some, own-more, finished_next, finished_room, record_sized, offset_sized, part_end, part_is, qubit-x, qubit-z, letter-x, letter-z, work-on, times-row, finished_letters, row_written_lem, rules)
+pub ruleset row_access = (own-some, own-more, finished_next, finished_room, record_sized, offset_sized, part_end, part_is, times-row, finished_letters, row_written_lem, rules)
 
 -- ---- a row changed by a gate's table
 -- a letter as it is read

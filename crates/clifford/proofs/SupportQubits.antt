@@ -12,29 +12,17 @@ use Rattle.pauli.proofs.Answers.{number-done, number-exit}
 use Rattle.clifford.specs.Questions.{tableau_questions, support_answer}
 use Rattle.clifford.specs.Tableaux.{support_bytes}
 use Rattle.clifford.proofs.Asking.{tableau-formed, checked}
-use Rattle.pauli.specs.Layout.{phase_byte, phase_of, letter_byte, letter_of}
-use Rattle.pauli.proofs.Records.{letter_there, phase-back}
+use Rattle.pauli.specs.Layout.{phase_byte, phase_of, letter_byte}
+use Rattle.pauli.proofs.Records.{phase-back}
 use Rattle.clifford.specs.Layout.{row_of, width_of, tableau_of, FormedTableau}
 use Rattle.clifford.specs.Inside.Rows.{letter_bytes}
 use Rattle.clifford.specs.Support.{is_plus_one, alike_at, is_single, changed_qubit, touches_qubit, supports_qubit, some_to, places_with, in_support, support_qubits}
-use Rattle.clifford.specs.Inside.Writing.{IsGenerator}
-use Rattle.clifford.proofs.Rows.{row-x, row-z, row_inside, width_of_lem}
+use Rattle.clifford.proofs.Rows.{row_inside, width_of_lem}
 use Rattle.std.specs.List.{range_with_len, list_all, list_any, filter}
 use Rattle.std.proofs.lemmas.List.Elements.{filter-append}
 use Rattle.clifford.proofs.Ranges.{range-more, all-range, any-range}
 use Rattle.pauli.proofs.Places.{length-listed, get_d_listed}
 use lib.ListN.{get_or-eq_default}
-
--- ---- one letter
-pub byte_here : {l : ℕ} (q c : ℕ) → IsGenerator l → c ≡ q → l ≡ letter_byte ((single (letter_of l) q).letters c)
-unfolding single
-byte_here {l} q c g e = sym (letter_there l (omega (arith, g.small))) ∙ ap (λ b. letter_byte (cond b (letter_of l) I)) (sym (eq-eqb c q e))
-
-pub byte-other : (l q c : ℕ) → (c ≡ q → ⊥) → 0 ≡ letter_byte ((single (letter_of l) q).letters c)
-unfolding single letter_byte
-byte-other l q c e = ap (λ b. letter_byte (cond b (letter_of l) I)) (sym (ne_eqb c q e))
-
-pub ruleset single-bytes = (byte_here, byte-other, rules)
 
 -- ---- a letter by its byte
 byte-not_i : (s : PauliString) (k x : ℕ) → x ≡ letter_byte (s.letters k) → has_letter s k ≡ not (eqb x 0)
@@ -68,44 +56,39 @@ module _ (t : List ℕ) (r : ℕ) {l : List ℕ} (el : l ≡ letter_bytes (table
     | no h ↦ get_or-eq_default l 0 {n = c} (omega (arith, letters-long)) ∙ ap letter_byte (sym (row_inside t r c (omega arith)))
   ]
 
-  module _ (k q : ℕ) {n : ℕ} (en : n ≡ width_of t) where
-    abbrev pub same : ℕ → Bool
-    same = alike_at (row_of (tableau_of t) r) (single (letter_of k) q)
+  pub letter_seen : (k : ℕ) {x : ℕ} → x ≡ get_or l k 0 → not (eqb x 0) ≡ has_letter (row_of (tableau_of t) r) k
+  letter_seen k {x} e = sym (byte-not_i (row_of (tableau_of t) r) k x (e ∙ letter-byte k))
 
-    pub same-is : (c : ℕ) {x : ℕ} → x ≡ letter_byte ((single (letter_of k) q).letters c) → eqb (get_or l c 0) x ≡ same c
+  pub none_seen : (k : ℕ) → length l ≤ k → false ≡ has_letter (row_of (tableau_of t) r) k
+  none_seen k h = letter_seen k (sym (get_or-eq_default l 0 {n = k} h))
+
+  module _ (a : Letter) (q : ℕ) {n : ℕ} (en : n ≡ width_of t) where
+    abbrev pub same : ℕ → Bool
+    same = alike_at (row_of (tableau_of t) r) (single a q)
+
+    pub same-is : (c : ℕ) {x : ℕ} → x ≡ letter_byte ((single a q).letters c) → eqb (get_or l c 0) x ≡ same c
     unfolding alike_at
     same-is c e = ap₂ eqb (letter-byte c) e
 
-    pub single-is : {p : ℕ} {a : Bool} → p ≡ phase_byte (row_of (tableau_of t) r).phase → a ≡ list_all same (range_with_len 0 n)
-        → eqb p 0 && a ≡ is_single (width_of t) (letter_of k) q (row_of (tableau_of t) r)
+    pub single-is : {p : ℕ} {b : Bool} → p ≡ phase_byte (row_of (tableau_of t) r).phase → b ≡ list_all same (range_with_len 0 n)
+        → eqb p 0 && b ≡ is_single (width_of t) a q (row_of (tableau_of t) r)
     unfolding is_single
-    single-is {p} ep ea =
-        ap₂ (λ x y. x && y) (plus-is p ∙ ap is_plus_one (ap phase_of ep ∙ phase-back _)) (ea ∙ all-range n same ∙ ap (λ (j : ℕ). all_to j same) en)
+    single-is {p} ep eb =
+        ap₂ (λ x y. x && y) (plus-is p ∙ ap is_plus_one (ap phase_of ep ∙ phase-back _)) (eb ∙ all-range n same ∙ ap (λ (j : ℕ). all_to j same) en)
 
--- ---- a qubit
-module _ (t : List ℕ) {n : ℕ} (en : n ≡ width_of t) {q : ℕ} (h : q < width_of t) where
-  abbrev T : Tableau
-  T = tableau_of t
+pub ruleset letters_seen = (letter_seen, none_seen, rules)
 
-  row-of_x : row_of T q ≡ T.x_image q
-  row-of_x = row-x T q (omega (arith, width_of_lem t))
+-- ---- a qubit, by its rows
+module _ (t : List ℕ) (q : ℕ) {s u : PauliString} (es : s ≡ (tableau_of t).x_image q) (eu : u ≡ (tableau_of t).z_image q) {a b : Bool} where
+  pub changed-is : {x z : List ℕ} → x ≡ t → z ≡ t → a ≡ is_single (width_of x) X q s → b ≡ is_single (width_of z) Z q u → not (a && b) ≡ changed_qubit (tableau_of t) q
+  unfolding changed_qubit
+  changed-is dx dz ea eb =
+      ap₂ (λ i j. not (i && j)) (ea ∙ ap₂ (λ (w : ℕ) (v : PauliString). is_single w X q v) (ap width_of dx ∙ sym (width_of_lem t)) es)
+      (eb ∙ ap₂ (λ (w : ℕ) (v : PauliString). is_single w Z q v) (ap width_of dz ∙ sym (width_of_lem t)) eu)
 
-  row-of_z : row_of T (n + q) ≡ T.z_image q
-  row-of_z = ap (λ (j : ℕ). row_of T (j + q)) (en ∙ sym (width_of_lem t)) ∙ row-z T q
-
-  pub changed-is : {a b : Bool} → a ≡ is_single (width_of t) (letter_of 1) q (row_of T q) → b ≡ is_single (width_of t) (letter_of 2) q (row_of T (n + q))
-      → not (a && b) ≡ changed_qubit T q
-  unfolding changed_qubit letter_of
-  changed-is ea eb =
-      ap₂ (λ x y. not (x && y)) (ea ∙ ap₂ (λ (w : ℕ) (s : PauliString). is_single w X q s) (sym (width_of_lem t)) row-of_x)
-      (eb ∙ ap₂ (λ (w : ℕ) (s : PauliString). is_single w Z q s) (sym (width_of_lem t)) row-of_z)
-
-  pub touch-is : (k : ℕ) {l m : List ℕ} → l ≡ letter_bytes T q → m ≡ letter_bytes T (n + q)
-      → eqb q k || (not (eqb (get_or l k 0) 0) || not (eqb (get_or m k 0) 0)) ≡ touches_qubit T k q
+  pub touch-is : (k : ℕ) → a ≡ has_letter s k → b ≡ has_letter u k → eqb q k || (a || b) ≡ touches_qubit (tableau_of t) k q
   unfolding touches_qubit
-  touch-is k {l} {m} el em =
-      ap₂ (λ x z. eqb q k || (x || z)) (sym (byte-not_i (T.x_image q) k (get_or l k 0) (letter-byte t q el k ∙ ap (λ s. letter_byte (s.letters k)) row-of_x)))
-      (sym (byte-not_i (T.z_image q) k (get_or m k 0) (letter-byte t (n + q) em k ∙ ap (λ s. letter_byte (s.letters k)) row-of_z)))
+  touch-is k ea eb = ap₂ (λ i j. eqb q k || (i || j)) (ea ∙ ap (λ v. has_letter v k) es) (eb ∙ ap (λ v. has_letter v k) eu)
 
 pub supports-is : (t : Tableau) (k q : ℕ) {a b : Bool} → a ≡ touches_qubit t k q → b ≡ changed_qubit t q → a && b ≡ supports_qubit t k q
 unfolding supports_qubit

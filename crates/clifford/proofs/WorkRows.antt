@@ -13,9 +13,9 @@ use Rattle.pauli.specs.Layout.{phase_byte, phase_of, letter_byte, letter_of, enc
 use Rattle.pauli.specs.declared.algebra.PhasedLetter.{PhasedLetter}
 use Rattle.pauli.specs.Rows.{phase_bytes_product, letter_bytes_product, product_phase_byte, product_letter_byte}
 use Rattle.pauli.proofs.Records.{phase-back, phase_there, letter_there, length_encode, encode_phase, encode_letter, encode_formed, decode_encode, encode_decode, decode_within, decode_letter, decode_phase}
-use Rattle.clifford.specs.Layout.{row_of, width_of, tableau_of}
-use Rattle.clifford.specs.Inside.Rows.{WorkRow, WorkOnRow, WorkOnQubit, WorkOnOwn, WorkOnLetter, WorkPlace, ClearRow, cleared_row, row_times, letters_in, string_in}
-use Rattle.clifford.proofs.Rows.{row-x, row-z, width_of_lem}
+use Rattle.clifford.specs.Layout.{width_of, tableau_of}
+use Rattle.clifford.specs.Inside.Rows.{WorkRow, WorkOnQubit, OwnQubit, WorkPlace, ClearRow, cleared_row, row_times, letters_in, string_in}
+use Rattle.clifford.proofs.Rows.{width_of_lem}
 use Rattle.clifford.proofs.Records.{proper_of}
 
 -- ---- a work row multiplied
@@ -129,44 +129,30 @@ times_i_lem f e = times-phase 2 f e
 turned-formed : {d : List ℕ} {p : ℕ} (k : ℕ) → WellFormed (letters_in d) d → p ≡ phase_bytes_product (get_or d 0 0) k → WellFormed (letters_in d) (set d 0 p)
 turned-formed {d} {p} k f e = subst (WellFormed (letters_in d)) (sym (times-phase k f e)) (encode_formed (letters_in d) _)
 
-pub turned-work : {b d : List ℕ} {q p : ℕ} (k : ℕ) → WorkOnOwn b d q → p ≡ phase_bytes_product (get_or d 0 0) k → WorkOnRow b (set d 0 p) q
-turned-work {b} {d} {q} {p} k o e =
+pub work_as : {a b d : List ℕ} → a ≡ b → WorkRow b d → WorkRow a d
+work_as {d = d} e o = subst (λ (l : List ℕ). WorkRow l d) (sym e) o
+
+pub turned-work : {b d : List ℕ} {p : ℕ} (k : ℕ) → WorkRow b d → p ≡ phase_bytes_product (get_or d 0 0) k → WorkRow b (set d 0 p)
+turned-work {b} {d} {p} k o e =
     let l : length (set d 0 p) ≡ length d = length-set d 0 p in
     let same : letters_in d ≡ letters_in (set d 0 p) = ap (λ (j : ℕ). j - 1) (sym l) in
     record {
-      work = record {
-        tableau = o.work.tableau;
-        row = subst (λ (w : ℕ). WellFormed w (set d 0 p)) same (turned-formed k o.work.row e);
-        wide = omega (arith, o.work.wide);
-        narrow = omega (arith, o.work.narrow);
-      };
-      own = omega (arith, o.own);
+      tableau = o.tableau;
+      row = subst (λ (w : ℕ). WellFormed w (set d 0 p)) same (turned-formed k o.row e);
+      wide = omega (arith, o.wide);
+      narrow = omega (arith, o.narrow);
     }
 
-pub work-x : {b d : List ℕ} {q : ℕ} → WorkOnOwn b d q → WorkOnRow b d q
-work-x o = record { work = o.work; own = omega (arith, o.own) }
-
-pub work-z : {b d : List ℕ} {q n : ℕ} → WorkOnOwn b d q → n ≡ width_of b → WorkOnRow b d (n + q)
-work-z o e = record { work = o.work; own = omega (arith, o.own) }
-
-pub work-next : {b d e : List ℕ} {q n : ℕ} (s : PauliString) → WorkOnRow b d q → q < width_of b → n ≡ width_of b → e ≡ row_times d s → WorkOnRow b e (n + q)
-work-next s o h en e = record { work = times-work s o.work e; own = omega arith }
-
-pub own_x : (b d : List ℕ) {e : List ℕ} {q l : ℕ} → WorkOnLetter b d q l → l ≡ 1 → e ≡ row_times d (row_of (tableau_of b) q)
+-- by the rows of a qubit
+pub own_x : (b d : List ℕ) (q : ℕ) {s : PauliString} {e : List ℕ} {l : ℕ} → s ≡ (tableau_of b).x_image q → l ≡ 1 → e ≡ row_times d s
     → e ≡ row_times d (row_image (tableau_of b) q (letter_of l))
 unfolding row_image letter_of
-own_x b d {e} {q} {l} o h k =
-    k ∙ ap (row_times d) (row-x (tableau_of b) q (omega (arith, o.work.own, width_of_lem b)))
-    ∙ ap (λ (j : ℕ). row_times d (row_image (tableau_of b) q (letter_of j))) (sym h)
+own_x b d q es h k = k ∙ ap (row_times d) es ∙ ap (λ (j : ℕ). row_times d (row_image (tableau_of b) q (letter_of j))) (sym h)
 
-row_z_at : (b : List ℕ) {n : ℕ} (q : ℕ) → n ≡ width_of b → row_of (tableau_of b) (n + q) ≡ (tableau_of b).z_image q
-row_z_at b q e = ap (λ (j : ℕ). row_of (tableau_of b) (j + q)) (e ∙ sym (width_of_lem b)) ∙ row-z (tableau_of b) q
-
-pub own-z : (b d : List ℕ) {e : List ℕ} {q l n : ℕ} → WorkOnLetter b d q l → l ≡ 2 → n ≡ width_of b
-    → e ≡ row_times d (row_of (tableau_of b) (n + q)) → e ≡ row_times d (row_image (tableau_of b) q (letter_of l))
+pub own-z : (b d : List ℕ) (q : ℕ) {s : PauliString} {e : List ℕ} {l : ℕ} → s ≡ (tableau_of b).z_image q → l ≡ 2 → e ≡ row_times d s
+    → e ≡ row_times d (row_image (tableau_of b) q (letter_of l))
 unfolding row_image letter_of
-own-z b d {e} {q} {l} {n} o h en k =
-    k ∙ ap (row_times d) (row_z_at b q en) ∙ ap (λ (j : ℕ). row_times d (row_image (tableau_of b) q (letter_of j))) (sym h)
+own-z b d q es h k = k ∙ ap (row_times d) es ∙ ap (λ (j : ℕ). row_times d (row_image (tableau_of b) q (letter_of j))) (sym h)
 
 letter-Y : (l : ℕ) → (l ≡ 0 → ⊥) → (l ≡ 1 → ⊥) → (l ≡ 2 → ⊥) → letter_of l ≡ Y
 unfolding letter_of
@@ -175,22 +161,19 @@ letter-Y (suc zero) h k m = absurd (k refl)
 letter-Y (suc (suc zero)) h k m = absurd (m refl)
 letter-Y (suc (suc (suc l))) h k m = refl
 
-pub own_y : (b d : List ℕ) {e : List ℕ} {q l : ℕ} → WorkOnLetter b d q l → (l ≡ 1 → ⊥) → (l ≡ 2 → ⊥) → e ≡ row_times d (row_image (tableau_of b) q Y)
+pub own_y : (b d : List ℕ) (q : ℕ) {e : List ℕ} {l : ℕ} → (l ≡ 0 → ⊥) → (l ≡ 1 → ⊥) → (l ≡ 2 → ⊥) → e ≡ row_times d (row_image (tableau_of b) q Y)
     → e ≡ row_times d (row_image (tableau_of b) q (letter_of l))
-own_y b d {e} {q} {l} o h k m = m ∙ ap (λ a. row_times d (row_image (tableau_of b) q a)) (sym (letter-Y l o.letter h k))
-
-pub own-work : {b d : List ℕ} {q l : ℕ} → WorkOnLetter b d q l → WorkOnOwn b d q
-own-work o = o.work
+own_y b d q {e} {l} o h k m = m ∙ ap (λ a. row_times d (row_image (tableau_of b) q a)) (sym (letter-Y l o h k))
 
 pub decoded_times : (d : List ℕ) (s : PauliString) → Within (letters_in d) s → decode_string (letters_in d) (row_times d s) ≡ mul (string_in d) s
 unfolding row_times
 decoded_times d s h = decode_encode (letters_in d) (mul (string_in d) s) (within-mul (letters_in d) (string_in d) s (decode_within (letters_in d) d) h)
 
 -- i, then the X image, then the Z image
-pub times_both : (b d : List ℕ) {e₁ e₂ : List ℕ} {q p n : ℕ} → WorkOnOwn b d q → p ≡ phase_bytes_product (get_or d 0 0) 2 → n ≡ width_of b
-    → e₁ ≡ row_times (set d 0 p) (row_of (tableau_of b) q) → e₂ ≡ row_times e₁ (row_of (tableau_of b) (n + q)) → e₂ ≡ row_times d (row_image (tableau_of b) q Y)
+pub times_both : (b d : List ℕ) {e₁ e₂ : List ℕ} {q p : ℕ} {u v : PauliString} → WorkRow b d → OwnQubit b q → u ≡ (tableau_of b).x_image q → v ≡ (tableau_of b).z_image q
+    → p ≡ phase_bytes_product (get_or d 0 0) 2 → e₁ ≡ row_times (set d 0 p) u → e₂ ≡ row_times e₁ v → e₂ ≡ row_times d (row_image (tableau_of b) q Y)
 unfolding row_times row_image
-times_both b d {e₁} {e₂} {q} {p} {n} o ep en k₁ k₂ =
+times_both b d {e₁} {e₂} {q} {p} {u} {v} o c eu ev ep k₁ k₂ =
     let w = letters_in d in
     let t = tableau_of b in
     let x : PauliString = t.x_image q in
@@ -198,17 +181,16 @@ times_both b d {e₁} {e₂} {q} {p} {n} o ep en k₁ k₂ =
     let long₁ : letters_in (set d 0 p) ≡ w = ap (λ (j : ℕ). j - 1) (length-set d 0 p) in
     let long₂ : letters_in e₁ ≡ w = ap (λ (j : ℕ). j - 1) (ap length k₁ ∙ length_encode (letters_in (set d 0 p)) _) ∙ (let y : suc (letters_in (set d 0 p)) - 1 ≡ w = omega arith in y) in
     let first : string_in (set d 0 p) ≡ scale PlusI (string_in d) =
-    ap (λ (j : ℕ). decode_string j (set d 0 p)) long₁ ∙ ap (decode_string w) (times_i_lem o.work.row ep)
+    ap (λ (j : ℕ). decode_string j (set d 0 p)) long₁ ∙ ap (decode_string w) (times_i_lem o.row ep)
     ∙ decode_encode w (scale PlusI (string_in d)) (within-scale w PlusI (string_in d) (decode_within w d)) in
-    let inside : Within w x = (λ c h. (proper_of o.work.tableau).x_within q (omega (arith, o.own, width_of_lem b)) c (omega (arith, o.work.wide, o.work.row.long, width_of_lem b))) in
-    let row₁ : row_of t q ≡ x = row-x t q (omega (arith, o.own, width_of_lem b)) in
+    let inside : Within w x = (λ k h. (proper_of c.tableau).x_within q (omega (arith, c.own, width_of_lem b)) k (omega (arith, o.wide, o.row.long, width_of_lem b))) in
     let second : e₁ ≡ encode_string w (mul (scale PlusI (string_in d)) x) =
-    k₁ ∙ ap (λ (j : ℕ). encode_string j (mul (string_in (set d 0 p)) (row_of t q))) long₁ ∙ ap₂ (λ s u. encode_string w (mul s u)) first row₁ in
+    k₁ ∙ ap (λ (j : ℕ). encode_string j (mul (string_in (set d 0 p)) u)) long₁ ∙ ap₂ (λ s u. encode_string w (mul s u)) first eu in
     let made : string_in e₁ ≡ mul (scale PlusI (string_in d)) x =
     ap (λ (j : ℕ). decode_string j e₁) long₂ ∙ ap (decode_string w) second
     ∙ decode_encode w (mul (scale PlusI (string_in d)) x) (within-mul w (scale PlusI (string_in d)) x (within-scale w PlusI (string_in d) (decode_within w d)) inside) in
-    k₂ ∙ ap (λ (j : ℕ). encode_string j (mul (string_in e₁) (row_of t (n + q)))) long₂
-    ∙ ap₂ (λ s u. encode_string w (mul s u)) made (row_z_at b q en)
+    k₂ ∙ ap (λ (j : ℕ). encode_string j (mul (string_in e₁) v)) long₂
+    ∙ ap₂ (λ s u. encode_string w (mul s u)) made ev
     ∙ ap (encode_string w) (simp (scale-mul, mul-scale, mul_assoc))
 
 pub image_none : (b d : List ℕ) {q l : ℕ} → WorkOnQubit b d q → l ≡ 0 → d ≡ row_times d (image_of (tableau_of b) q (letter_of l))
@@ -217,8 +199,11 @@ image_none b d {q} {l} o h =
     sym (encode_decode o.work.row) ∙ ap (encode_string (letters_in d)) (sym (mul-identity (string_in d)))
     ∙ ap (λ s. encode_string (letters_in d) (mul (string_in d) s)) (sym (ap (λ (j : ℕ). image_of (tableau_of b) q (letter_of j)) h ∙ image_I (tableau_of b) q))
 
-pub image_letter : {b d : List ℕ} {q l n : ℕ} → WorkOnQubit b d q → (l ≡ 0 → ⊥) → n ≡ width_of b → q < n → WorkOnLetter b d q l
-image_letter o h e k = record { work = record { work = o.work; own = omega arith }; letter = h }
+pub image_row : {b d : List ℕ} {q : ℕ} → WorkOnQubit b d q → WorkRow b d
+image_row o = o.work
+
+pub own_taken : {b d : List ℕ} {q n : ℕ} → WorkOnQubit b d q → n ≡ width_of b → q < n → OwnQubit b q
+own_taken o e h = record { tableau = o.work.tableau; own = omega arith }
 
 pub image_place : {b d : List ℕ} {q : ℕ} → WorkOnQubit b d q → WorkPlace d q
 image_place o = record { row = o.work.row; place = o.place; narrow = o.work.narrow }
@@ -233,8 +218,8 @@ image_over b d {e} {q} l en h k = k ∙ ap (row_times d) (sym (image_above (tabl
 
 pub ruleset clearing = (cleared_all, rules)
 
-pub ruleset letter-products = (times-letter, rules)
+pub ruleset letter_products = (times-letter, rules)
 
-pub ruleset images = (turned-work, work-x, work-z, work-next, own_x, own-z, own_y, own-work, times_both, rules)
+pub ruleset images = (work_as, own_x, own-z, own_y, rules)
 
-pub ruleset image_products = (image_none, image_letter, image_place, image_below, image_over, rules)
+pub ruleset image_products = (image_none, image_row, own_taken, image_place, image_below, image_over, rules)

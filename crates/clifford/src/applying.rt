@@ -6,13 +6,15 @@ ghost use Rattle.pauli_group.specs.PauliString.{single};
 ghost use Rattle.clifford_group.specs.Tableau.{image_of, row_image, apply};
 ghost use Rattle.pauli.specs.Layout.{encode_string, letter_of};
 ghost use Rattle.clifford.specs.Layout.{tableau_of};
-ghost use Rattle.clifford.specs.Inside.Rows.{WorkOnOwn, WorkOnLetter, WorkOnQubit, WorkPlace, AppliesString, AppliesLetter, ClearRow, cleared_row, row_times, letters_in, string_in};
+ghost use Rattle.clifford.specs.Inside.Rows.{WorkRow, WorkOnQubit, WorkPlace, AppliesString, AppliesLetter, ClearRow, cleared_row, row_times, letters_in, string_in};
 
 use crate::layout::{multiply_by, width};
+use crate::tableau::Qubit;
 use pauli::algebra::multiply_paulis;
 use pauli::rows::phase_times;
 
 // The work row of this phase, with I on every qubit.
+#[tactic(auto, using(crate::proofs::WorkRows::clearing))]
 pub(crate) fn clear_row(work: &mut [u8], phase: u8)
     requires { ClearRow work.old phase }
     ensures { work.new ≡ cleared_row (length work.old) phase }
@@ -22,6 +24,7 @@ pub(crate) fn clear_row(work: &mut [u8], phase: u8)
 }
 
 // A work row multiplied by one letter, on qubit q.
+#[tactic(auto, using(crate::proofs::WorkRows::letter_products))]
 pub(crate) fn multiply_letter(work: &mut [u8], q: usize, letter: u8)
     requires { WorkPlace work.old q }
     ensures { work.new ≡ row_times work.old (single (letter_of letter) q) }
@@ -32,29 +35,32 @@ pub(crate) fn multiply_letter(work: &mut [u8], q: usize, letter: u8)
     work[0] = phase;
 }
 
-// A work row multiplied by the X image and then the Z image of qubit q, times i: the image of Y.
-fn multiply_both(work: &mut [u8], t: &[u8], q: usize)
-    requires { WorkOnOwn t.now work.old q }
-    ensures { work.new ≡ row_times work.old (row_image (tableau_of t.now) q Y) }
+// A work row multiplied by the X image and then the Z image of a qubit, times i: the image of Y.
+fn multiply_both(work: &mut [u8], qubit: &Qubit)
+    requires { WorkRow qubit.now.bytes.now work.old }
+    ensures { work.new ≡ row_times work.old (row_image (tableau_of qubit.now.bytes.now) qubit.now.q Y) }
 {
     work[0] = phase_times(work[0], 2);
-    multiply_by(work, t, q);
-    multiply_by(work, t, width(t) + q);
+    multiply_by(work, &qubit.x_row());
+    multiply_by(work, &qubit.z_row());
 }
 
-// A work row multiplied by the image, by rows, of a letter other than I on qubit q; a byte above 3 is read as 3.
-fn multiply_own(work: &mut [u8], t: &[u8], q: usize, letter: u8)
-    requires { WorkOnLetter t.now work.old q letter }
-    ensures { work.new ≡ row_times work.old (row_image (tableau_of t.now) q (letter_of letter)) }
+// A work row multiplied by the image, by rows, of a letter other than I on a qubit; a byte above 3 is read as 3.
+#[tactic(auto, using(crate::proofs::WorkRows::images))]
+fn multiply_own(work: &mut [u8], qubit: &Qubit, letter: u8)
+    requires row { WorkRow qubit.now.bytes.now work.old }
+    requires some { letter ≡ 0 → ⊥ }
+    ensures { work.new ≡ row_times work.old (row_image (tableau_of qubit.now.bytes.now) qubit.now.q (letter_of letter)) }
 {
     match letter {
-        1 => multiply_by(work, t, q),
-        2 => multiply_by(work, t, width(t) + q),
-        _ => multiply_both(work, t, q),
+        1 => multiply_by(work, &qubit.x_row()),
+        2 => multiply_by(work, &qubit.z_row()),
+        _ => multiply_both(work, qubit),
     }
 }
 
 // A work row multiplied by the image of a letter on qubit q: by rows below the width; letters at the width or above pass through.
+#[tactic(auto, using(crate::proofs::WorkRows::image_products))]
 fn multiply_image(work: &mut [u8], t: &[u8], q: usize, letter: u8)
     requires { WorkOnQubit t.now work.old q }
     ensures { work.new ≡ row_times work.old (image_of (tableau_of t.now) q (letter_of letter)) }
@@ -63,7 +69,7 @@ fn multiply_image(work: &mut [u8], t: &[u8], q: usize, letter: u8)
         return;
     }
     if q < width(t) {
-        multiply_own(work, t, q, letter);
+        multiply_own(work, &Qubit { bytes: t, q }, letter);
     } else {
         multiply_letter(work, q, letter);
     }

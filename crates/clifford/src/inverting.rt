@@ -1,51 +1,69 @@
 // Inverses made row by row. Ports `inverse` of clifford_rep.rs of PECOS, changed:
 // Copyright 2024 The PECOS Developers, Apache License, Version 2.0.
-ghost use Rattle.std.specs.Prelude.{◌≡◌};
+ghost use Rattle.std.specs.Prelude.{◌≡◌, ◌+◌, ◌*◌, ◌<◌, length};
 ghost use Rattle.clifford_group.specs.Tableau.{inverse};
 ghost use Rattle.pauli.specs.Layout.{letter_byte, encode_string};
 ghost use Rattle.clifford.specs.Layout.{row_of, tableau_of};
-ghost use Rattle.clifford.specs.Inside.InverseRows.{bit_read, bit_byte, body_of, ReadsBit, ReadsLetter, WritesBody, InvertsRow};
+ghost use Rattle.clifford.specs.Inside.InverseRows.{bit_read, bit_byte, body_of, RowBack};
 
 use crate::applying::apply_string;
-use crate::layout::{letter_in_row, row_qubit};
+use crate::layout::{RowPlace, letter_in_row};
 use pauli::quarter_phase::phase_conjugate;
 
-// The bit that row r of the inverse reads in row s of t, in the column of its qubit: the z bit for an X row, the x bit for a Z row.
-fn read_bit(t: &[u8], width: usize, r: usize, s: usize) -> u8
-    requires { ReadsBit t.now width r s }
-    ensures { result ≡ bit_byte (bit_read (tableau_of t.now) r s) }
-{
-    let letter = letter_in_row(t, s, row_qubit(width, r));
-    if r < width { letter / 2 } else { letter % 2 }
+// A row of the inverse of t.
+#[derive(Drop)]
+pub(crate) struct InverseRow<'a> {
+    pub(crate) t: &'a [u8],
+    pub(crate) row: RowPlace,
+    ghost back: { RowBack t.now row.width row.r },
 }
 
-// The letter at qubit c of the body of row r: its x bit is read in Z row c, its z bit in X row c.
-fn body_letter(t: &[u8], width: usize, r: usize, c: usize) -> u8
-    requires { ReadsLetter t.now width r c }
-    ensures { result ≡ letter_byte ((body_of (tableau_of t.now) r).letters c) }
-{
-    let x = read_bit(t, width, r, width + c);
-    let z = read_bit(t, width, r, c);
-    x + 2 * z
-}
-
-// The body of row r, as a work row.
-fn write_body(t: &[u8], width: usize, r: usize, body: &mut [u8])
-    requires { WritesBody t.now width r body.old }
-    ensures { body.new ≡ encode_string width (body_of (tableau_of t.now) r) }
-{
-    body[0] = 0;
-    for c in 0..width {
-        body[c + 1] = body_letter(t, width, r, c);
+impl InverseRow<'_> {
+    // The bit that it reads in row s of t, in the column of its qubit: the z bit for an X row, the x bit for a Z row.
+    #[tactic(auto, using(crate::proofs::Inverse::bit_reads))]
+    fn bit(&self, s: usize) -> u8
+        requires { s < 2 * self.now.row.width }
+        ensures { result ≡ bit_byte (bit_read (tableau_of self.now.t.now) self.now.row.r s) }
+    {
+        let letter = letter_in_row(self.t, s, self.row.qubit());
+        if self.row.r < self.row.width {
+            letter / 2
+        } else {
+            letter % 2
+        }
     }
-}
 
-// Row r of the inverse, as a work row: its body, with the conjugate of the phase met when the body is sent forward.
-pub(crate) fn inverse_row(t: &[u8], width: usize, r: usize, source: &mut [u8], work: &mut [u8])
-    requires { InvertsRow t.now width r source.old work.old }
-    ensures { work.new ≡ encode_string width (row_of (inverse (tableau_of t.now)) r) }
-{
-    write_body(t, width, r, work);
-    apply_string(t, work, source);
-    work[0] = phase_conjugate(source[0]);
+    // The letter at qubit c of its body: its x bit is read in Z row c, its z bit in X row c.
+    fn body_letter(&self, c: usize) -> u8
+        requires { c < self.now.row.width }
+        ensures { result ≡ letter_byte ((body_of (tableau_of self.now.t.now) self.now.row.r).letters c) }
+    {
+        let x = self.bit(self.row.width + c);
+        let z = self.bit(c);
+        x + 2 * z
+    }
+
+    // Its body, as a work row.
+    #[tactic(auto, using(crate::proofs::Inverse::bodies))]
+    fn write_body(&self, body: &mut [u8])
+        requires { length body.old ≡ self.now.row.width + 1 }
+        ensures { body.new ≡ encode_string self.now.row.width (body_of (tableau_of self.now.t.now) self.now.row.r) }
+    {
+        body[0] = 0;
+        for c in 0..self.row.width {
+            body[c + 1] = self.body_letter(c);
+        }
+    }
+
+    // The row, as a work row: its body, with the conjugate of the phase met when the body is sent forward.
+    #[tactic(auto, using(crate::proofs::Inverse::inverting))]
+    pub(crate) fn write(&self, source: &mut [u8], work: &mut [u8])
+        requires source { length source.old ≡ self.now.row.width + 1 }
+        requires work { length work.old ≡ self.now.row.width + 1 }
+        ensures { work.new ≡ encode_string self.now.row.width (row_of (inverse (tableau_of self.now.t.now)) self.now.row.r) }
+    {
+        self.write_body(work);
+        apply_string(self.t, work, source);
+        work[0] = phase_conjugate(source[0]);
+    }
 }

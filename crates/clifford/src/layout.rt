@@ -4,8 +4,9 @@ ghost use Rattle.pauli.specs.Layout.{phase_byte, letter_byte};
 ghost use Rattle.clifford.specs.Playing.{letter_table_on_row, pair_table_on_row};
 ghost use Rattle.clifford.specs.Layout.{width_of, record_length, row_offset, row_of, row_part, read_row, tableau_of, row_qubit, row_letter};
 ghost use Rattle.clifford.specs.Questions.{row_question, weights_question};
-ghost use Rattle.clifford.specs.Inside.Rows.{Sized, RowIndex, RowInside, RowAt, row_answer, FirstFalse, OwnRow, OwnLetter, WorkOnRow, Finished, row_times, row_written, row_letters, letters_in, string_in};
+ghost use Rattle.clifford.specs.Inside.Rows.{Sized, RowIndex, RowInside, RowAt, row_answer, FirstFalse, OwnRow, OwnLetter, WorkRow, Finished, row_times, row_written, row_letters, letters_in, string_in};
 
+use crate::tableau::Row;
 use pauli::QUBITS;
 use pauli::refusal::Refusal;
 use pauli::rows::{count_letters, first_bad, multiply_letters, phase_times, scan_letters};
@@ -24,6 +25,7 @@ pub fn width(t: &[u8]) -> usize
 pub const LONGEST_RECORD: usize = 33281;
 
 // The length of a record.
+#[tactic(auto, using(crate::proofs::RowAccess::row_access))]
 pub(crate) fn record_length(width: usize) -> usize
     requires { width ≤ 128 }
     ensures { Sized (record_length width) result }
@@ -32,6 +34,7 @@ pub(crate) fn record_length(width: usize) -> usize
 }
 
 // Where row r starts.
+#[tactic(auto, using(crate::proofs::RowAccess::row_access))]
 pub(crate) fn row_offset(width: usize, r: usize) -> usize
     requires { RowIndex width r }
     ensures { Sized (row_offset width r) result }
@@ -40,6 +43,7 @@ pub(crate) fn row_offset(width: usize, r: usize) -> usize
 }
 
 // The row's own part of the record.
+#[tactic(auto, using(crate::proofs::RowAccess::row_access))]
 pub(crate) fn row(t: &[u8], r: usize) -> &[u8]
     requires { RowInside t.now r }
     ensures { result.now ≡ row_part t.now r }
@@ -50,6 +54,7 @@ pub(crate) fn row(t: &[u8], r: usize) -> &[u8]
 }
 
 // Question 3, put to a row that starts at this offset, the largest of its letters being known.
+#[tactic(auto, using(crate::proofs::RowAccess::row_codes))]
 fn check_codes(row: &[u8], at: usize, largest: u8) -> Result<(), Refusal>
     requires { RowAt at row.now largest }
     ensures { result ≡ row_question at row.now }
@@ -78,6 +83,7 @@ pub(crate) fn check_row(t: &[u8], r: usize) -> Result<bool, Refusal>
 }
 
 // Question 24, where the first row with a false weight is known.
+#[tactic(auto, using(crate::proofs::Asking::false_rows))]
 pub(crate) fn check_weights(t: &[u8], first: Option<usize>) -> Result<(), Refusal>
     requires { FirstFalse t.now first }
     ensures { result ≡ weights_question t.now }
@@ -91,6 +97,7 @@ pub(crate) fn check_weights(t: &[u8], first: Option<usize>) -> Result<(), Refusa
 }
 
 // The letters of row r.
+#[tactic(auto, using(crate::proofs::RowAccess::row_reads))]
 pub(crate) fn row_letters(t: &[u8], r: usize) -> &[u8]
     requires { OwnRow t.now r }
     ensures { result.now ≡ row_letters t.now r }
@@ -99,18 +106,20 @@ pub(crate) fn row_letters(t: &[u8], r: usize) -> &[u8]
     &whole[2..]
 }
 
-// A work row, multiplied by row r of the record.
-pub(crate) fn multiply_by(work: &mut [u8], t: &[u8], r: usize)
-    requires { WorkOnRow t.now work.old r }
-    ensures { work.new ≡ row_times work.old (row_of (tableau_of t.now) r) }
+// A work row, multiplied by a row of a record.
+#[tactic(auto, using(crate::proofs::RowAccess::row_access))]
+pub(crate) fn multiply_by(work: &mut [u8], by: &Row)
+    requires { WorkRow by.now.bytes.now work.old }
+    ensures { work.new ≡ row_times work.old (row_of (tableau_of by.now.bytes.now) by.now.r) }
 {
-    let factor = row(t, r);
+    let factor = row(by.bytes, by.r);
     let p = phase_times(work[0], factor[0]);
     let phase = multiply_letters(&mut work[1..], &factor[2..], p);
     work[0] = phase;
 }
 
 // A finished work row, written with its weight as the row at the front of dst.
+#[tactic(auto, using(crate::proofs::RowAccess::row_access))]
 pub(crate) fn write_row(work: &[u8], dst: &mut [u8])
     requires { Finished work.now dst.old }
     ensures { dst.new ≡ row_written (letters_in work.now) (string_in work.now) dst.old }
@@ -120,17 +129,33 @@ pub(crate) fn write_row(work: &[u8], dst: &mut [u8])
     dst[2..work.len() + 1].copy_from_slice(&work[1..]);
 }
 
-// The qubit of row r, and its letter: X rows come first.
-pub(crate) fn row_qubit(width: usize, r: usize) -> usize
-    ensures { result ≡ row_qubit width r }
-{
-    if r < width { r } else { r - width }
+// The place of row r in a record of this width: X rows come first.
+#[derive(Clone, Copy)]
+pub(crate) struct RowPlace {
+    pub(crate) width: usize,
+    pub(crate) r: usize,
+    ghost own: { RowIndex width r },
 }
 
-pub(crate) fn row_letter(width: usize, r: usize) -> u8
-    ensures { result ≡ letter_byte (row_letter width r) }
-{
-    if r < width { 1 } else { 2 }
+// The qubit and the letter that it has the image of.
+impl RowPlace {
+    #[tactic(auto, using(pauli::proofs::Asking::by_tests, pauli::proofs::Asking::by_questions), unfolding(crate::specs::Layout::row_qubit))]
+    pub(crate) fn qubit(self) -> usize
+        ensures { result ≡ row_qubit self.width self.r }
+    {
+        if self.r < self.width {
+            self.r
+        } else {
+            self.r - self.width
+        }
+    }
+
+    #[tactic(auto, using(pauli::proofs::Asking::by_tests, pauli::proofs::Asking::by_questions), unfolding(crate::specs::Layout::row_letter, pauli::specs::Layout::letter_byte))]
+    pub(crate) fn letter(self) -> u8
+        ensures { result ≡ letter_byte (row_letter self.width self.r) }
+    {
+        if self.r < self.width { 1 } else { 2 }
+    }
 }
 
 // The letter of row r at qubit q.
@@ -152,6 +177,7 @@ fn read_at(t: &[u8], at: usize) -> u8
 }
 
 // The phase of row r, whatever the bytes of t: +1 where a record of this width has no such row.
+#[tactic(auto, using(crate::proofs::RowAccess::row_reading))]
 pub fn phase_at(t: &[u8], r: usize) -> u8
     ensures { result ≡ phase_byte (read_row t.now r).phase }
 {
@@ -163,6 +189,7 @@ pub fn phase_at(t: &[u8], r: usize) -> u8
 }
 
 // The letter of row r on qubit q, whatever the bytes of t: I where a record of this width has no such row or qubit.
+#[tactic(auto, using(crate::proofs::RowAccess::row_reading))]
 pub fn letter_at(t: &[u8], r: usize, q: usize) -> u8
     ensures { result ≡ letter_byte ((read_row t.now r).letters q) }
 {
@@ -174,6 +201,7 @@ pub fn letter_at(t: &[u8], r: usize, q: usize) -> u8
 }
 
 // The row at the front of b, changed on qubit q as the table says.
+#[tactic(auto, using(crate::proofs::RowAccess::row_changes))]
 pub(crate) fn change_letter(b: &mut [u8], q: usize, table: &[[u8; 4]; 2])
     requires { q + 2 < length b.old }
     ensures { b.new ≡ letter_table_on_row table.now q b.old }
@@ -184,6 +212,7 @@ pub(crate) fn change_letter(b: &mut [u8], q: usize, table: &[[u8; 4]; 2])
 }
 
 // The row at the front of b, changed on qubits q and r as the table says, with its weight.
+#[tactic(auto, using(crate::proofs::RowAccess::row_changes))]
 pub(crate) fn change_pair(b: &mut [u8], q: usize, r: usize, table: &[[u8; 16]; 4])
     requires first { q + 2 < length b.old }
     requires second { r + 2 < length b.old }

@@ -10,6 +10,7 @@ use crate::applying::{clear_row, multiply_letter};
 use pauli::QUBITS;
 
 // The width: 1 + the highest qubit that has a letter, and 1 where none has.
+#[tactic(auto, using(crate::proofs::PauliTableau::spans))]
 pub(crate) fn span(s: &[u8]) -> usize
     requires { WellFormed 128 s.now }
     ensures { Span s.now result }
@@ -23,6 +24,7 @@ pub(crate) fn span(s: &[u8]) -> usize
 }
 
 // The sign of X or Z next to the letter a: -1 where the two anticommute.
+#[tactic(auto, using(crate::proofs::PauliTableau::sign_bytes))]
 fn sign_byte(a: u8, letter: u8) -> u8
     requires { IsGenerator letter }
     ensures { result ≡ sign_byte a letter }

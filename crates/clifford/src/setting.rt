@@ -25,6 +25,7 @@ pub(crate) fn check_inside(s: &[u8], width: usize) -> Result<(), Refusal>
 }
 
 // Row r replaced by the string s.
+#[tactic(auto, using(crate::proofs::SetImage::row_setting))]
 pub(crate) fn set_row(t: &mut [u8], r: usize, s: &[u8])
     requires { SetsRow t.old r s.now }
     ensures { t.new ≡ tableau_record (with_row (tableau_of t.old) r (string_of s.now)) }

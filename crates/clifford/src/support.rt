@@ -1,64 +1,76 @@
 // The support of a tableau. Ports `support_qubits` of clifford_rep.rs of PECOS, changed:
 // Copyright 2024 The PECOS Developers, Apache License, Version 2.0.
-ghost use Rattle.std.specs.Prelude.{◌≡◌, ◌*◌, ◌<◌, ◌≤◌, length};
-ghost use Rattle.pauli_group.specs.PauliString.{single};
+ghost use Rattle.std.specs.Prelude.{◌≡◌, ◌≤◌, length};
+ghost use Rattle.pauli_group.specs.PauliString.{has_letter, single};
+ghost use Rattle.clifford_group.specs.Conjugation.{generator};
 ghost use Rattle.pauli.specs.Answers.{written};
-ghost use Rattle.pauli.specs.Layout.{letter_byte, letter_of};
+ghost use Rattle.pauli.specs.Layout.{letter_byte};
 ghost use Rattle.clifford.specs.Layout.{row_of, tableau_of, width_of};
 ghost use Rattle.clifford.specs.Support.{is_single, changed_qubit, touches_qubit, supports_qubit, in_support, support_qubits};
-ghost use Rattle.clifford.specs.Inside.Writing.{IsGenerator};
 
-use crate::tableau::TableauRecord;
+use crate::clifford_rep::{Generator, X, Z};
+use crate::tableau::{Qubit, Row, TableauRecord};
 
-// The byte of one letter on qubit q, at qubit c.
-fn single_byte(letter: u8, q: usize, c: usize) -> u8
-    requires { IsGenerator letter }
-    ensures { result ≡ letter_byte ((single (letter_of letter) q).letters c) }
+// The byte of X or Z on qubit q, at qubit c.
+#[tactic(auto, using(pauli::proofs::Asking::by_tests, pauli::proofs::Asking::by_questions), unfolding(pauli_group::specs::PauliString::single, pauli::specs::Layout::letter_byte))]
+fn single_byte<G: Generator>(q: usize, c: usize) -> u8
+    ensures { result ≡ letter_byte ((single (generator G.letter) q).letters c) }
 {
-    if c == q { letter } else { 0 }
+    if c == q { G::byte() } else { 0 }
+}
+
+impl Row<'_> {
+    // Whether it is plus X or Z on qubit q.
+    fn is_single<G: Generator>(&self, q: usize) -> bool
+        ensures { result ≡ is_single (width_of self.now.bytes.now) (generator G.letter) q (row_of (tableau_of self.now.bytes.now) self.now.r) }
+    {
+        let letters = self.letters();
+        self.phase() == 0 && (0..letters.len()).all(|c| letters[c] == single_byte::<G>(q, c))
+    }
+
+    // Whether it has a letter on qubit k.
+    #[tactic(auto, using(crate::proofs::SupportQubits::letters_seen))]
+    fn has_letter(&self, k: usize) -> bool
+        ensures { result ≡ has_letter (row_of (tableau_of self.now.bytes.now) self.now.r) k }
+    {
+        match self.letters().get(k) {
+            Some(letter) => *letter != 0,
+            None => false,
+        }
+    }
+}
+
+impl Qubit<'_> {
+    fn is_changed(&self) -> bool
+        ensures { result ≡ changed_qubit (tableau_of self.now.bytes.now) self.now.q }
+    {
+        let x = self.x_row();
+        let z = self.z_row();
+        !(x.is_single::<X>(self.q) && z.is_single::<Z>(self.q))
+    }
+
+    // Whether k is it or has a letter in one of its rows.
+    fn touches(&self, k: usize) -> bool
+        ensures { result ≡ touches_qubit (tableau_of self.now.bytes.now) k self.now.q }
+    {
+        let x = self.x_row();
+        let z = self.z_row();
+        self.q == k || x.has_letter(k) || z.has_letter(k)
+    }
+
+    fn supports(&self, k: usize) -> bool
+        ensures { result ≡ supports_qubit (tableau_of self.now.bytes.now) k self.now.q }
+    {
+        self.touches(k) && self.is_changed()
+    }
 }
 
 impl TableauRecord<'_> {
-    // Whether row r is plus this letter on qubit q.
-    fn is_single(&self, r: usize, letter: u8, q: usize) -> bool
-        requires own { r < 2 * width_of self.now }
-        requires generator { IsGenerator letter }
-        ensures { result ≡ is_single (width_of self.now) (letter_of letter) q (row_of (tableau_of self.now) r) }
-    {
-        let letters = self.letters(r);
-        self.phase(r) == 0 && (0..letters.len()).all(|c| letters[c] == single_byte(letter, q, c))
-    }
-
-    fn is_changed(&self, q: usize) -> bool
-        requires { q < width_of self.now }
-        ensures { result ≡ changed_qubit (tableau_of self.now) q }
-    {
-        !(self.is_single(q, 1, q) && self.is_single(self.width() + q, 2, q))
-    }
-
-    // Whether k is q or has a letter in a row of q.
-    fn touches(&self, k: usize, q: usize) -> bool
-        requires first { q < width_of self.now }
-        requires second { k < width_of self.now }
-        ensures { result ≡ touches_qubit (tableau_of self.now) k q }
-    {
-        q == k || self.letters(q)[k] != 0 || self.letters(self.width() + q)[k] != 0
-    }
-
-    fn supports(&self, k: usize, q: usize) -> bool
-        requires first { q < width_of self.now }
-        requires second { k < width_of self.now }
-        ensures { result ≡ supports_qubit (tableau_of self.now) k q }
-    {
-        self.touches(k, q) && self.is_changed(q)
-    }
-
     // Whether k is in the support.
     fn in_support(&self, k: usize) -> bool
-        requires { k < width_of self.now }
         ensures { result ≡ in_support (tableau_of self.now) k }
     {
-        (0..self.width()).any(|q| self.supports(k, q))
+        (0..self.width()).any(|q| self.qubit(q).supports(k))
     }
 
     // The number of qubits of the support.

@@ -1,9 +1,9 @@
-// A record that has passed the questions, so that what reads it asks nothing more than a row or a qubit.
-ghost use Rattle.std.specs.Prelude.{◌≡◌, ℕ, ◌*◌, ◌<◌, ◌≤◌, List};
+// A record that has passed the questions, its qubits and its rows, so that what reads them asks nothing more.
+ghost use Rattle.std.specs.Prelude.{◌≡◌, ℕ, ◌+◌, ◌<◌, ◌≤◌, List};
 ghost use Rattle.pauli_group.specs.PauliString.{commute};
 ghost use Rattle.pauli.specs.Layout.{phase_byte};
 ghost use Rattle.clifford.specs.Layout.{FormedTableau, row_of, tableau_of, width_of};
-ghost use Rattle.clifford.specs.Inside.Rows.{letter_bytes};
+ghost use Rattle.clifford.specs.Inside.Rows.{OwnQubit, OwnRow, letter_bytes};
 
 use crate::layout;
 use pauli::rows::count_anticommuting;
@@ -38,31 +38,86 @@ impl<'a> TableauRecord<'a> {
         layout::width(self.bytes)
     }
 
-    // The phase of row r.
-    pub(crate) fn phase(&self, r: usize) -> u8
-        requires { r < 2 * width_of self.now }
-        ensures { result ≡ phase_byte (row_of (tableau_of self.now) r).phase }
+    #[tactic(auto, using(crate::proofs::RowAccess::qubit_rows))]
+    pub(crate) fn qubit(&self, q: usize) -> Qubit<'a>
+        requires { q < width_of self.now }
+        ensures bytes { result.bytes.now ≡ self.now }
+        ensures place { result.q ≡ q }
     {
-        layout::phase_at(self.bytes, r)
+        Qubit {
+            bytes: self.bytes,
+            q,
+        }
+    }
+}
+
+// Qubit q of such a record.
+#[derive(Drop)]
+pub(crate) struct Qubit<'a> {
+    pub(crate) bytes: &'a [u8],
+    pub(crate) q: usize,
+    ghost own: { OwnQubit bytes.now q },
+}
+
+impl<'a> Qubit<'a> {
+    // The row of the image of X.
+    #[tactic(auto, using(crate::proofs::RowAccess::qubit_rows))]
+    pub(crate) fn x_row(&self) -> Row<'a>
+        ensures bytes { result.bytes.now ≡ self.now.bytes.now }
+        ensures place { result.r ≡ self.now.q }
+        ensures image { row_of (tableau_of result.bytes.now) result.r ≡ (tableau_of self.now.bytes.now).x_image self.now.q }
+    {
+        Row {
+            bytes: self.bytes,
+            r: self.q,
+        }
     }
 
-    // The letters of row r.
-    pub(crate) fn letters(&self, r: usize) -> &'a [u8]
-        requires { r < 2 * width_of self.now }
-        ensures { result.now ≡ letter_bytes (tableau_of self.now) r }
+    // The row of the image of Z.
+    #[tactic(auto, using(crate::proofs::RowAccess::qubit_rows))]
+    pub(crate) fn z_row(&self) -> Row<'a>
+        ensures bytes { result.bytes.now ≡ self.now.bytes.now }
+        ensures place { result.r ≡ width_of self.now.bytes.now + self.now.q }
+        ensures image { row_of (tableau_of result.bytes.now) result.r ≡ (tableau_of self.now.bytes.now).z_image self.now.q }
     {
-        layout::row_letters(self.bytes, r)
+        Row {
+            bytes: self.bytes,
+            r: layout::width(self.bytes) + self.q,
+        }
+    }
+}
+
+// Row r of such a record.
+#[derive(Drop)]
+pub(crate) struct Row<'a> {
+    pub(crate) bytes: &'a [u8],
+    pub(crate) r: usize,
+    ghost own: { OwnRow bytes.now r },
+}
+
+impl<'a> Row<'a> {
+    #[tactic(auto, using(crate::proofs::RowAccess::formed_rows))]
+    pub(crate) fn phase(&self) -> u8
+        ensures { result ≡ phase_byte (row_of (tableau_of self.now.bytes.now) self.now.r).phase }
+    {
+        layout::phase_at(self.bytes, self.r)
+    }
+
+    #[tactic(auto, using(crate::proofs::RowAccess::formed_rows))]
+    pub(crate) fn letters(&self) -> &'a [u8]
+        ensures { result.now ≡ letter_bytes (tableau_of self.now.bytes.now) self.now.r }
+    {
+        layout::row_letters(self.bytes, self.r)
     }
 
     // Whether two rows commute: the places at which they anticommute, at most 128, are even in number.
-    pub(crate) fn rows_commute(&self, r: usize, p: usize) -> bool
-        requires first { r < 2 * width_of self.now }
-        requires second { p < 2 * width_of self.now }
-        ensures { result ≡ commute (row_of (tableau_of self.now) r) (row_of (tableau_of self.now) p) }
+    #[tactic(auto, using(crate::proofs::IsValid::row_commutation))]
+    pub(crate) fn commutes_with(&self, other: &Row) -> bool
+        ensures { result ≡ commute (row_of (tableau_of self.now.bytes.now) self.now.r) (row_of (tableau_of other.now.bytes.now) other.now.r) }
     {
         let places = count_anticommuting(
-            layout::row_letters(self.bytes, r),
-            layout::row_letters(self.bytes, p),
+            layout::row_letters(self.bytes, self.r),
+            layout::row_letters(other.bytes, other.r),
         );
         places % 2 == 0
     }

@@ -1,46 +1,54 @@
 // Validity. Ports `is_valid` of clifford_rep.rs of PECOS, changed:
 // Copyright 2024 The PECOS Developers, Apache License, Version 2.0.
-ghost use Rattle.std.specs.Prelude.{◌≡◌, ◌<◌};
+ghost use Rattle.std.specs.Prelude.{◌≡◌, ◌&&◌, ◌<◌};
 ghost use Rattle.clifford_group.specs.Tableau.{all_to, valid_qubit, valid_pair, is_valid};
-ghost use Rattle.clifford.specs.Layout.{tableau_of, width_of};
+ghost use Rattle.clifford.specs.Layout.{tableau_of};
 
-use crate::tableau::TableauRecord;
+use crate::tableau::{Qubit, TableauRecord};
+
+impl Qubit<'_> {
+    // Its own rows.
+    fn has_valid_rows(&self) -> bool
+        ensures { result ≡ valid_qubit (tableau_of self.now.bytes.now) self.now.q }
+    {
+        let x = self.x_row();
+        let z = self.z_row();
+        x.phase() < 2 && z.phase() < 2 && !x.commutes_with(&z)
+    }
+
+    // Its rows with those of a qubit before it.
+    #[tactic(auto, using(crate::proofs::RowAccess::qubit_rows))]
+    fn commutes_with(&self, r: usize) -> bool
+        requires { r < self.now.q }
+        ensures { result ≡ valid_pair (tableau_of self.now.bytes.now) self.now.q r }
+    {
+        let other = Qubit {
+            bytes: self.bytes,
+            q: r,
+        };
+        let x = self.x_row();
+        let z = self.z_row();
+        let other_x = other.x_row();
+        let other_z = other.z_row();
+        x.commutes_with(&other_x)
+            && x.commutes_with(&other_z)
+            && z.commutes_with(&other_x)
+            && z.commutes_with(&other_z)
+    }
+
+    // Its rows, among themselves and with those of the qubits before it.
+    fn is_valid(&self) -> bool
+        ensures { result ≡ (valid_qubit (tableau_of self.now.bytes.now) self.now.q && all_to self.now.q (valid_pair (tableau_of self.now.bytes.now) self.now.q)) }
+    {
+        self.has_valid_rows() && (0..self.q).all(|r| self.commutes_with(r))
+    }
+}
 
 impl TableauRecord<'_> {
-    // The rows of one qubit.
-    fn valid_qubit(&self, q: usize) -> bool
-        requires { q < width_of self.now }
-        ensures { result ≡ valid_qubit (tableau_of self.now) q }
-    {
-        let z = self.width() + q;
-        self.phase(q) < 2 && self.phase(z) < 2 && !self.rows_commute(q, z)
-    }
-
-    // The rows of two qubits.
-    fn valid_pair(&self, q: usize, r: usize) -> bool
-        requires first { q < width_of self.now }
-        requires second { r < width_of self.now }
-        ensures { result ≡ valid_pair (tableau_of self.now) q r }
-    {
-        let n = self.width();
-        self.rows_commute(q, r)
-            && self.rows_commute(q, n + r)
-            && self.rows_commute(n + q, r)
-            && self.rows_commute(n + q, n + r)
-    }
-
-    // The rows of qubit q with those of the qubits before it.
-    fn valid_before(&self, q: usize) -> bool
-        requires { q < width_of self.now }
-        ensures { result ≡ all_to q (valid_pair (tableau_of self.now) q) }
-    {
-        (0..q).all(|r| self.valid_pair(q, r))
-    }
-
     // Whether the tableau is valid, by its own rows.
     pub(crate) fn is_valid(&self) -> bool
         ensures { result ≡ is_valid (tableau_of self.now) }
     {
-        (0..self.width()).all(|q| self.valid_qubit(q) && self.valid_before(q))
+        (0..self.width()).all(|q| self.qubit(q).is_valid())
     }
 }

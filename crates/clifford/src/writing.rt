@@ -11,8 +11,8 @@ ghost use Rattle.clifford.specs.Inside.Made.{Made, MakesRow, WritesRow, WritesAl
 
 use crate::applying::{apply_letter, apply_string};
 use crate::gates::{gate_image, put_image};
-use crate::inverting::inverse_row;
-use crate::layout::{record_length, row_letter, row_offset, row_qubit, width, write_row};
+use crate::inverting::InverseRow;
+use crate::layout::{RowPlace, record_length, row_offset, width, write_row};
 use crate::pauli_tableau::pauli_row;
 use pauli::STRING_LENGTH;
 use pauli::questions::check_room;
@@ -27,10 +27,10 @@ pub(crate) trait RowMaker {
     fn width(&self) -> usize
         ensures { result ≡ wide self.now };
 
-    // Row r of it, as a work row; source is room for one row more on the way there.
-    fn make_row(&self, r: usize, source: &mut [u8], work: &mut [u8])
-        requires { MakesRow (wide self.now) r source.old work.old }
-        ensures { work.new ≡ encode_string (wide self.now) (row_of (made self.now) r) };
+    // One row of it, as a work row; source is room for one row more on the way there.
+    fn make_row(&self, row: RowPlace, source: &mut [u8], work: &mut [u8])
+        requires { MakesRow (wide self.now) row.width source.old work.old }
+        ensures { work.new ≡ encode_string (wide self.now) (row_of (made self.now) row.r) };
 }
 
 // The tableau t, widened.
@@ -50,9 +50,9 @@ impl<'a> RowMaker for Widened<'a> {
         self.width
     }
 
-    fn make_row(&self, r: usize, _source: &mut [u8], work: &mut [u8]) {
-        let letter = row_letter(self.width, r);
-        apply_letter(self.t, row_qubit(self.width, r), letter, work);
+    #[tactic(auto, using(crate::proofs::Made::made_rows))]
+    fn make_row(&self, row: RowPlace, _source: &mut [u8], work: &mut [u8]) {
+        apply_letter(self.t, row.qubit(), row.letter(), work);
     }
 }
 
@@ -74,9 +74,8 @@ impl<'a> RowMaker for Composite<'a> {
         self.width
     }
 
-    fn make_row(&self, r: usize, source: &mut [u8], work: &mut [u8]) {
-        let letter = row_letter(self.width, r);
-        apply_letter(self.b, row_qubit(self.width, r), letter, source);
+    fn make_row(&self, row: RowPlace, source: &mut [u8], work: &mut [u8]) {
+        apply_letter(self.b, row.qubit(), row.letter(), source);
         apply_string(self.a, source, work);
     }
 }
@@ -97,8 +96,9 @@ impl<'a> RowMaker for Inverse<'a> {
         width(self.t)
     }
 
-    fn make_row(&self, r: usize, source: &mut [u8], work: &mut [u8]) {
-        inverse_row(self.t, width(self.t), r, source, work);
+    fn make_row(&self, row: RowPlace, source: &mut [u8], work: &mut [u8]) {
+        let made = InverseRow { t: self.t, row };
+        made.write(source, work);
     }
 }
 
@@ -119,9 +119,9 @@ impl<'a> RowMaker for OfPauli<'a> {
         self.width
     }
 
-    fn make_row(&self, r: usize, _source: &mut [u8], work: &mut [u8]) {
-        let letter = row_letter(self.width, r);
-        pauli_row(self.s, row_qubit(self.width, r), letter, work);
+    #[tactic(auto, using(crate::proofs::Made::made_rows))]
+    fn make_row(&self, row: RowPlace, _source: &mut [u8], work: &mut [u8]) {
+        pauli_row(self.s, row.qubit(), row.letter(), work);
     }
 }
 
@@ -144,24 +144,30 @@ impl RowMaker for OfGate {
         self.width
     }
 
-    fn make_row(&self, r: usize, _source: &mut [u8], work: &mut [u8]) {
-        let qubit = row_qubit(self.width, r);
-        let letter = row_letter(self.width, r);
-        let image = gate_image(self.gate, self.first, self.second, qubit, letter);
+    #[tactic(auto, using(crate::proofs::Made::made_rows))]
+    fn make_row(&self, row: RowPlace, _source: &mut [u8], work: &mut [u8]) {
+        let image = gate_image(
+            self.gate,
+            self.first,
+            self.second,
+            row.qubit(),
+            row.letter(),
+        );
         put_image(image, work);
     }
 }
 
-// The apply routine for rows: the generator of row r sent through what is made, as the row at the front of dst.
-fn apply_to_row<M: RowMaker>(made: &M, r: usize, dst: &mut [u8])
-    requires { WritesRow (M.wide made.now) (M.made made.now) r dst.old }
-    ensures { dst.new ≡ row_written (M.wide made.now) (row_of (M.made made.now) r) dst.old }
+// The apply routine for rows: the generator of a row sent through what is made, as the row at the front of dst.
+#[tactic(auto, using(crate::proofs::Made::written_rows))]
+fn apply_to_row<M: RowMaker>(made: &M, row: RowPlace, dst: &mut [u8])
+    requires { WritesRow (M.wide made.now) (M.made made.now) row.width dst.old }
+    ensures { dst.new ≡ row_written (M.wide made.now) (row_of (M.made made.now) row.r) dst.old }
 {
     let mut source = [0u8; STRING_LENGTH];
     let mut work = [0u8; STRING_LENGTH];
     let end = made.width() + 1;
     let work = &mut work[0..end];
-    made.make_row(r, &mut source[0..end], work);
+    made.make_row(row, &mut source[0..end], work);
     write_row(work, dst);
 }
 
@@ -174,7 +180,7 @@ fn write_rows<M: RowMaker>(made: &M, dst: &mut [u8])
     dst[0] = width as u8;
     for r in 0..2 * width {
         let at = row_offset(width, r);
-        apply_to_row(made, r, &mut dst[at..]);
+        apply_to_row(made, RowPlace { width, r }, &mut dst[at..]);
     }
 }
 

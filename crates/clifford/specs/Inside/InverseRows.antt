@@ -1,5 +1,5 @@
 -- The rows of an inverse in the order of its record: their bodies, which have the letters by the symplectic transpose.
-use Rattle.std.specs.Prelude.{◌≡◌, ℕ, ◌+◌, ◌*◌, ◌<◌, Bool, true, false, cond, List, length, nat_lt}
+use Rattle.std.specs.Prelude.{◌≡◌, ℕ, Bool, true, false, cond, List, nat_lt}
 use Rattle.pauli_group.specs.Letter.{Letter}
 use Rattle.pauli_group.specs.PauliString.{PauliString}
 use Rattle.clifford_group.specs.Tableau.{Tableau, has_x, has_z, transposed}
@@ -28,23 +28,3 @@ body_of t r = transposed t (row_bit t.width r) (row_qubit t.width r)
 pub record RowBack (b : List ℕ) (w r : ℕ) : Type 0 where
   pub old : OwnRow b r
   pub wide : w ≡ width_of b
-
--- the same, with a row s of b to be read; and with a qubit c of its body
-pub record ReadsBit (b : List ℕ) (w r s : ℕ) : Type 0 where
-  pub row : RowBack b w r
-  pub source : s < 2 * w
-
-pub record ReadsLetter (b : List ℕ) (w r c : ℕ) : Type 0 where
-  pub row : RowBack b w r
-  pub place : c < w
-
--- the same, with a work row of any content for its body
-pub record WritesBody (b : List ℕ) (w r : ℕ) (d : List ℕ) : Type 0 where
-  pub row : RowBack b w r
-  pub long : length d ≡ w + 1
-
--- the same, with work rows s and k of any content
-pub record InvertsRow (b : List ℕ) (w r : ℕ) (s k : List ℕ) : Type 0 where
-  pub row : RowBack b w r
-  pub source : length s ≡ w + 1
-  pub work : length k ≡ w + 1

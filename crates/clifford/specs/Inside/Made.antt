@@ -1,5 +1,5 @@
 -- Tableaux made row by row, and what the functions that make and write them may count on.
-use Rattle.std.specs.Prelude.{◌≡◌, ℕ, ◌+◌, ◌*◌, ◌<◌, ◌≤◌, max, List, length}
+use Rattle.std.specs.Prelude.{◌≡◌, ℕ, ◌+◌, ◌≤◌, max, List, length}
 use Rattle.clifford_group.specs.Tableau.{Tableau, Proper}
 use Rattle.pauli.specs.Answers.{Written, Outcome}
 use Rattle.pauli.specs.Questions.{room_question}
@@ -15,19 +15,19 @@ pub record Made (w : ℕ) (t : Tableau) : Type 0 where
   pub narrow : w ≤ 128
   pub proper : Proper t
 
--- with room for its row r in out; and with room for all rows in d
-pub record WritesRow (w : ℕ) (t : Tableau) (r : ℕ) (out : List ℕ) : Type 0 where
+-- with room in out for a row of the width n; and with room for all rows in d
+pub record WritesRow (w : ℕ) (t : Tableau) (n : ℕ) (out : List ℕ) : Type 0 where
   pub made : Made w t
-  pub own : r < 2 * w
+  pub place : n ≡ w
   pub room : row_length w ≤ length out
 
 pub record WritesAll (w : ℕ) (t : Tableau) (d : List ℕ) : Type 0 where
   pub made : Made w t
   pub room : record_length w ≤ length d
 
--- row r of width w, by way of work rows s and k of any content
-pub record MakesRow (w r : ℕ) (s k : List ℕ) : Type 0 where
-  pub own : r < 2 * w
+-- a row of the width n, which is w, by way of work rows s and k of any content
+pub record MakesRow (w n : ℕ) (s k : List ℕ) : Type 0 where
+  pub place : n ≡ w
   pub source : length s ≡ w + 1
   pub work : length k ≡ w + 1
 

@@ -8,7 +8,7 @@ use Rattle.pauli.specs.Layout.{phase_byte, phase_of, letter_byte, letter_of, enc
 use Rattle.pauli.specs.Rows.{largest_to}
 use Rattle.pauli.specs.Answers.{Answer, answer_to}
 use Rattle.clifford.specs.Questions.{row_question, true_weight, first_false}
-use Rattle.clifford.specs.Layout.{row_length, encode_row, letter_in, letters_of, row_part, row_offset, record_length, longest_record, width_of, FormedTableau, row_of, tableau_of}
+use Rattle.clifford.specs.Layout.{row_length, encode_row, letters_of, row_part, row_offset, record_length, longest_record, width_of, FormedTableau, row_of}
 use Rattle.pauli.specs.Places.{listed}
 
 -- r is the size or offset n in a record
@@ -72,6 +72,11 @@ pub record OwnRow (b : List ℕ) (r : ℕ) : Type 0 where
   pub tableau : FormedTableau b
   pub own : r < 2 * width_of b
 
+-- a qubit of the record b
+pub record OwnQubit (b : List ℕ) (q : ℕ) : Type 0 where
+  pub tableau : FormedTableau b
+  pub own : q < width_of b
+
 -- b is as long as its width says, whatever its bytes; and a row of such a b
 pub record Laid (b : List ℕ) : Type 0 where
   pub narrow : width_of b ≤ 128
@@ -105,23 +110,10 @@ pub record WorkRow (b d : List ℕ) : Type 0 where
   pub wide : width_of b < length d
   pub narrow : length d ≤ 129
 
--- the same, with a row of b; and with a qubit of the work row
-pub record WorkOnRow (b d : List ℕ) (r : ℕ) : Type 0 where
-  pub work : WorkRow b d
-  pub own : r < 2 * width_of b
-
+-- the same, with a qubit of the work row
 pub record WorkOnQubit (b d : List ℕ) (q : ℕ) : Type 0 where
   pub work : WorkRow b d
   pub place : q + 1 < length d
-
--- the same, with a qubit of b; and with a letter other than I
-pub record WorkOnOwn (b d : List ℕ) (q : ℕ) : Type 0 where
-  pub work : WorkRow b d
-  pub own : q < width_of b
-
-pub record WorkOnLetter (b d : List ℕ) (q l : ℕ) : Type 0 where
-  pub work : WorkOnOwn b d q
-  pub letter : l ≡ 0 → ⊥
 
 -- a work row and a qubit of it
 pub record WorkPlace (d : List ℕ) (q : ℕ) : Type 0 where

@@ -1,12 +1,12 @@
 -- `applying::apply_string` meets its contract, by the laws of `AppliedTo`.
-use Rattle.clifford.proofs.Apply.{applied-strings}
+use Rattle.clifford.proofs.Apply.{applied_strings}
 use Rattle.clifford.proofs.applying.apply_string.Goals as goal
 
 pub loop-q-init : goal.loop-q-init
-loop-q-init c = search applied-strings
+loop-q-init c = search applied_strings
 
 pub loop-q-preserved : goal.loop-q-preserved
-loop-q-preserved c = search applied-strings
+loop-q-preserved c = search applied_strings
 
 pub returns : goal.returns
-returns c = search applied-strings
+returns c = search applied_strings

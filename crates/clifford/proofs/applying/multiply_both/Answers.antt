@@ -1,12 +1,13 @@
 -- `applying::multiply_both` meets its contract.
-use Rattle.clifford.proofs.WorkRows.{images}
+use Rattle.clifford.proofs.WorkRows.{work_as, turned-work, times-work, times_both}
 use Rattle.clifford.proofs.applying.multiply_both.Goals as goal
 
 pub multiply_by-requires : goal.multiply_by-requires
-multiply_by-requires c = search images
+multiply_by-requires c = work_as c.x_row.ensures.bytes (turned-work 2 c.requires c.phase_times.ensures)
 
 pub multiply_by-requires-2 : goal.multiply_by-requires-2
-multiply_by-requires-2 c = search images
+multiply_by-requires-2 c = work_as c.z_row.ensures.bytes (times-work _ (turned-work 2 c.requires c.phase_times.ensures) c.multiply_by.ensures)
 
 pub returns : goal.returns
-returns c = search images
+returns c =
+    times_both _ _ c.requires c.args.qubit.now.own c.x_row.ensures.image c.z_row.ensures.image c.phase_times.ensures c.multiply_by.ensures c.multiply_by-2.ensures
