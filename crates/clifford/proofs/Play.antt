@@ -160,13 +160,8 @@ fits_tested : {g : ℕ} (q r w : ℕ) → 24 ≤ g → (ltb r w && not (eqb q r)
 unfolding second_fits
 fits_tested {g} q r w h = sym (ap (λ b. cond b true (ltb r w && not (eqb q r))) (le-ltb g 24 h))
 
-pub fits-high : {g : ℕ} (q r w : ℕ) → 24 ≤ g → w ≤ r → false ≡ second_fits g q r w
-fits-high q r w h l = sym (ap (λ b. b && not (eqb q r)) (le-ltb r w l)) ∙ fits_tested q r w h
-
 pub fits-other : {g : ℕ} (q r w : ℕ) → 24 ≤ g → r < w → not (eqb q r) ≡ second_fits g q r w
 fits-other q r w h l = sym (ap (λ b. b && not (eqb q r)) (lt-ltb r w l)) ∙ fits_tested q r w h
-
-pub ruleset second_fitting = (fits-none, fits-high, fits-other, rules)
 
 fits_parts : {g : ℕ} (q r w : ℕ) → 24 ≤ g → second_fits g q r w ≡ true → (ltb r w ≡ true) × (not (eqb q r) ≡ true)
 fits_parts q r w h e = and_both (ltb r w) (not (eqb q r)) (fits_tested q r w h ∙ e)

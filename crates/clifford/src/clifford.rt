@@ -21,6 +21,7 @@ use pauli::refusal::Refusal;
 // ---- questions
 
 // A qubit of a gate on a tableau of this width.
+#[tactic(auto, using(pauli::proofs::Asking::by_tests), unfolding(crate::specs::GateQuestions::own_qubit_question))]
 fn check_own_qubit(width: usize, qubit: usize) -> Result<(), Refusal>
     ensures { result ≡ own_qubit_question width qubit }
 {
@@ -31,6 +32,7 @@ fn check_own_qubit(width: usize, qubit: usize) -> Result<(), Refusal>
 }
 
 // The qubits of a gate; the second is not looked at for a one-qubit gate.
+#[tactic(auto, using(pauli::proofs::Asking::by_questions), unfolding(crate::specs::GateQuestions::qubits_questions))]
 pub fn check_qubits(width: usize, gate: usize, q: usize, r: usize) -> Result<(), Refusal>
     ensures { result ≡ qubits_questions width gate q r }
 {
@@ -44,6 +46,7 @@ pub fn check_qubits(width: usize, gate: usize, q: usize, r: usize) -> Result<(),
 
 // ---- tableaux of gates
 
+#[tactic(auto, using(crate::proofs::GateAsking::gate_spans))]
 fn gate_width(gate: usize, q: usize, r: usize) -> usize
     requires { GateOn gate q r }
     ensures { GateSpan gate q r result }

@@ -68,6 +68,7 @@ impl Generator for Z {
 }
 
 // The row of the letter's image on this qubit.
+#[tactic(auto, unfolding(crate::specs::Layout::generator_row))]
 fn image_row<G: Generator>(width: usize, slot: usize) -> usize
     requires { SlotIndex width slot }
     ensures { result ≡ generator_row G.letter width slot }
@@ -76,6 +77,7 @@ fn image_row<G: Generator>(width: usize, slot: usize) -> usize
 }
 
 // Whether a qubit has images to hand out.
+#[tactic(auto, using(pauli::proofs::Asking::by_questions), unfolding(crate::specs::Questions::image_questions))]
 fn check_image(t: &[u8], slot: usize) -> Result<(), Refusal>
     ensures { result ≡ image_questions t.now slot }
 {
@@ -244,6 +246,7 @@ pub fn display(t: &[u8], dst: &mut [u8]) -> Result<usize, Refusal>
 }
 
 // Whether a text starts as every display text does.
+#[tactic(auto, unfolding(crate::specs::Display::starts_with))]
 pub fn starts_with_name(text: &[u8]) -> bool
     ensures { result ≡ starts_with name_text text.now }
 {

@@ -102,6 +102,7 @@ fn images_2q(gate: usize) -> [u8; 12]
 // ---- images
 
 // The image of Y = iXZ.
+#[tactic(auto, using(crate::proofs::GateImages::y_made))]
 fn y_image(images: [u8; 4]) -> PhasedLetter
     ensures { result ≡ y_bytes images }
 {
@@ -152,6 +153,7 @@ pub(crate) fn first_gate(images: [u8; 4]) -> Option<u8>
 }
 
 // The gate that a product of H and SZ is.
+#[tactic(auto, unfolding(clifford_gates::specs::GateNumbers::product_gates))]
 pub(crate) fn product_number(index: usize) -> usize
     requires { index < 24 }
     ensures { result ≡ slice_index product_gates index }
@@ -159,6 +161,7 @@ pub(crate) fn product_number(index: usize) -> usize
     usize::from(PRODUCTS[index])
 }
 
+#[tactic(auto, unfolding(clifford_gates::specs::GateNumbers::inverse_numbers))]
 pub(crate) fn inverse_number(gate: usize) -> u8
     requires { gate < 38 }
     ensures { result ≡ slice_index inverse_numbers gate }
@@ -184,6 +187,7 @@ fn on_one(gate: usize, k: usize, letter: u8) -> RowImage
 }
 
 // The image that starts at this place of a two-qubit gate's entry, on the gate's qubits.
+#[tactic(auto, using(crate::proofs::GateImages::pair_reads))]
 fn on_two(gate: usize, at: usize, q: usize, r: usize) -> RowImage
     requires { EntryPlace gate at }
     ensures { result ≡ entry_pair (pair_bytes (two_qubit_gate gate)) at q r }
@@ -220,6 +224,7 @@ pub(crate) fn gate_image(gate: usize, q: usize, r: usize, k: usize, letter: u8) 
 }
 
 // An image as a work row.
+#[tactic(auto, using(crate::proofs::GateWriting::image_puts))]
 pub(crate) fn put_image(image: RowImage, work: &mut [u8])
     requires { PutsImage image work.old }
     ensures { work.new ≡ encode_string (letters_in work.old) (row_image_string image) }

@@ -9,6 +9,7 @@ use crate::tables::{letter_tables, pair_tables};
 use pauli::QUBITS;
 
 // Whether the second qubit of a two-qubit gate is below the width and another than the first.
+#[tactic(auto, unfolding(crate::specs::Playing::second_fits))]
 fn second_fits(gate: usize, q: usize, r: usize, width: usize) -> bool
     ensures { result ≡ second_fits gate q r width }
 {
@@ -16,6 +17,7 @@ fn second_fits(gate: usize, q: usize, r: usize, width: usize) -> bool
 }
 
 // Whether the gate has a place in the record. The rows are not looked at.
+#[tactic(auto, using(crate::proofs::Play::playables))]
 fn is_playable(gate: usize, q: usize, r: usize, t: &[u8]) -> bool
     ensures { result ≡ playable gate q r t.now }
 {
