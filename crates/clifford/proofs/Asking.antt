@@ -1,7 +1,6 @@
 -- The questions put to tableaux: what is let by, and what an answer says of the bytes.
-use mathlib.Core.Logic.{◌⊎◌}
 use Rattle.std.proofs.Common.{inl, inr, ◌≡◌, ℕ, zero, suc, ◌+◌, ◌-◌, ◌*◌, ◌<◌, ◌≤◌, min, Bool, true, false, cond, not, ltb, leb, List, [], ◌∷◌, length, get_or, sym, refl, ap, ◌∙◌, ap₂, not-suc-le-zero, add-one, arith, rules, ltb-false, ltb-true, le-ltb, lt-ltb, eq-eqb, ne_eqb, eqb-true, le-leb, leb-true, Ok, Err, subst, Option, Some, None, IfSome, unwrap_or, IsErrAnd}
-use native.Mathlib.Decide.{ℕ_discrete, dec_lt}
+use native.Mathlib.Decide.{ℕ_discrete}
 use Rattle.std.specs.Option.{option_or}
 use borrow.Author.Tests.{lt-leb, not-false}
 use Rattle.pauli_group.specs.PauliString.{qubits, weight_to}
@@ -12,7 +11,7 @@ use Rattle.pauli.specs.Places.{first_place}
 use Rattle.pauli.specs.Questions.{ask, ◌and_then◌, first_bad, bytes_question}
 use Rattle.pauli.proofs.Asking.{passed, refused, asked_yes, asked_no, ask_done, exit_not, first_not, first_done, done_first, done_second, questions}
 use Rattle.pauli.proofs.Places.{first-is, first-before, FirstSeen, first_start, first_found, first_held, first_past, first_end}
-use Rattle.clifford.specs.Layout.{weight_place, letter_place, letters_of, decode_row, record_length, row_length, row_offset, row_part, tableau_record, width_of, tableau_of, FormedRow, FormedTableau, longest_record}
+use Rattle.clifford.specs.Layout.{weight_place, letter_place, letters_of, decode_row, record_length, row_length, row_offset, row_part, tableau_record, width_of, tableau_of, FormedRow, FormedTableau}
 use Rattle.clifford.specs.Inside.Rows.{Sized, RowIndex, Laid, RowInside, FirstFalse, row_answer}
 use Rattle.clifford.specs.Questions.{width_question, length_question, row_question, rows_question, true_weight, first_false, weights_question, tableau_questions, slot_question}
 use Rattle.clifford.proofs.Rows.{letters-at, letters-long, length_part, row_part_lem}

@@ -6,7 +6,7 @@ use Rattle.pauli.specs.declared.refusal.Refusal.{Refusal}
 use Rattle.pauli.specs.declared.refusal.Refusal.TheVariants.{Gate, Qubit, SameQubit}
 use Rattle.pauli.specs.Answers.{Outcome}
 use Rattle.pauli.specs.Questions.{◌and_then◌}
-use Rattle.pauli.proofs.Asking.{asked_yes, asked_no, ask_done, exit_not, first_not, first_done, and_then_done, done_first, done_second}
+use Rattle.pauli.proofs.Asking.{asked_yes, ask_done, first_not, first_done, and_then_done, done_first, done_second}
 use Rattle.clifford_gates.specs.GateNumbers.{gate_tableau}
 use Rattle.pauli_group.specs.PauliString.{qubits}
 use Rattle.clifford_group.specs.Tableau.{widen}
@@ -18,7 +18,7 @@ use Rattle.clifford.specs.GateAnswers.{gate_record, width_gate_record}
 use Rattle.clifford.specs.Inside.GateRows.{GateOn, GateSpan}
 use Rattle.clifford.specs.Inside.Made.{TableauWritten, GateInside}
 use Rattle.clifford.specs.Promises.{GateWritten, WidthGateWritten}
-use Rattle.clifford.proofs.GateWriting.{width_narrow, gate-width, width_one, width_two, widened_own}
+use Rattle.clifford.proofs.GateWriting.{gate-width, width_one, width_two, widened_own}
 use Rattle.clifford.proofs.Answers.{made-answer, refused-answer}
 
 -- ---- one question
@@ -89,19 +89,6 @@ module _ (w g q r : ℕ) (n : w ≤ 128) (e : (gate_question 38 g and_then qubit
     | yes l ↦ omega (arith, first, width_one g q r l)
     | no l ↦ let m : 24 ≤ g = omega arith in omega (arith, first, second m, width_two g q r m)
   ]
-
--- ---- its width
-module _ {g q r : ℕ} (o : GateOn g q r) where
-  span : {w : ℕ} → w ≡ gate_width g q r → GateSpan g q r w
-  span e = record { is = e; small = width_narrow o e }
-
-  pub span_one : g < 24 → GateSpan g q r (q + 1)
-  span_one h = span (omega (arith, width_one g q r h))
-
-  pub span_two : 24 ≤ g → {m : ℕ} → m ≡ max q r → GateSpan g q r (m + 1)
-  span_two h e = span (omega (arith, e, width_two g q r h))
-
-pub ruleset gate_spans = (span_one, span_two, rules)
 
 -- ---- a gate at its own width
 module _ (g q r : ℕ) where

@@ -5,7 +5,7 @@ use Rattle.std.specs.Result.{result_map_both}
 use Rattle.clifford_group.specs.Conjugation.{Generator, of_x, of_z, row}
 use Rattle.pauli.specs.declared.refusal.Refusal.{Refusal}
 use Rattle.pauli.specs.Questions.{◌and_then◌}
-use Rattle.pauli.proofs.Asking.{in_order, done_first, done_second}
+use Rattle.pauli.proofs.Asking.{done_first, done_second}
 use Rattle.clifford.specs.Layout.{row_offset, encode_row, row_of, width_of, row_part, tableau_of, generator_row, FormedTableau}
 use Rattle.pauli.specs.Answers.{answer_to}
 use Rattle.pauli.proofs.Answers.{answered-done, answered-exit}

@@ -6,12 +6,13 @@ ghost use Rattle.clifford_gates.specs.GateNumbers.{gate_tableau, compose_gate};
 ghost use Rattle.clifford.specs.Layout.{FormedTableau};
 ghost use Rattle.clifford.specs.GateQuestions.{own_qubit_question, qubits_questions};
 ghost use Rattle.clifford.specs.GateAnswers.{named, record_name};
-ghost use Rattle.clifford.specs.Inside.GateRows.{GateOn, GateSpan, BothSmall};
+ghost use Rattle.clifford.specs.Inside.GateRows.{GateOn, GateSpan};
 ghost use Rattle.clifford.specs.Inside.Made.{GateInside, TableauWritten};
 ghost use Rattle.clifford.specs.Promises.{GateWritten, WidthGateWritten, OneQubitGateWritten, SingleQubitCliffordWritten, GateNamed, GatesComposed, GateInverted};
 
-use crate::gates::{first_gate, inverse_number, letter_image, product_number, sent_image};
+use crate::gates::{first_gate, inverse_number, product_number};
 use crate::layout::{letter_at, phase_at, width};
+use crate::numbering::{Gate, OneQubitGate};
 use crate::questions::{check_different, check_gate, check_tableau, check_width};
 use crate::writing::{OfGate, write_made};
 use pauli::QUBITS;
@@ -46,12 +47,14 @@ pub fn check_qubits(width: usize, gate: usize, q: usize, r: usize) -> Result<(),
 
 // ---- tableaux of gates
 
-#[tactic(auto, using(crate::proofs::GateAsking::gate_spans))]
 fn gate_width(gate: usize, q: usize, r: usize) -> usize
     requires { GateOn gate q r }
     ensures { GateSpan gate q r result }
 {
-    if gate < 24 { q + 1 } else { q.max(r) + 1 }
+    match Gate::numbered(gate) {
+        Gate::One(_) => q + 1,
+        Gate::Two(_) => q.max(r) + 1,
+    }
 }
 
 // The record of a gate on its qubits, at this width.
@@ -143,12 +146,11 @@ pub fn from_clifford_rep(t: &[u8]) -> Result<Option<u8>, Refusal>
 // ---- products and inverses by number
 
 // The number of the gate that g after h is.
-fn composed(g: usize, h: usize) -> Option<u8>
-    requires { BothSmall g h }
-    ensures { result ≡ Some (compose_gate g h) }
+fn composed(g: OneQubitGate, h: OneQubitGate) -> Option<u8>
+    ensures { result ≡ Some (compose_gate g.number h.number) }
 {
-    let x = sent_image(g, letter_image(h, 1));
-    let z = sent_image(g, letter_image(h, 2));
+    let x = g.sent_image(h.letter_image(1));
+    let z = g.sent_image(h.letter_image(2));
     first_gate([x.0, x.1, z.0, z.1])
 }
 
@@ -160,7 +162,10 @@ pub fn compose(g: u8, h: u8) -> Result<Option<u8>, Refusal>
     let second = usize::from(h);
     check_gate(24, first)?;
     check_gate(24, second)?;
-    Ok(composed(first, second))
+    Ok(composed(
+        OneQubitGate { number: first },
+        OneQubitGate { number: second },
+    ))
 }
 
 // The inverse of a gate.

@@ -37,8 +37,10 @@ pub trait Generator {
         ensures { result ≡ letter_byte (generator letter) };
 }
 
+#[derive(Clone, Copy, Debug, PartialEq, Eq)]
 pub struct X;
 
+#[derive(Clone, Copy, Debug, PartialEq, Eq)]
 pub struct Z;
 
 impl Generator for X {
@@ -97,10 +99,7 @@ pub fn image<G: Generator>(t: &[u8], slot: usize) -> Result<&[u8], Refusal>
 pub fn image_or_none<G: Generator>(t: &[u8], slot: usize) -> &[u8]
     ensures { result.now ≡ result_unwrap_or (image_part G.letter t.now slot) [] }
 {
-    match image::<G>(t, slot) {
-        Ok(part) => part,
-        Err(_) => &t[0..0],
-    }
+    image::<G>(t, slot).unwrap_or(&t[..0])
 }
 
 // Where in the record that image starts.

@@ -31,16 +31,6 @@ generator_image x z zero = z
 generator_image x z (suc zero) = x
 generator_image x z (suc (suc l)) = z
 
--- a gate on two qubits
-pub record TakesTwo (g : ℕ) : Type 0 where
-  pub from : 24 ≤ g
-  pub below : g < 38
-
--- and a place of its entry where an image starts
-pub record EntryPlace (g k : ℕ) : Type 0 where
-  pub two : TakesTwo g
-  pub inside : k ≤ 9
-
 -- ---- gates found by their images
 
 -- the image that a phase byte and a letter byte hold
@@ -104,8 +94,3 @@ pub record PutsImage (i : RowImage) (d : List ℕ) : Type 0 where
 pub record GateSpan (g q r w : ℕ) : Type 0 where
   pub is : w ≡ gate_width g q r
   pub small : w ≤ 128
-
--- two one-qubit gates
-pub record BothSmall (g h : ℕ) : Type 0 where
-  pub first : g < 24
-  pub second : h < 24

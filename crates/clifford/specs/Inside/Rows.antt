@@ -8,7 +8,7 @@ use Rattle.pauli.specs.Layout.{phase_byte, phase_of, letter_byte, letter_of, enc
 use Rattle.pauli.specs.Rows.{largest_to}
 use Rattle.pauli.specs.Answers.{Answer, answer_to}
 use Rattle.clifford.specs.Questions.{row_question, true_weight, first_false}
-use Rattle.clifford.specs.Layout.{row_length, encode_row, letter_in, letters_of, row_part, row_offset, record_length, longest_record, width_of, FormedTableau, row_of, tableau_of}
+use Rattle.clifford.specs.Layout.{row_length, encode_row, letters_of, row_part, row_offset, record_length, longest_record, width_of, FormedTableau, row_of}
 use Rattle.pauli.specs.Places.{listed}
 
 -- r is the size or offset n in a record

@@ -2,7 +2,7 @@
 use Rattle.std.specs.Prelude.{◌≡◌, ℕ, ◌+◌, ◌*◌, ◌<◌, ◌≤◌, List, length}
 use Rattle.pauli_group.specs.PauliString.{PauliString, scale, commutation_sign, Within}
 use Rattle.pauli.specs.Layout.{string_of, WellFormed}
-use Rattle.clifford.specs.Layout.{width_of, tableau_of, FormedTableau}
+use Rattle.clifford.specs.Layout.{width_of, FormedTableau}
 use Rattle.clifford.specs.Images.{pauli_width}
 
 -- ---- an image set

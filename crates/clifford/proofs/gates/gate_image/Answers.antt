@@ -5,8 +5,8 @@ use Rattle.clifford.proofs.gates.gate_image.Goals as goal
 pub returns-then-k-q : goal.returns-then-k-q
 returns-then-k-q c = search gate-images
 
-pub returns-then-gate-lt24 : goal.returns-then-gate-lt24
-returns-then-gate-lt24 c = search gate-images
+pub returns-else-k-q : goal.returns-else-k-q
+returns-else-k-q c = search gate-images
 
 pub returns-then-k-q-2 : goal.returns-then-k-q-2
 returns-then-k-q-2 c = search gate-images
@@ -14,5 +14,5 @@ returns-then-k-q-2 c = search gate-images
 pub returns-then-k-r : goal.returns-then-k-r
 returns-then-k-r c = search gate-images
 
-pub returns : goal.returns
-returns c = search gate-images
+pub returns-else-k-r : goal.returns-else-k-r
+returns-else-k-r c = search gate-images

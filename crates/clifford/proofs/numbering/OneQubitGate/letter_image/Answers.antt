@@ -1,6 +1,6 @@
--- `gates::letter_image` meets its contract.
+-- `OneQubitGate::letter_image` meets its contract.
 use Rattle.clifford.proofs.GateImages.{letter-images}
-use Rattle.clifford.proofs.gates.letter_image.Goals as goal
+use Rattle.clifford.proofs.numbering.OneQubitGate.letter_image.Goals as goal
 
 pub returns-in-0 : goal.returns-in-0
 returns-in-0 c = search letter-images
