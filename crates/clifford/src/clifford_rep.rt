@@ -111,6 +111,7 @@ pub fn image_offset<G: Generator>(t: &[u8], slot: usize) -> Result<usize, Refusa
     Ok(row_offset(n, image_row::<G>(n, slot)))
 }
 
+#[tactic(auto, using(pauli::proofs::Asking::by_questions), unfolding(crate::specs::Questions::set_questions, crate::specs::Questions::apply_questions))]
 fn check_set(t: &[u8], slot: usize, s: &[u8]) -> Result<(), Refusal>
     ensures { result ≡ set_questions t.now slot s.now }
 {
@@ -210,6 +211,7 @@ pub fn from_pauli_string(s: &[u8], dst: &mut [u8]) -> Result<(), Refusal>
 
 // ---- support_qubits
 
+#[tactic(auto, using(pauli::proofs::Asking::by_questions), unfolding(crate::specs::Questions::support_answer))]
 fn check_support(t: &[u8], room: usize) -> Result<(), Refusal>
     ensures { result ≡ support_answer t.now room }
 {
@@ -229,6 +231,7 @@ pub fn support_qubits(t: &[u8], dst: &mut [u8]) -> Result<usize, Refusal>
 
 // ---- display
 
+#[tactic(auto, using(pauli::proofs::Asking::by_questions), unfolding(crate::specs::Display::display_answer))]
 fn check_display(t: &[u8], room: usize) -> Result<(), Refusal>
     ensures { result ≡ display_answer t.now room }
 {
