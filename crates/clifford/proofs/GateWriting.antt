@@ -26,7 +26,7 @@ use Rattle.clifford.specs.Inside.Rows.{ClearRow, WorkPlace, row_times, cleared_r
 use Rattle.clifford.specs.Inside.Writing.{IsGenerator}
 use Rattle.clifford.specs.GateQuestions.{gate_width}
 use Rattle.clifford.specs.GateRows.{ImageOf}
-use Rattle.clifford.specs.Inside.GateRows.{GateSpan, pair_bytes, PairOf, generator_image, row_image_string, OneRow, entry_pair, RowImageOf, GateOn, ImageAsked, PutsImage}
+use Rattle.clifford.specs.Inside.GateRows.{GateSpan, pair_bytes, PairOf, generator_image, row_image_string, OneRow, entry_pair, RowImageOf, GateOn, PutsImage}
 use Rattle.clifford.proofs.GateImages.{at-x0, at-x1, at-z0, at-z1}
 use Rattle.clifford.proofs.RowWriting.{encoded_row}
 use Rattle.clifford.proofs.Apply.{length_cleared, cleared_formed}
@@ -182,7 +182,7 @@ module _ (g q r k : ℕ) where
         ∙ sym (ap₂ (pair_at_row l) (ne_eqb k q (λ e. omega arith)) (ne_eqb k r (λ e. omega arith)))
   ]
 
-  module _ {l : ℕ} (a : ImageAsked g q r l) where
+  module _ {l : ℕ} (a : IsGenerator l) where
     abbrev W : ℕ
     W = max (gate_width g q r) (suc k)
 
@@ -200,13 +200,13 @@ module _ (g q r k : ℕ) where
       pub own_row : {i : RowImage} → k ≡ q → OneRow (image_string (letter_image (one_qubit_gate x.number) (letter_of l)) k) k i
           → RowImageOf W (image_of T k (letter_of l)) i
       own_row e o = row_one_is x.number o (
-          image_one l a.letter low
+          image_one l a low
           ∙ ap (λ b. image_string (letter_image (one_qubit_gate (cond b g 0)) (letter_of l)) k) (eq-eqb k q e)
           ∙ ap (λ (j : ℕ). image_string (letter_image (one_qubit_gate j) (letter_of l)) k) (sym own_number))
 
       pub away_row : {i : RowImage} → (k ≡ q → ⊥) → OneRow (image_string (letter_image (one_qubit_gate 0) (letter_of l)) k) k i
           → RowImageOf W (image_of T k (letter_of l)) i
-      away_row d o = row_one_is 0 o (image_one l a.letter low ∙ ap (λ b. image_string (letter_image (one_qubit_gate (cond b g 0)) (letter_of l)) k) (ne_eqb k q d))
+      away_row d o = row_one_is 0 o (image_one l a low ∙ ap (λ b. image_string (letter_image (one_qubit_gate (cond b g 0)) (letter_of l)) k) (ne_eqb k q d))
 
     module _ {G : Gate} {x : TwoQubitGate} (n : gate_number G ≡ g) (is : G ≡ Two x) where
       pair_number : x.number ≡ g
@@ -217,7 +217,7 @@ module _ (g q r k : ℕ) where
 
       pub other_row : {i : RowImage} → (k ≡ q → ⊥) → (k ≡ r → ⊥) → OneRow (image_string (letter_image (one_qubit_gate 0) (letter_of l)) k) k i
           → RowImageOf W (image_of T k (letter_of l)) i
-      other_row d e o = row_one_is 0 o (image_two l a.letter high ∙ ap₂ (pair_at_row l) (ne_eqb k q d) (ne_eqb k r e) ∙ sym (itself l a.letter))
+      other_row d e o = row_one_is 0 o (image_two l a high ∙ ap₂ (pair_at_row l) (ne_eqb k q d) (ne_eqb k r e) ∙ sym (itself l a))
 
       pair_row_lem : {y : RowImage} (i : PairImage) (p : ℕ) → PairOf i (entry_pair (pair_bytes (two_qubit_gate g)) p q r) → image_of T k (letter_of l) ≡ pair_string i q r
           → y ≡ entry_pair (pair_bytes (two_qubit_gate g)) p q r → RowImageOf W (image_of T k (letter_of l)) y
@@ -238,8 +238,8 @@ module _ (g q r k : ℕ) where
         unfolding generator_image
         first-row e h =
             pair_row_lem (first_of l) (6 * l - 6)
-            (by_generator (λ (j : ℕ). PairOf (first_of j) (entry_pair (pair_bytes (two_qubit_gate g)) (6 * j - 6) q r)) (at-x0 (two_qubit_gate g) q r) (at-z0 (two_qubit_gate g) q r) l a.letter)
-            (image_two l a.letter high ∙ ap (λ b. pair_at_row l b (eqb k r)) (eq-eqb k q e))
+            (by_generator (λ (j : ℕ). PairOf (first_of j) (entry_pair (pair_bytes (two_qubit_gate g)) (6 * j - 6) q r)) (at-x0 (two_qubit_gate g) q r) (at-z0 (two_qubit_gate g) q r) l a)
+            (image_two l a high ∙ ap (λ b. pair_at_row l b (eqb k r)) (eq-eqb k q e))
             (h ∙ entry_of (6 * m - 6) ∙ ap (λ (j : ℕ). entry_pair (pair_bytes (two_qubit_gate g)) (6 * j - 6) q r) em)
 
         pub second-row : {y : RowImage} → (k ≡ q → ⊥) → k ≡ r → y ≡ entry_pair (pair_bytes (two_qubit_gate x.number)) (6 * m - 3) q r
@@ -247,29 +247,26 @@ module _ (g q r k : ℕ) where
         unfolding generator_image
         second-row d e h =
             pair_row_lem (second_of l) (6 * l - 3)
-            (by_generator (λ (j : ℕ). PairOf (second_of j) (entry_pair (pair_bytes (two_qubit_gate g)) (6 * j - 3) q r)) (at-x1 (two_qubit_gate g) q r) (at-z1 (two_qubit_gate g) q r) l a.letter)
-            (image_two l a.letter high ∙ ap₂ (pair_at_row l) (ne_eqb k q d) (eq-eqb k r e))
+            (by_generator (λ (j : ℕ). PairOf (second_of j) (entry_pair (pair_bytes (two_qubit_gate g)) (6 * j - 3) q r)) (at-x1 (two_qubit_gate g) q r) (at-z1 (two_qubit_gate g) q r) l a)
+            (image_two l a high ∙ ap₂ (pair_at_row l) (ne_eqb k q d) (eq-eqb k r e))
             (h ∙ entry_of (6 * m - 3) ∙ ap (λ (j : ℕ). entry_pair (pair_bytes (two_qubit_gate g)) (6 * j - 3) q r) em)
 
-module _ {g q r l : ℕ} (a : ImageAsked g q r l) where
-  pub gate_asked : g < 38
-  gate_asked = a.on.gate
-
+module _ {l : ℕ} (a : IsGenerator l) where
   module _ {n : ℕ} (en : n ≡ l) where
     pub row_fits : Fits w64 (6 * n)
-    row_fits = record { fits = omega (arith, a.letter.small) }
+    row_fits = record { fits = omega (arith, a.small) }
 
     pub row_first : 6 ≤ 6 * n
-    row_first = omega (arith, a.letter.some)
+    row_first = omega (arith, a.some)
 
     pub row-second : 3 ≤ 6 * n
-    row-second = omega (arith, a.letter.some)
+    row-second = omega (arith, a.some)
 
     pub place_first : 6 * n - 6 ≤ 9
-    place_first = omega (arith, a.letter.small)
+    place_first = omega (arith, a.small)
 
     pub place_second : 6 * n - 3 ≤ 9
-    place_second = omega (arith, a.letter.small)
+    place_second = omega (arith, a.small)
 
 pub ruleset gate-images = (
   own_row,
@@ -277,7 +274,6 @@ pub ruleset gate-images = (
   other_row,
   first-row,
   second-row,
-  gate_asked,
   row_fits,
   row_first,
   row-second,

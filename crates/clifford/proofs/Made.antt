@@ -23,7 +23,8 @@ use Rattle.clifford.specs.GateQuestions.{gate_width}
 use Rattle.clifford.specs.Inside.Rows.{Sized, Finished, AppliesString, AppliesLetter, row_written, letters_in, string_in}
 use Rattle.clifford.specs.Inside.Writing.{PauliRow, conjugated}
 use Rattle.clifford.specs.Inside.InverseRows.{InvertsRow}
-use Rattle.clifford.specs.Inside.GateRows.{row_image_string, RowImageOf, ImageAsked, PutsImage}
+use Rattle.clifford.specs.Inside.Writing.{IsGenerator}
+use Rattle.clifford.specs.Inside.GateRows.{row_image_string, RowImageOf, PutsImage}
 use Rattle.clifford.specs.Inside.Made.{Made, MakesRow, WritesRow, WritesAll, Widens, Composes, Spans, GateInside}
 use Rattle.clifford.proofs.Rows.{width_of_lem, rows-within, some_bytes}
 use Rattle.clifford.proofs.Records.{proper_of}
@@ -171,10 +172,10 @@ module _ {w r : ℕ} {s k : List ℕ} (o : MakesRow w r s k) where
         pauli_made ek =
             held ek (ap (conjugated (string_of t)) (ap₂ single (letter_of-row w r el) eq) ∙ sym (row_pauli (string_of t) w r d.wide.is o.own))
 
-      module _ {g p v : ℕ} (i : GateInside g p v w) where
-        pub gate-asked : ImageAsked g p v l
-        gate-asked = record { on = i.on; letter = generator-is w r el }
+      pub row_generator : IsGenerator l
+      row_generator = generator-is w r el
 
+      module _ {g p v : ℕ} (i : GateInside g p v w) where
         module _ {x : RowImage} (im : RowImageOf (max (gate_width g p v) (suc q)) (image_of (gate_tableau g p v) q (letter_of l)) x) where
           pub gate_puts : PutsImage x k
           gate_puts = record {
@@ -199,7 +200,7 @@ pub ruleset made_rows = (
   inverse_here,
   pauli_here,
   pauli_made,
-  gate-asked,
+  row_generator,
   gate_puts,
   gate_row,
   rules,

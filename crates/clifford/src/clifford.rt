@@ -6,13 +6,12 @@ ghost use Rattle.clifford_gates.specs.GateNumbers.{gate_tableau, compose_gate};
 ghost use Rattle.clifford.specs.Layout.{FormedTableau};
 ghost use Rattle.clifford.specs.GateQuestions.{own_qubit_question, qubits_questions};
 ghost use Rattle.clifford.specs.GateAnswers.{named, record_name};
-ghost use Rattle.clifford.specs.Inside.GateRows.{GateOn, GateSpan};
 ghost use Rattle.clifford.specs.Inside.Made.{GateInside, TableauWritten};
 ghost use Rattle.clifford.specs.Promises.{GateWritten, WidthGateWritten, OneQubitGateWritten, SingleQubitCliffordWritten, GateNamed, GatesComposed, GateInverted};
 
 use crate::gates::{first_gate, inverse_number, product_number};
 use crate::layout::{letter_at, phase_at, width};
-use crate::numbering::{Gate, OneQubitGate};
+use crate::numbering::{OneQubitGate, PlacedGate};
 use crate::questions::{check_different, check_gate, check_tableau, check_width};
 use crate::writing::{OfGate, write_made};
 use pauli::QUBITS;
@@ -47,34 +46,12 @@ pub fn check_qubits(width: usize, gate: usize, q: usize, r: usize) -> Result<(),
 
 // ---- tableaux of gates
 
-fn gate_width(gate: usize, q: usize, r: usize) -> usize
-    requires { GateOn gate q r }
-    ensures { GateSpan gate q r result }
-{
-    match Gate::numbered(gate) {
-        Gate::One(_) => q + 1,
-        Gate::Two(_) => q.max(r) + 1,
-    }
-}
-
 // The record of a gate on its qubits, at this width.
-fn write_gate(
-    gate: usize,
-    first: usize,
-    second: usize,
-    width: usize,
-    dst: &mut [u8],
-) -> Result<(), Refusal>
-    requires { GateInside gate first second width }
-    ensures { TableauWritten width (widen width (gate_tableau gate first second)) dst.old dst.new result }
+fn write_gate(gate: PlacedGate, width: usize, dst: &mut [u8]) -> Result<(), Refusal>
+    requires { GateInside gate.number gate.first gate.second width }
+    ensures { TableauWritten width (widen width (gate_tableau gate.number gate.first gate.second)) dst.old dst.new result }
 {
-    let made = OfGate {
-        gate,
-        first,
-        second,
-        width,
-    };
-    write_made(&made, dst)
+    write_made(&OfGate { gate, width }, dst)
 }
 
 // A gate on its qubits; the second is not looked at for gates 0 to 23.
@@ -84,7 +61,12 @@ pub fn on_qubits(gate: u8, q0: usize, q1: usize, dst: &mut [u8]) -> Result<(), R
     let g = usize::from(gate);
     check_gate(38, g)?;
     check_qubits(QUBITS, g, q0, q1)?;
-    write_gate(g, q0, q1, gate_width(g, q0, q1), dst)
+    let placed = PlacedGate {
+        number: g,
+        first: q0,
+        second: q1,
+    };
+    write_gate(placed, placed.width(), dst)
 }
 
 // A gate on its qubits, at the width n; the second is not looked at for gates 0 to 23.
@@ -95,7 +77,12 @@ pub fn on_width(n: usize, gate: u8, q0: usize, q1: usize, dst: &mut [u8]) -> Res
     check_width(n)?;
     check_gate(38, g)?;
     check_qubits(n, g, q0, q1)?;
-    write_gate(g, q0, q1, n, dst)
+    let placed = PlacedGate {
+        number: g,
+        first: q0,
+        second: q1,
+    };
+    write_gate(placed, n, dst)
 }
 
 // A one-qubit gate on its qubit.
@@ -105,7 +92,12 @@ pub fn on_qubit(gate: u8, q: usize, dst: &mut [u8]) -> Result<(), Refusal>
     let g = usize::from(gate);
     check_gate(24, g)?;
     check_qubit(q)?;
-    write_gate(g, q, q, q + 1, dst)
+    let placed = PlacedGate {
+        number: g,
+        first: q,
+        second: q,
+    };
+    write_gate(placed, q + 1, dst)
 }
 
 // One of the 24 products of H and SZ, by its index.
@@ -114,7 +106,12 @@ pub fn single_qubit_clifford(index: usize, qubit: usize, dst: &mut [u8]) -> Resu
 {
     check_gate(24, index)?;
     check_qubit(qubit)?;
-    write_gate(product_number(index), qubit, qubit, qubit + 1, dst)
+    let placed = PlacedGate {
+        number: product_number(index),
+        first: qubit,
+        second: qubit,
+    };
+    write_gate(placed, qubit + 1, dst)
 }
 
 // ---- names

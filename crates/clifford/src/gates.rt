@@ -10,10 +10,11 @@ ghost use Rattle.clifford.specs.Inside.Rows.{letters_in};
 ghost use Rattle.clifford.specs.GateQuestions.{gate_width};
 ghost use Rattle.clifford.specs.GateAnswers.{named};
 ghost use Rattle.clifford.specs.GateRows.{image_bytes, y_bytes, ImageOf};
-ghost use Rattle.clifford.specs.Inside.GateRows.{pair_bytes, image_held, first_entry, entry_pair, OneRow, ImageAsked, RowImageOf, row_image_string, PutsImage};
+ghost use Rattle.clifford.specs.Inside.Writing.{IsGenerator};
+ghost use Rattle.clifford.specs.Inside.GateRows.{pair_bytes, image_held, first_entry, entry_pair, OneRow, RowImageOf, row_image_string, GateSpan, PutsImage};
 
 use crate::applying::{clear_row, multiply_letter};
-use crate::numbering::{Gate, OneQubitGate, TwoQubitGate};
+use crate::numbering::{Gate, OneQubitGate, PlacedGate, TwoQubitGate};
 use pauli::algebra::{PhasedLetter, multiply_paulis};
 use pauli::rows::phase_times;
 
@@ -205,27 +206,39 @@ pub(crate) fn inverse_number(gate: usize) -> u8
 
 // ---- rows
 
-// A gate's image of X or of Z on qubit k, also where the gate's tableau is narrower.
-pub(crate) fn gate_image(gate: usize, q: usize, r: usize, k: usize, letter: u8) -> RowImage
-    requires { ImageAsked gate q r letter }
-    ensures { RowImageOf (max (gate_width gate q r) (suc k)) (image_of (gate_tableau gate q r) k (letter_of letter)) result }
-{
-    match Gate::numbered(gate) {
-        Gate::One(own) => {
-            if k == q {
-                own.row_image(k, letter)
-            } else {
-                IDENTITY.row_image(k, letter)
-            }
+impl PlacedGate {
+    // The width of its tableau.
+    pub(crate) fn width(self) -> usize
+        ensures { GateSpan self.number self.first self.second result }
+    {
+        match Gate::numbered(self.number) {
+            Gate::One(_) => self.first + 1,
+            Gate::Two(_) => self.first.max(self.second) + 1,
         }
-        Gate::Two(own) => {
-            let row = 6 * usize::from(letter);
-            if k == q {
-                own.row_image(row - 6, q, r)
-            } else if k == r {
-                own.row_image(row - 3, q, r)
-            } else {
-                IDENTITY.row_image(k, letter)
+    }
+
+    // Its image of X or of Z on qubit k, also where its tableau is narrower.
+    pub(crate) fn image(self, k: usize, letter: u8) -> RowImage
+        requires { IsGenerator letter }
+        ensures { RowImageOf (max (gate_width self.number self.first self.second) (suc k)) (image_of (gate_tableau self.number self.first self.second) k (letter_of letter)) result }
+    {
+        match Gate::numbered(self.number) {
+            Gate::One(own) => {
+                if k == self.first {
+                    own.row_image(k, letter)
+                } else {
+                    IDENTITY.row_image(k, letter)
+                }
+            }
+            Gate::Two(own) => {
+                let row = 6 * usize::from(letter);
+                if k == self.first {
+                    own.row_image(row - 6, self.first, self.second)
+                } else if k == self.second {
+                    own.row_image(row - 3, self.first, self.second)
+                } else {
+                    IDENTITY.row_image(k, letter)
+                }
             }
         }
     }

@@ -1,5 +1,6 @@
 // Gates by their numbers: 0 to 23 are on one qubit, 24 to 37 on two.
 ghost use Rattle.std.specs.Prelude.{◌≡◌, ◌<◌, ◌≤◌};
+ghost use Rattle.clifford.specs.Inside.GateRows.{GateOn};
 
 #[derive(Clone, Copy)]
 pub(crate) struct OneQubitGate {
@@ -18,6 +19,15 @@ pub(crate) struct TwoQubitGate {
 pub(crate) enum Gate {
     One(OneQubitGate),
     Two(TwoQubitGate),
+}
+
+// A gate on its qubits; the second is not looked at for gates 0 to 23.
+#[derive(Clone, Copy)]
+pub(crate) struct PlacedGate {
+    pub(crate) number: usize,
+    pub(crate) first: usize,
+    pub(crate) second: usize,
+    ghost on: { GateOn number first second },
 }
 
 impl Gate {

@@ -7,7 +7,6 @@ use Rattle.clifford_gates.specs.GateNumbers.{first_with}
 use Rattle.pauli.specs.Layout.{phase_byte, phase_of, letter_byte, letter_of}
 use Rattle.pauli.specs.declared.algebra.PhasedLetter.{PhasedLetter}
 use Rattle.clifford.specs.declared.gates.RowImage.{RowImage}
-use Rattle.clifford.specs.Inside.Writing.{IsGenerator}
 use Rattle.clifford.specs.GateQuestions.{gate_width}
 use Rattle.clifford.specs.GateRows.{image_bytes}
 
@@ -77,11 +76,6 @@ pub record GateOn (g q r : ℕ) : Type 0 where
   pub first : q < 128
   pub second : 24 ≤ g → r < 128
   pub different : 24 ≤ g → q ≢ r
-
--- the same, with X or Z
-pub record ImageAsked (g q r l : ℕ) : Type 0 where
-  pub on : GateOn g q r
-  pub letter : IsGenerator l
 
 -- an image, and a work row of any content that it fits
 pub record PutsImage (i : RowImage) (d : List ℕ) : Type 0 where

@@ -2,8 +2,8 @@
 use Rattle.clifford.proofs.Made.{made_rows}
 use Rattle.clifford.proofs.writing.OfGateRowMaker.make_row.Goals as goal
 
-pub gate_image-image-requires : goal.gate_image-image-requires
-gate_image-image-requires c = search made_rows
+pub image-requires : goal.image-requires
+image-requires c = search made_rows
 
 pub put_image-requires : goal.put_image-requires
 put_image-requires c = search made_rows

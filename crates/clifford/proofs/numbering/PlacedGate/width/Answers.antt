@@ -1,6 +1,6 @@
--- `clifford::gate_width` meets its contract.
+-- `PlacedGate::width` meets its contract.
 use Rattle.clifford.proofs.GateWriting.{gate_spans}
-use Rattle.clifford.proofs.clifford.gate_width.Goals as goal
+use Rattle.clifford.proofs.numbering.PlacedGate.width.Goals as goal
 
 pub returns-in-One : goal.returns-in-One
 returns-in-One c = search gate_spans
