@@ -117,6 +117,7 @@ pub fn single_qubit_clifford(index: usize, qubit: usize, dst: &mut [u8]) -> Resu
 // ---- names
 
 // The number of the gate that a tableau is.
+#[tactic(auto, using(crate::proofs::GateNaming::record_names))]
 fn name_of(t: &[u8]) -> Option<u8>
     requires { FormedTableau t.now }
     ensures { result ≡ named (record_name t.now) }
@@ -143,6 +144,7 @@ pub fn from_clifford_rep(t: &[u8]) -> Result<Option<u8>, Refusal>
 // ---- products and inverses by number
 
 // The number of the gate that g after h is.
+#[tactic(auto, using(crate::proofs::GateNaming::composed_names))]
 fn composed(g: OneQubitGate, h: OneQubitGate) -> Option<u8>
     ensures { result ≡ Some (compose_gate g.number h.number) }
 {

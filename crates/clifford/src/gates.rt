@@ -169,6 +169,7 @@ impl TwoQubitGate {
 // ---- gates found by their images or by number
 
 // The first gate, by number, whose images of X and of Z, phase and letter, are these.
+#[tactic(auto, using(crate::proofs::GateNaming::gate_searches))]
 pub(crate) fn first_gate(images: [u8; 4]) -> Option<u8>
     ensures { result ≡ named (first_entry images) }
 {

@@ -28,6 +28,7 @@ fn is_playable(gate: usize, q: usize, r: usize, t: &[u8]) -> bool
 
 // A one-qubit gate on each row, by its table. This loop and the next are no generic function: what the function that changes a row may
 // count on, and that it reaches no other row, would be clauses longer than the loop.
+#[tactic(auto, using(crate::proofs::Play::plays))]
 fn play_letters(tables: &[[[u8; 4]; 2]; 24], gate: OneQubitGate, q: usize, t: &mut [u8])
     requires { PlaysLetters q t.old }
     ensures { t.new ≡ each_row (letter_table_on_row (slice_index_or tables.now gate.number []) q) t.old }
@@ -41,6 +42,7 @@ fn play_letters(tables: &[[[u8; 4]; 2]; 24], gate: OneQubitGate, q: usize, t: &m
 }
 
 // A two-qubit gate on each row, by its table.
+#[tactic(auto, using(crate::proofs::Play::plays))]
 fn play_pairs(tables: &[[[u8; 16]; 4]; 14], gate: TwoQubitGate, q: usize, r: usize, t: &mut [u8])
     requires { PlaysPairs q r t.old }
     ensures { t.new ≡ each_row (pair_table_on_row (slice_index_or tables.now (gate.number - 24) []) q r) t.old }

@@ -2,8 +2,5 @@
 use Rattle.clifford.proofs.GateNaming.{gate_searches}
 use Rattle.clifford.proofs.gates.first_gate.Goals as goal
 
-pub returns-then-gate-ge24 : goal.returns-then-gate-ge24
-returns-then-gate-ge24 c = search gate_searches
-
 pub returns-then-eq : goal.returns-then-eq
 returns-then-eq c = search gate_searches
