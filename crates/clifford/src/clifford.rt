@@ -55,6 +55,7 @@ fn write_gate(gate: PlacedGate, width: usize, dst: &mut [u8]) -> Result<(), Refu
 }
 
 // A gate on its qubits; the second is not looked at for gates 0 to 23.
+#[tactic(auto, using(crate::proofs::GateAsking::gate_answers))]
 pub fn on_qubits(gate: u8, q0: usize, q1: usize, dst: &mut [u8]) -> Result<(), Refusal>
     ensures { GateWritten gate q0 q1 dst.old dst.new result }
 {
@@ -70,6 +71,7 @@ pub fn on_qubits(gate: u8, q0: usize, q1: usize, dst: &mut [u8]) -> Result<(), R
 }
 
 // A gate on its qubits, at the width n; the second is not looked at for gates 0 to 23.
+#[tactic(auto, using(crate::proofs::GateAsking::width_answers))]
 pub fn on_width(n: usize, gate: u8, q0: usize, q1: usize, dst: &mut [u8]) -> Result<(), Refusal>
     ensures { WidthGateWritten n gate q0 q1 dst.old dst.new result }
 {
@@ -86,6 +88,7 @@ pub fn on_width(n: usize, gate: u8, q0: usize, q1: usize, dst: &mut [u8]) -> Res
 }
 
 // A one-qubit gate on its qubit.
+#[tactic(auto, using(crate::proofs::GateAnswers::one_qubit_answers))]
 pub fn on_qubit(gate: u8, q: usize, dst: &mut [u8]) -> Result<(), Refusal>
     ensures { OneQubitGateWritten gate q dst.old dst.new result }
 {
@@ -101,6 +104,7 @@ pub fn on_qubit(gate: u8, q: usize, dst: &mut [u8]) -> Result<(), Refusal>
 }
 
 // One of the 24 products of H and SZ, by its index.
+#[tactic(auto, using(crate::proofs::GateAnswers::one_qubit_answers))]
 pub fn single_qubit_clifford(index: usize, qubit: usize, dst: &mut [u8]) -> Result<(), Refusal>
     ensures { SingleQubitCliffordWritten index qubit dst.old dst.new result }
 {
@@ -134,6 +138,7 @@ fn name_of(t: &[u8]) -> Option<u8>
 }
 
 // The first of the 24 gates, by number, whose tableau on qubit 0 this is. None, unless it has width 1 and is valid.
+#[tactic(auto, using(crate::proofs::GateAnswers::name_answers))]
 pub fn from_clifford_rep(t: &[u8]) -> Result<Option<u8>, Refusal>
     ensures { GateNamed t.now result }
 {
@@ -168,6 +173,7 @@ pub fn compose(g: u8, h: u8) -> Result<Option<u8>, Refusal>
 }
 
 // The inverse of a gate.
+#[tactic(auto, using(crate::proofs::GateAnswers::gate_numbers))]
 pub fn inverse(g: u8) -> Result<Option<u8>, Refusal>
     ensures { GateInverted g result }
 {

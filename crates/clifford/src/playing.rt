@@ -56,6 +56,7 @@ fn play_pairs(tables: &[[[u8; 16]; 4]; 14], gate: TwoQubitGate, q: usize, r: usi
 }
 
 // `play_gate` by tables that are lent.
+#[tactic(auto, using(crate::proofs::Play::playing))]
 pub fn play_with(
     ones: &[[[u8; 4]; 2]; 24],
     twos: &[[[u8; 16]; 4]; 14],

@@ -11,11 +11,5 @@ returns-in_err-check_gate c = rw (← c.from-g.ensures) (search (width_answers, 
 pub returns-in_err-check_qubits : goal.returns-in_err-check_qubits
 returns-in_err-check_qubits c = rw (← c.from-g.ensures) (search (width_answers, c.in_err-check_qubits.ensures, c.in_ok-check_width.ensures, c.in_ok-check_gate.ensures))
 
-pub invariant_of-placed : goal.invariant_of-placed
-invariant_of-placed c = record { on = (width-inside _ _ _ _ c.in_ok-check_width.ensures c.in_ok-check_gate.ensures c.in_ok-check_qubits.ensures).on }
-
-pub write_gate-requires : goal.write_gate-requires
-write_gate-requires c = search (width_answers, c.in_ok-check_width.ensures, c.in_ok-check_gate.ensures, c.in_ok-check_qubits.ensures)
-
 pub returns : goal.returns
 returns c = rw (← c.from-g.ensures) (search (width_answers, c.in_ok-check_width.ensures, c.in_ok-check_gate.ensures, c.in_ok-check_qubits.ensures))

@@ -8,17 +8,8 @@ returns-in_err-check_gate c = search (one_qubit_answers, c.in_err-check_gate.ens
 pub returns-in_err-check_qubit : goal.returns-in_err-check_qubit
 returns-in_err-check_qubit c = search (one_qubit_answers, c.in_err-check_qubit.ensures, c.in_ok-check_gate.ensures)
 
-pub product_number-requires : goal.product_number-requires
-product_number-requires c = search (one_qubit_answers, c.in_ok-check_gate.ensures)
-
-pub overflow_add-qubit : goal.overflow_add-qubit
-overflow_add-qubit c = search (one_qubit_answers, c.in_ok-check_gate.ensures, c.in_ok-check_qubit.ensures)
-
 pub invariant_of-placed : goal.invariant_of-placed
 invariant_of-placed c = record { on = (product-inside _ _ c.in_ok-check_gate.ensures c.in_ok-check_qubit.ensures c.product_number.ensures).on }
-
-pub write_gate-requires : goal.write_gate-requires
-write_gate-requires c = search (one_qubit_answers, c.in_ok-check_gate.ensures, c.in_ok-check_qubit.ensures)
 
 pub returns : goal.returns
 returns c = search (one_qubit_answers, c.in_ok-check_gate.ensures, c.in_ok-check_qubit.ensures)

@@ -2,15 +2,6 @@
 use Rattle.clifford.proofs.Play.{playing}
 use Rattle.clifford.proofs.playing.play_with.Goals as goal
 
-pub returns-then-not-is_playable : goal.returns-then-not-is_playable
-returns-then-not-is_playable c = search playing
-
-pub numbered-requires : goal.numbered-requires
-numbered-requires c = search playing
-
-pub play_letters-requires : goal.play_letters-requires
-play_letters-requires c = search playing
-
 pub play_pairs-requires : goal.play_pairs-requires
 play_pairs-requires c = search playing
 
