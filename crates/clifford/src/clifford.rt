@@ -20,7 +20,8 @@ use pauli::refusal::Refusal;
 
 // ---- questions
 
-// A qubit of a gate on a tableau of this width.
+// A qubit of a gate on a tableau of this width. At width 128 it is pauli's `check_qubit`, which promises its callers a question that
+// names no width.
 #[tactic(auto, using(pauli::proofs::Asking::by_tests), unfolding(crate::specs::GateQuestions::own_qubit_question))]
 fn check_own_qubit(width: usize, qubit: usize) -> Result<(), Refusal>
     ensures { result ≡ own_qubit_question width qubit }
@@ -31,7 +32,7 @@ fn check_own_qubit(width: usize, qubit: usize) -> Result<(), Refusal>
     Err(Refusal::Qubit { qubit })
 }
 
-// The qubits of a gate; the second is not looked at for a one-qubit gate.
+// The qubits of a gate, of any number; the second is not looked at for gates 0 to 23.
 #[tactic(auto, using(pauli::proofs::Asking::by_questions), unfolding(crate::specs::GateQuestions::qubits_questions))]
 pub fn check_qubits(width: usize, gate: usize, q: usize, r: usize) -> Result<(), Refusal>
     ensures { result ≡ qubits_questions width gate q r }

@@ -9,7 +9,7 @@ use crate::numbering::{Gate, OneQubitGate, TwoQubitGate};
 use crate::tables::{letter_tables, pair_tables};
 use pauli::QUBITS;
 
-// Whether the second qubit of a two-qubit gate is below the width and another than the first.
+// Whether the second qubit of a two-qubit gate is below the width and another than the first. The gate may be any number.
 #[tactic(auto, unfolding(crate::specs::Playing::second_fits))]
 fn second_fits(gate: usize, q: usize, r: usize, width: usize) -> bool
     ensures { result ≡ second_fits gate q r width }
@@ -26,8 +26,8 @@ fn is_playable(gate: usize, q: usize, r: usize, t: &[u8]) -> bool
     gate < 38 && q < n && second_fits(gate, q, r, n) && n <= QUBITS && t.len() == record_length(n)
 }
 
-// A one-qubit gate on each row, by its table. This loop and the next are no generic function: what the function that changes a row may
-// count on, and that it reaches no other row, would be clauses longer than the loop.
+// A one-qubit gate on each row, by its table. This loop and the next are no generic function: a trait of row changes would state what
+// a change may count on and that it reaches no other row, and with its two implementations be longer than both loops.
 #[tactic(auto, using(crate::proofs::Play::plays))]
 fn play_letters(tables: &[[[u8; 4]; 2]; 24], gate: OneQubitGate, q: usize, t: &mut [u8])
     requires { PlaysLetters q t.old }
