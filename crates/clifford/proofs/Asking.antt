@@ -20,10 +20,6 @@ use Rattle.pauli.specs.Answers.{Outcome, answer_to}
 use Rattle.pauli.proofs.Answers.{exit-is}
 
 -- ---- width, length, slot
-pub width-wide : {n : ℕ} → 128 < n → Err Width ≡ width_question n
-unfolding width_question qubits
-width-wide {n} h = asked_no Width (lt-leb n 128 h)
-
 pub width_narrow : {n : ℕ} → n ≤ 128 → Ok tt ≡ width_question n
 unfolding width_question qubits
 width_narrow {n} h = asked_yes Width (le-leb n 128 h)
@@ -278,10 +274,7 @@ module _ (b : List ℕ) (some : length b ≡ 0 → ⊥) where
 
 pub ruleset tableau-questions = (
   questions,
-  width-wide,
-  width_narrow,
-  slot_in,
-  slot-out,
+  width_done,
   tableau-none,
   width-none,
   tableau-wide,

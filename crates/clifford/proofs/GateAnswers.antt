@@ -17,7 +17,6 @@ use Rattle.clifford.specs.GateQuestions.{gate_question, on_qubit_questions, on_q
 use Rattle.pauli.proofs.Answers.{answered-done, answered-exit}
 use Rattle.clifford.specs.GateAnswers.{GateAnswered, one_qubit_record, single_qubit_clifford_record}
 use Rattle.clifford.specs.Promises.{OneQubitGateWritten, SingleQubitCliffordWritten}
-use Rattle.clifford.specs.Inside.GateRows.{BothSmall}
 use Rattle.clifford.proofs.Asking.{checked}
 use Rattle.clifford.proofs.GateAsking.{gate-below}
 use Rattle.clifford.proofs.GateWriting.{gate-width, width_one, widened_own}
@@ -96,8 +95,8 @@ module _ (g h : ℕ) where
   unfolding compose_gate_questions
   gates_asked eg eh = first_done eg eh
 
-  pub gates_small : Ok tt ≡ gate_question 24 g → Ok tt ≡ gate_question 24 h → BothSmall g h
-  gates_small eg eh = record { first = gate-below 24 g (sym eg); second = gate-below 24 h (sym eh) }
+  pub gate_small : Ok tt ≡ gate_question 24 g → g < 24
+  gate_small e = gate-below 24 g (sym e)
 
 pub gate-number : (g : ℕ) → Ok tt ≡ gate_question 38 g → g < 38
 gate-number g e = gate-below 38 g (sym e)
@@ -105,6 +104,6 @@ gate-number g e = gate-below 38 g (sym e)
 pub gate_inverted : (g : ℕ) {n : ℕ} → Ok tt ≡ gate_question 38 g → n ≡ get_or inverse_numbers g 0 → GateAnswered (gate_question 38 g) (inverse_gate g) (Ok (Some n))
 gate_inverted g e h = answered-done e (ap Some (h ∙ sym (inverse_numbers_lem g (gate-number g e))))
 
-pub ruleset gate-products = (answered-done, gates_asked, gates_small, rules)
+pub ruleset gate-products = (answered-done, gates_asked, gate_small, rules)
 
 pub ruleset gate_numbers = (answered-exit, gate-number, gate_inverted, rules)

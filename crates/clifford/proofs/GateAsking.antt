@@ -6,7 +6,7 @@ use Rattle.pauli.specs.declared.refusal.Refusal.{Refusal}
 use Rattle.pauli.specs.declared.refusal.Refusal.TheVariants.{Gate, Qubit, SameQubit}
 use Rattle.pauli.specs.Answers.{Outcome}
 use Rattle.pauli.specs.Questions.{◌and_then◌}
-use Rattle.pauli.proofs.Asking.{asked_yes, asked_no, ask_done, exit_not, first_not, first_done, and_then_done, done_first, done_second}
+use Rattle.pauli.proofs.Asking.{asked_yes, ask_done, first_not, first_done, and_then_done, done_first, done_second}
 use Rattle.clifford_gates.specs.GateNumbers.{gate_tableau}
 use Rattle.pauli_group.specs.PauliString.{qubits}
 use Rattle.clifford_group.specs.Tableau.{widen}
@@ -18,7 +18,7 @@ use Rattle.clifford.specs.GateAnswers.{gate_record, width_gate_record}
 use Rattle.clifford.specs.Inside.GateRows.{GateOn, GateSpan}
 use Rattle.clifford.specs.Inside.Made.{TableauWritten, GateInside}
 use Rattle.clifford.specs.Promises.{GateWritten, WidthGateWritten}
-use Rattle.clifford.proofs.GateWriting.{width_narrow, gate-width, width_one, width_two, widened_own}
+use Rattle.clifford.proofs.GateWriting.{gate-width, width_one, width_two, widened_own}
 use Rattle.clifford.proofs.Answers.{made-answer, refused-answer}
 
 -- ---- one question
@@ -26,17 +26,9 @@ pub gate_in : {limit g : ℕ} → g < limit → Ok tt ≡ gate_question limit g
 unfolding gate_question
 gate_in {limit} {g} h = asked_yes Gate (lt-ltb g limit h)
 
-pub gate-out : {limit g : ℕ} → limit ≤ g → Err Gate ≡ gate_question limit g
-unfolding gate_question
-gate-out {limit} {g} h = asked_no Gate (le-ltb g limit h)
-
 pub gate-below : (limit g : ℕ) → gate_question limit g ≡ Ok tt → g < limit
 unfolding gate_question
 gate-below limit g e = ltb-true g limit (ask_done (ltb g limit) Gate e)
-
-pub qubits_equal : {q r : ℕ} → q ≡ r → Err (SameQubit q) ≡ different_question q r
-unfolding different_question
-qubits_equal {q} {r} h = asked_no (SameQubit q) (ap not (eq-eqb q r h))
 
 pub qubits_differ : {q r : ℕ} → (q ≡ r → ⊥) → Ok tt ≡ different_question q r
 unfolding different_question
@@ -49,10 +41,6 @@ are_different q r e = eqb-false q r (not-true (eqb q r) (ask_done (not (eqb q r)
 pub own_in : {w q : ℕ} → q < w → Ok tt ≡ own_qubit_question w q
 unfolding own_qubit_question
 own_in {w} {q} h = asked_yes (Qubit q) (lt-ltb q w h)
-
-pub own_out : {w q : ℕ} → w ≤ q → Err (Qubit q) ≡ own_qubit_question w q
-unfolding own_qubit_question
-own_out {w} {q} h = asked_no (Qubit q) (le-ltb q w h)
 
 pub own_below : (w q : ℕ) → own_qubit_question w q ≡ Ok tt → q < w
 unfolding own_qubit_question
@@ -73,29 +61,6 @@ qubits-one w {g} q r h e = e ∙ and_then_done (own_qubit_question w q) ∙ qubi
 pub qubits-first : (w g q r : ℕ) {x : Refusal} → Err x ≡ own_qubit_question w q → Err x ≡ qubits_questions w g q r
 unfolding qubits_questions
 qubits-first w g q r h = first_not _ h
-
-pub qubits_alone : (w g q r : ℕ) → g < 24 → Ok tt ≡ own_qubit_question w q → Ok tt ≡ qubits_questions w g q r
-qubits_alone w g q r h e = first_done e refl ∙ qubits_of_one w g q r h
-
-pub qubits-two : (w g q r : ℕ) {z : Outcome} → 24 ≤ g → Ok tt ≡ own_qubit_question w q → z ≡ own_qubit_question w r and_then different_question q r
-    → z ≡ qubits_questions w g q r
-qubits-two w g q r h eq e = first_done eq e ∙ qubits_of_two w g q r h
-
-pub ruleset gate-questions = (
-  exit_not,
-  first_not,
-  first_done,
-  gate_in,
-  gate-out,
-  qubits_equal,
-  qubits_differ,
-  own_in,
-  own_out,
-  qubits-first,
-  qubits_alone,
-  qubits-two,
-  rules,
-)
 
 -- ---- what they let by: a gate with a place on w qubits
 module _ (w g q r : ℕ) (n : w ≤ 128) (e : (gate_question 38 g and_then qubits_questions w g q r) ≡ Ok tt) where
@@ -124,19 +89,6 @@ module _ (w g q r : ℕ) (n : w ≤ 128) (e : (gate_question 38 g and_then qubit
     | yes l ↦ omega (arith, first, width_one g q r l)
     | no l ↦ let m : 24 ≤ g = omega arith in omega (arith, first, second m, width_two g q r m)
   ]
-
--- ---- its width
-module _ {g q r : ℕ} (o : GateOn g q r) where
-  span : {w : ℕ} → w ≡ gate_width g q r → GateSpan g q r w
-  span e = record { is = e; small = width_narrow o e }
-
-  pub span_one : g < 24 → GateSpan g q r (q + 1)
-  span_one h = span (omega (arith, width_one g q r h))
-
-  pub span_two : 24 ≤ g → {m : ℕ} → m ≡ max q r → GateSpan g q r (m + 1)
-  span_two h e = span (omega (arith, e, width_two g q r h))
-
-pub ruleset gate_spans = (span_one, span_two, rules)
 
 -- ---- a gate at its own width
 module _ (g q r : ℕ) where

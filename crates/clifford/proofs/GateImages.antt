@@ -11,7 +11,7 @@ use Rattle.pauli.specs.declared.algebra.PhasedLetter.{PhasedLetter}
 use Rattle.pauli.proofs.Cases.{three_up}
 use Rattle.pauli.proofs.Records.{phase-back, letter-back}
 use Rattle.clifford.specs.GateRows.{image_bytes, y_bytes, ImageOf}
-use Rattle.clifford.specs.Inside.GateRows.{pair_bytes, PairOf, TakesTwo, EntryPlace, entry_pair}
+use Rattle.clifford.specs.Inside.GateRows.{pair_bytes, PairOf, entry_pair}
 
 -- ---- a table in bytes: its entries are those of the table of gates
 abbrev pub in_bytes : {A : Type 0} → (A → List ℕ) → List A → List (List ℕ)
@@ -60,26 +60,12 @@ y_made e {p} {a} {b} {c} hp ha hb hc =
 pub ruleset letter-images = (image_I, image_X, image_Z, image_Y, rules)
 
 -- ---- images of two-qubit gates
-pub two-number : {g : ℕ} → TakesTwo g → g - 24 < 14
-two-number t = omega (arith, t.from, t.below)
-
-pub two_from : {g : ℕ} → TakesTwo g → 24 ≤ g
-two_from t = t.from
-
-pub ruleset two_numbers = (two-number, two_from, rules)
-
-pub place-two : {g k : ℕ} → EntryPlace g k → TakesTwo g
-place-two o = o.two
-
-pub place_inside : {g k : ℕ} → EntryPlace g k → k ≤ 9
-place_inside o = o.inside
-
 pub pair_read : (g k q r : ℕ) {e : List ℕ} → e ≡ pair_bytes (two_qubit_gate g)
     → record { sign = get_or e k 0; first = get_or e (k + 1) 0; place = q; second = get_or e (k + 2) 0; other = r } ≡ entry_pair (pair_bytes (two_qubit_gate g)) k q r
 unfolding entry_pair
 pair_read g k q r h = ap (λ (l : List ℕ). entry_pair l k q r) h
 
-pub ruleset pair_reads = (place-two, place_inside, pair_read, rules)
+pub ruleset pair_reads = (pair_read, rules)
 
 -- the four images of an entry
 module _ (g : TwoQubit) (q r : ℕ) where

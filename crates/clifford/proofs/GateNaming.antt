@@ -24,7 +24,7 @@ use Rattle.pauli.proofs.Records.{phase-back, letter-back}
 use Rattle.clifford.specs.Layout.{width_of, tableau_of, row_of, read_row, FormedTableau}
 use Rattle.clifford.specs.GateAnswers.{named, record_name}
 use Rattle.clifford.specs.GateRows.{image_bytes, ImageOf}
-use Rattle.clifford.specs.Inside.GateRows.{image_held, same_entry, first_entry, BothSmall}
+use Rattle.clifford.specs.Inside.GateRows.{image_held, same_entry, first_entry}
 use Rattle.clifford.proofs.Rows.{read_own, width_of_lem}
 
 -- ---- the first gate with an entry
@@ -147,7 +147,7 @@ held_image i r h =
     ap₂ (λ (p : Phase) (l : Letter). record { phase = p; letter = l }) (ap phase_of h.phase ∙ phase-back i.phase)
     (ap letter_of h.letter ∙ letter-back i.letter)
 
-module _ {g h : ℕ} (b : BothSmall g h) where
+module _ {g h : ℕ} (first : g < 24) (second : h < 24) where
   abbrev product : Tableau
   product = compose (on_qubit (one_qubit_gate g) 0) (on_qubit (one_qubit_gate h) 0)
 
@@ -155,8 +155,8 @@ module _ {g h : ℕ} (b : BothSmall g h) where
   unfolding qubits
   clifford =
       clifford_compose (on_qubit (one_qubit_gate g) 0) (on_qubit (one_qubit_gate h) 0)
-      (clifford_on_qubit (one_qubit_gate g) (gate-valid g b.first) 0 (omega arith))
-      (clifford_on_qubit (one_qubit_gate h) (gate-valid h b.second) 0 (omega arith))
+      (clifford_on_qubit (one_qubit_gate g) (gate-valid g first) 0 (omega arith))
+      (clifford_on_qubit (one_qubit_gate h) (gate-valid h second) 0 (omega arith))
 
   one : product.width ≡ 1
   one =
@@ -167,15 +167,15 @@ module _ {g h : ℕ} (b : BothSmall g h) where
   unfolding compose_gate
   compose_small = ltb-true (name_of product) 24 (named-valid product clifford.proper ∙ ap₂ ◌&&◌ (eq-eqb product.width 1 one) clifford.valid)
 
-pub name_composed : {g h : ℕ} {r : Option ℕ} {i j x z : PhasedLetter} → BothSmall g h
+pub name_composed : {g h : ℕ} {r : Option ℕ} {i j x z : PhasedLetter} → g < 24 → h < 24
     → ImageOf (letter_image (one_qubit_gate h) (letter_of 1)) i → ImageOf (letter_image (one_qubit_gate h) (letter_of 2)) j
     → ImageOf (sent_image (one_qubit_gate g) (image_held i)) x → ImageOf (sent_image (one_qubit_gate g) (image_held j)) z
     → r ≡ named (first_entry (x.0 ∷ x.1 ∷ z.0 ∷ z.1 ∷ [])) → r ≡ Some (compose_gate g h)
 unfolding letter_image letter_of
-name_composed {g} {h} {r} {i} {j} {x} {z} b hi hj hx hz n =
+name_composed {g} {h} {r} {i} {j} {x} {z} first second hi hj hx hz n =
     n
-    ∙ ap named (ap first_entry entry ∙ first-named (compose_images (one_qubit_gate g) (one_qubit_gate h)) ∙ sym (compose_name g h b.first b.second))
-    ∙ sym (named_some (compose_small b))
+    ∙ ap named (ap first_entry entry ∙ first-named (compose_images (one_qubit_gate g) (one_qubit_gate h)) ∙ sym (compose_name g h first second))
+    ∙ sym (named_some (compose_small first second))
   where
     entry : (x.0 ∷ x.1 ∷ z.0 ∷ z.1 ∷ []) ≡ image_bytes (compose_images (one_qubit_gate g) (one_qubit_gate h))
     entry = unfold image_bytes compose_images in

@@ -1,5 +1,5 @@
 -- The images of a gate on any qubit, as strings and as work rows.
-use Rattle.std.proofs.Common.{◌≡◌, ℕ, zero, suc, ◌-◌, ◌*◌, ◌<◌, ◌≤◌, max, Bool, true, false, cond, eqb, ltb, List, length, sym, refl, ap, ◌∙◌, subst, ap₂, not-suc-le-zero, arith, w64, Fits, rules, ltb-false, le-ltb, lt-ltb, eq-eqb, ne_eqb}
+use Rattle.std.proofs.Common.{◌≡◌, ℕ, zero, suc, ◌+◌, ◌-◌, ◌*◌, ◌<◌, ◌≤◌, max, Bool, true, false, cond, eqb, ltb, List, length, sym, refl, ap, ◌∙◌, subst, ap₂, not-suc-le-zero, arith, w64, Fits, rules, ltb-false, le-ltb, lt-ltb, eq-eqb, ne_eqb}
 use native.Mathlib.Decide.{dec_lt}
 use Rattle.pauli_group.specs.Phase.{Phase}
 use Rattle.pauli_group.specs.Letter.{I, X, Z}
@@ -17,15 +17,29 @@ use Rattle.pauli.specs.declared.algebra.PhasedLetter.{PhasedLetter}
 use Rattle.pauli.specs.Layout.{phase_of, letter_of, encode_string}
 use Rattle.pauli.proofs.Records.{phase-back, phase-small, letter-back, length_encode}
 use Rattle.clifford.specs.declared.gates.RowImage.{RowImage}
+use Rattle.clifford.specs.declared.numbering.Gate.{Gate}
+use Rattle.clifford.specs.declared.numbering.Gate.TheVariants.{One, Two}
+use Rattle.clifford.specs.declared.numbering.OneQubitGate.{OneQubitGate}
+use Rattle.clifford.specs.declared.numbering.TwoQubitGate.{TwoQubitGate}
+use Rattle.clifford.specs.Inside.Numbering.{gate_number}
 use Rattle.clifford.specs.Inside.Rows.{ClearRow, WorkPlace, row_times, cleared_row, letters_in}
 use Rattle.clifford.specs.Inside.Writing.{IsGenerator}
 use Rattle.clifford.specs.GateQuestions.{gate_width}
 use Rattle.clifford.specs.GateRows.{ImageOf}
-use Rattle.clifford.specs.Inside.GateRows.{pair_bytes, PairOf, generator_image, EntryPlace, row_image_string, OneRow, entry_pair, RowImageOf, GateOn, ImageAsked, PutsImage}
+use Rattle.clifford.specs.Inside.GateRows.{GateSpan, pair_bytes, PairOf, generator_image, row_image_string, OneRow, entry_pair, RowImageOf, GateOn, PutsImage}
 use Rattle.clifford.proofs.GateImages.{at-x0, at-x1, at-z0, at-z1}
 use Rattle.clifford.proofs.RowWriting.{encoded_row}
 use Rattle.clifford.proofs.Apply.{length_cleared, cleared_formed}
 use Rattle.clifford.proofs.WorkRows.{length-times, times-formed}
+
+-- the number of a gate of either kind
+pub one_number : {g : Gate} {x : OneQubitGate} {n : ℕ} → gate_number g ≡ n → g ≡ One x → x.number ≡ n
+unfolding gate_number
+one_number e h = sym (ap gate_number h) ∙ e
+
+pub two_number : {g : Gate} {x : TwoQubitGate} {n : ℕ} → gate_number g ≡ n → g ≡ Two x → x.number ≡ n
+unfolding gate_number
+two_number e h = sym (ap gate_number h) ∙ e
 
 -- ---- images as strings
 image_string_lem : (i : Image) (k : ℕ) {r : PhasedLetter} → ImageOf i r → scale (phase_of r.0) (mul (single (letter_of r.1) k) (single I k)) ≡ image_string i k
@@ -69,6 +83,21 @@ width_one g q r h = ap (λ b. cond b (suc q) (suc (max q r))) (lt-ltb g 24 h)
 pub width_two : (g q r : ℕ) → 24 ≤ g → gate_width g q r ≡ suc (max q r)
 unfolding gate_width
 width_two g q r h = ap (λ b. cond b (suc q) (suc (max q r))) (le-ltb g 24 h)
+
+module _ {g q r : ℕ} (o : GateOn g q r) where
+  span : {w : ℕ} → w ≡ gate_width g q r → GateSpan g q r w
+  span e = record { is = e; small = width_narrow o e }
+
+  pub span_one : {G : Gate} {x : OneQubitGate} → gate_number G ≡ g → G ≡ One x → GateSpan g q r (q + 1)
+  span_one {G} {x} n e = let low : g < 24 = omega (arith, one_number n e, x.small) in span (omega (arith, width_one g q r low))
+
+  pub span_two : {G : Gate} {x : TwoQubitGate} {m : ℕ} → gate_number G ≡ g → G ≡ Two x → m ≡ max q r → GateSpan g q r (m + 1)
+  span_two {G} {x} n e em = let high : 24 ≤ g = omega (arith, two_number n e, x.from) in span (omega (arith, em, width_two g q r high))
+
+  pub span_fits : {G : Gate} {x : TwoQubitGate} {m : ℕ} → gate_number G ≡ g → G ≡ Two x → m ≡ max q r → Fits w64 (m + 1)
+  span_fits n e em = record { fits = omega (arith, (span_two n e em).small) }
+
+pub ruleset gate_spans = (span_one, span_two, span_fits, rules)
 
 -- ---- a gate's image of X or of Z
 by_generator : (P : ℕ → Type 0) → P 1 → P 2 → (l : ℕ) → IsGenerator l → P l
@@ -153,7 +182,7 @@ module _ (g q r k : ℕ) where
         ∙ sym (ap₂ (pair_at_row l) (ne_eqb k q (λ e. omega arith)) (ne_eqb k r (λ e. omega arith)))
   ]
 
-  module _ {l : ℕ} (a : ImageAsked g q r l) where
+  module _ {l : ℕ} (a : IsGenerator l) where
     abbrev W : ℕ
     W = max (gate_width g q r) (suc k)
 
@@ -161,62 +190,97 @@ module _ (g q r k : ℕ) where
         → image_of T k (letter_of l) ≡ image_string (letter_image (one_qubit_gate m) (letter_of l)) k → RowImageOf W (image_of T k (letter_of l)) i
     row_one_is m o e = record { string = o.string ∙ sym e; sign = o.sign; first = omega (arith, o.first); second = omega (arith, o.second) }
 
-    pub own_row : {i : RowImage} → g < 24 → k ≡ q → OneRow (image_string (letter_image (one_qubit_gate g) (letter_of l)) k) k i
-        → RowImageOf W (image_of T k (letter_of l)) i
-    own_row s e o = row_one_is g o (image_one l a.letter s ∙ ap (λ b. image_string (letter_image (one_qubit_gate (cond b g 0)) (letter_of l)) k) (eq-eqb k q e))
+    module _ {G : Gate} {x : OneQubitGate} (n : gate_number G ≡ g) (is : G ≡ One x) where
+      own_number : x.number ≡ g
+      own_number = one_number n is
 
-    pub away_row : {i : RowImage} → g < 24 → (k ≡ q → ⊥) → OneRow (image_string (letter_image (one_qubit_gate 0) (letter_of l)) k) k i
-        → RowImageOf W (image_of T k (letter_of l)) i
-    away_row s d o = row_one_is 0 o (image_one l a.letter s ∙ ap (λ b. image_string (letter_image (one_qubit_gate (cond b g 0)) (letter_of l)) k) (ne_eqb k q d))
+      low : g < 24
+      low = omega (arith, own_number, x.small)
 
-    pub other_row : {i : RowImage} → 24 ≤ g → (k ≡ q → ⊥) → (k ≡ r → ⊥) → OneRow (image_string (letter_image (one_qubit_gate 0) (letter_of l)) k) k i
-        → RowImageOf W (image_of T k (letter_of l)) i
-    other_row s d e o = row_one_is 0 o (image_two l a.letter s ∙ ap₂ (pair_at_row l) (ne_eqb k q d) (ne_eqb k r e) ∙ sym (itself l a.letter))
+      pub own_row : {i : RowImage} → k ≡ q → OneRow (image_string (letter_image (one_qubit_gate x.number) (letter_of l)) k) k i
+          → RowImageOf W (image_of T k (letter_of l)) i
+      own_row e o = row_one_is x.number o (
+          image_one l a low
+          ∙ ap (λ b. image_string (letter_image (one_qubit_gate (cond b g 0)) (letter_of l)) k) (eq-eqb k q e)
+          ∙ ap (λ (j : ℕ). image_string (letter_image (one_qubit_gate j) (letter_of l)) k) (sym own_number))
 
-    -- the images of X start at 0 and 3 of an entry, those of Z at 6 and 9
-    module _ (s : 24 ≤ g) {n : ℕ} (en : n ≡ l) where
-      pub place-first : EntryPlace g (6 * n - 6)
-      place-first = record { two = record { from = s; below = a.on.gate }; inside = omega (arith, a.letter.small) }
+      pub away_row : {i : RowImage} → (k ≡ q → ⊥) → OneRow (image_string (letter_image (one_qubit_gate 0) (letter_of l)) k) k i
+          → RowImageOf W (image_of T k (letter_of l)) i
+      away_row d o = row_one_is 0 o (image_one l a low ∙ ap (λ b. image_string (letter_image (one_qubit_gate (cond b g 0)) (letter_of l)) k) (ne_eqb k q d))
 
-      pub place-second : EntryPlace g (6 * n - 3)
-      place-second = record { two = record { from = s; below = a.on.gate }; inside = omega (arith, a.letter.small) }
+    module _ {G : Gate} {x : TwoQubitGate} (n : gate_number G ≡ g) (is : G ≡ Two x) where
+      pair_number : x.number ≡ g
+      pair_number = two_number n is
 
-      pair_row_lem : {x : RowImage} (i : PairImage) (m : ℕ) → PairOf i (entry_pair (pair_bytes (two_qubit_gate g)) m q r) → image_of T k (letter_of l) ≡ pair_string i q r
-          → x ≡ entry_pair (pair_bytes (two_qubit_gate g)) m q r → RowImageOf W (image_of T k (letter_of l)) x
+      high : 24 ≤ g
+      high = omega (arith, pair_number, x.from)
+
+      pub other_row : {i : RowImage} → (k ≡ q → ⊥) → (k ≡ r → ⊥) → OneRow (image_string (letter_image (one_qubit_gate 0) (letter_of l)) k) k i
+          → RowImageOf W (image_of T k (letter_of l)) i
+      other_row d e o = row_one_is 0 o (image_two l a high ∙ ap₂ (pair_at_row l) (ne_eqb k q d) (ne_eqb k r e) ∙ sym (itself l a))
+
+      pair_row_lem : {y : RowImage} (i : PairImage) (p : ℕ) → PairOf i (entry_pair (pair_bytes (two_qubit_gate g)) p q r) → image_of T k (letter_of l) ≡ pair_string i q r
+          → y ≡ entry_pair (pair_bytes (two_qubit_gate g)) p q r → RowImageOf W (image_of T k (letter_of l)) y
       unfolding entry_pair
-      pair_row_lem i m h e m' = subst (RowImageOf W (image_of T k (letter_of l))) (sym m') (record {
+      pair_row_lem i p h e f = subst (RowImageOf W (image_of T k (letter_of l))) (sym f) (record {
         string = pair_made i h refl refl ∙ sym e;
         sign = omega (arith, h.phase, phase-small i.phase);
-        first = omega (arith, width_two g q r s);
-        second = omega (arith, width_two g q r s);
+        first = omega (arith, width_two g q r high);
+        second = omega (arith, width_two g q r high);
       })
 
-      pub first-row : {x : RowImage} → k ≡ q → x ≡ entry_pair (pair_bytes (two_qubit_gate g)) (6 * n - 6) q r → RowImageOf W (image_of T k (letter_of l)) x
-      unfolding generator_image
-      first-row e h =
-          pair_row_lem (first_of l) (6 * l - 6)
-          (by_generator (λ (j : ℕ). PairOf (first_of j) (entry_pair (pair_bytes (two_qubit_gate g)) (6 * j - 6) q r)) (at-x0 (two_qubit_gate g) q r) (at-z0 (two_qubit_gate g) q r) l a.letter)
-          (image_two l a.letter s ∙ ap (λ b. pair_at_row l b (eqb k r)) (eq-eqb k q e)) (h ∙ ap (λ (j : ℕ). entry_pair (pair_bytes (two_qubit_gate g)) (6 * j - 6) q r) en)
+      entry_of : (p : ℕ) → entry_pair (pair_bytes (two_qubit_gate x.number)) p q r ≡ entry_pair (pair_bytes (two_qubit_gate g)) p q r
+      entry_of p = ap (λ (j : ℕ). entry_pair (pair_bytes (two_qubit_gate j)) p q r) pair_number
 
-      pub second-row : {x : RowImage} → (k ≡ q → ⊥) → k ≡ r → x ≡ entry_pair (pair_bytes (two_qubit_gate g)) (6 * n - 3) q r
-          → RowImageOf W (image_of T k (letter_of l)) x
-      unfolding generator_image
-      second-row d e h =
-          pair_row_lem (second_of l) (6 * l - 3)
-          (by_generator (λ (j : ℕ). PairOf (second_of j) (entry_pair (pair_bytes (two_qubit_gate g)) (6 * j - 3) q r)) (at-x1 (two_qubit_gate g) q r) (at-z1 (two_qubit_gate g) q r) l a.letter)
-          (image_two l a.letter s ∙ ap₂ (pair_at_row l) (ne_eqb k q d) (eq-eqb k r e)) (h ∙ ap (λ (j : ℕ). entry_pair (pair_bytes (two_qubit_gate g)) (6 * j - 3) q r) en)
+      -- the images of X start at 0 and 3 of an entry, those of Z at 6 and 9
+      module _ {m : ℕ} (em : m ≡ l) where
+        pub first-row : {y : RowImage} → k ≡ q → y ≡ entry_pair (pair_bytes (two_qubit_gate x.number)) (6 * m - 6) q r → RowImageOf W (image_of T k (letter_of l)) y
+        unfolding generator_image
+        first-row e h =
+            pair_row_lem (first_of l) (6 * l - 6)
+            (by_generator (λ (j : ℕ). PairOf (first_of j) (entry_pair (pair_bytes (two_qubit_gate g)) (6 * j - 6) q r)) (at-x0 (two_qubit_gate g) q r) (at-z0 (two_qubit_gate g) q r) l a)
+            (image_two l a high ∙ ap (λ b. pair_at_row l b (eqb k r)) (eq-eqb k q e))
+            (h ∙ entry_of (6 * m - 6) ∙ ap (λ (j : ℕ). entry_pair (pair_bytes (two_qubit_gate g)) (6 * j - 6) q r) em)
 
-module _ {g q r l : ℕ} (a : ImageAsked g q r l) {n : ℕ} (en : n ≡ l) where
-  pub row_fits : Fits w64 (6 * n)
-  row_fits = record { fits = omega (arith, a.letter.small) }
+        pub second-row : {y : RowImage} → (k ≡ q → ⊥) → k ≡ r → y ≡ entry_pair (pair_bytes (two_qubit_gate x.number)) (6 * m - 3) q r
+            → RowImageOf W (image_of T k (letter_of l)) y
+        unfolding generator_image
+        second-row d e h =
+            pair_row_lem (second_of l) (6 * l - 3)
+            (by_generator (λ (j : ℕ). PairOf (second_of j) (entry_pair (pair_bytes (two_qubit_gate g)) (6 * j - 3) q r)) (at-x1 (two_qubit_gate g) q r) (at-z1 (two_qubit_gate g) q r) l a)
+            (image_two l a high ∙ ap₂ (pair_at_row l) (ne_eqb k q d) (eq-eqb k r e))
+            (h ∙ entry_of (6 * m - 3) ∙ ap (λ (j : ℕ). entry_pair (pair_bytes (two_qubit_gate g)) (6 * j - 3) q r) em)
 
-  pub row_first : 6 ≤ 6 * n
-  row_first = omega (arith, a.letter.some)
+module _ {l : ℕ} (a : IsGenerator l) where
+  module _ {n : ℕ} (en : n ≡ l) where
+    pub row_fits : Fits w64 (6 * n)
+    row_fits = record { fits = omega (arith, a.small) }
 
-  pub row-second : 3 ≤ 6 * n
-  row-second = omega (arith, a.letter.some)
+    pub row_first : 6 ≤ 6 * n
+    row_first = omega (arith, a.some)
 
-pub ruleset gate-images = (own_row, away_row, other_row, place-first, place-second, first-row, second-row, row_fits, row_first, row-second, rules)
+    pub row-second : 3 ≤ 6 * n
+    row-second = omega (arith, a.some)
+
+    pub place_first : 6 * n - 6 ≤ 9
+    place_first = omega (arith, a.small)
+
+    pub place_second : 6 * n - 3 ≤ 9
+    place_second = omega (arith, a.small)
+
+pub ruleset gate-images = (
+  own_row,
+  away_row,
+  other_row,
+  first-row,
+  second-row,
+  row_fits,
+  row_first,
+  row-second,
+  place_first,
+  place_second,
+  rules,
+)
 
 -- ---- an image as a work row
 -- a work row that holds the string s, multiplied by t

@@ -26,15 +26,6 @@ row-generator : (g : Generator) (t : List ℕ) {q : ℕ} → q < width_of t → 
 row-generator of_x t {q} h = row-x (tableau_of t) q (omega (arith, width_of_lem t))
 row-generator of_z t {q} h = ap (λ (j : ℕ). row_of (tableau_of t) (j + q)) (sym (width_of_lem t)) ∙ row-z (tableau_of t) q
 
--- a row is as far behind the rows before its letter's as its qubit
-pub row-after : (g : Generator) (w q : ℕ) {r : ℕ} → r ≡ generator_row g w 0 → r + q ≡ generator_row g w q
-row-after of_x w q e = omega arith
-row-after of_z w q e = omega arith
-
-pub row-fits : (g : Generator) {w q r : ℕ} → SlotIndex w q → r ≡ generator_row g w 0 → Fits w64 (r + q)
-row-fits of_x i e = record { fits = omega (arith, i.narrow, i.own) }
-row-fits of_z i e = record { fits = omega (arith, i.narrow, i.own) }
-
 pub generator_index : (g : Generator) {w q r : ℕ} → SlotIndex w q → r ≡ generator_row g w q → RowIndex w r
 generator_index g {w} {q} o e = record { narrow = o.narrow; own = omega (arith, e, generator-row g o.own) }
 

@@ -23,7 +23,8 @@ use Rattle.clifford.specs.GateQuestions.{gate_width}
 use Rattle.clifford.specs.Inside.Rows.{Sized, RowIndex, Finished, AppliesString, AppliesLetter, row_written, letters_in, string_in}
 use Rattle.clifford.specs.Inside.Writing.{PauliRow, conjugated}
 use Rattle.clifford.specs.Inside.InverseRows.{RowBack}
-use Rattle.clifford.specs.Inside.GateRows.{row_image_string, RowImageOf, ImageAsked, PutsImage}
+use Rattle.clifford.specs.Inside.Writing.{IsGenerator}
+use Rattle.clifford.specs.Inside.GateRows.{row_image_string, RowImageOf, PutsImage}
 use Rattle.clifford.specs.Inside.Made.{Made, MakesRow, WritesRow, WritesAll, Widens, Composes, Spans, GateInside}
 use Rattle.clifford.proofs.Rows.{width_of_lem, rows-within, some_bytes}
 use Rattle.clifford.proofs.Records.{proper_of}
@@ -176,10 +177,10 @@ module _ {w n r : ℕ} {s k : List ℕ} (i : RowIndex n r) (o : MakesRow w n s k
         pauli_made ek =
             held ek (ap (conjugated (string_of t)) (ap₂ single (letter_of-row w r el) eq) ∙ sym (row_pauli (string_of t) w r d.wide.is own))
 
-      module _ {g p v : ℕ} (h : GateInside g p v w) where
-        pub gate-asked : ImageAsked g p v l
-        gate-asked = record { on = h.on; letter = generator-is w r el }
+      pub row_generator : IsGenerator l
+      row_generator = generator-is w r el
 
+      module _ {g p v : ℕ} (i : GateInside g p v w) where
         module _ {x : RowImage} (im : RowImageOf (max (gate_width g p v) (suc q)) (image_of (gate_tableau g p v) q (letter_of l)) x) where
           pub gate_puts : PutsImage x k
           gate_puts = record {
@@ -204,7 +205,7 @@ pub ruleset made_rows = (
   inverse_back,
   pauli_here,
   pauli_made,
-  gate-asked,
+  row_generator,
   gate_puts,
   gate_row,
   rules,

@@ -20,6 +20,12 @@ use Rattle.clifford.specs.Playing.{gate_on_row, second_fits, playable, played, G
 use Rattle.clifford.specs.Inside.Playing.{PlaysLetters, PlaysPairs}
 use Rattle.clifford.proofs.Joining.{joined_ext}
 use Rattle.clifford.proofs.Rows.{RowChange, change_by, byte_front, letter_front, change_letter, change_pair, place_is, row-some, letter_in-row, length_part}
+use Rattle.clifford.specs.declared.numbering.Gate.{Gate}
+use Rattle.clifford.specs.declared.numbering.Gate.TheVariants.{One, Two}
+use Rattle.clifford.specs.Inside.Numbering.{gate_number}
+use Rattle.clifford.specs.declared.numbering.OneQubitGate.{OneQubitGate}
+use Rattle.clifford.specs.declared.numbering.TwoQubitGate.{TwoQubitGate}
+use Rattle.clifford.proofs.GateWriting.{one_number, two_number}
 use Rattle.clifford.proofs.RowBytes.{BytesTo, bytes-none, bytes-room, bytes_start, bytes_rest, bytes-more, bytes_end}
 
 -- ---- the table says what the gate makes of a letter, or of two
@@ -116,10 +122,10 @@ played-none {w = w} {t} c e o =
       rows = bytes-none w _ t (omega (arith, o.narrow)) (omega arith) (sym e) (λ i h. c.long (row_part t i) ∙ length_part t w i e long h);
     }
 
-pub letters-none : {g q w : ℕ} {t : List ℕ} (e : List (List ℕ)) → PlaysLetters g q t → w ≡ width_of t → PlayedTo (letter_table_on_row e q) w t 0 t
+pub letters-none : {q w : ℕ} {t : List ℕ} (e : List (List ℕ)) → PlaysLetters q t → w ≡ width_of t → PlayedTo (letter_table_on_row e q) w t 0 t
 letters-none e o h = played-none (letter_change e (omega (arith, o.qubit))) h o.laid
 
-pub pairs-none : {k q r w : ℕ} {t : List ℕ} (e : List (List ℕ)) → PlaysPairs k q r t → w ≡ width_of t → PlayedTo (pair_table_on_row e q r) w t 0 t
+pub pairs-none : {q r w : ℕ} {t : List ℕ} (e : List (List ℕ)) → PlaysPairs q r t → w ≡ width_of t → PlayedTo (pair_table_on_row e q r) w t 0 t
 pairs-none e o h = played-none (pair_change e (omega (arith, o.first)) (omega (arith, o.second))) h o.laid
 
 module _ {f : List ℕ → List ℕ} {w : ℕ} {t₀ : List ℕ} {i : ℕ} {t : List ℕ} (m : PlayedTo f w t₀ i t) where
@@ -160,13 +166,8 @@ fits_tested : {g : ℕ} (q r w : ℕ) → 24 ≤ g → (ltb r w && not (eqb q r)
 unfolding second_fits
 fits_tested {g} q r w h = sym (ap (λ b. cond b true (ltb r w && not (eqb q r))) (le-ltb g 24 h))
 
-pub fits-high : {g : ℕ} (q r w : ℕ) → 24 ≤ g → w ≤ r → false ≡ second_fits g q r w
-fits-high q r w h l = sym (ap (λ b. b && not (eqb q r)) (le-ltb r w l)) ∙ fits_tested q r w h
-
 pub fits-other : {g : ℕ} (q r w : ℕ) → 24 ≤ g → r < w → not (eqb q r) ≡ second_fits g q r w
 fits-other q r w h l = sym (ap (λ b. b && not (eqb q r)) (lt-ltb r w l)) ∙ fits_tested q r w h
-
-pub ruleset second_fitting = (fits-none, fits-high, fits-other, rules)
 
 fits_parts : {g : ℕ} (q r w : ℕ) → 24 ≤ g → second_fits g q r w ≡ true → (ltb r w ≡ true) × (not (eqb q r) ≡ true)
 fits_parts q r w h e = and_both (ltb r w) (not (eqb q r)) (fits_tested q r w h ∙ e)
@@ -339,27 +340,30 @@ module _ (g q r : ℕ) (t : List ℕ) {b : Bool} (e : b ≡ playable g q r t) wh
     unfolding played_by
     made {ones} {twos} k = record { flag = is_true; bytes = k ∙ ap (λ c. cond c (each_row (table_on_row ones twos g q r) t) t) is_true }
 
-    module _ (l : g < 24) where
-      pub plays-letters : PlaysLetters g q t
-      plays-letters = record { laid = fits.laid; gate = l; qubit = fits.first }
+    pub plays_gate : g < 38
+    plays_gate = fits.gate
 
-      module _ {ones : List (List (List ℕ))} {d : List ℕ} (k : d ≡ each_row (letter_table_on_row (get_or ones g []) q) t) where
-        pub letters_by : {twos : List (List (List ℕ))} → PlayedBy ones twos g q r t d true
-        letters_by {twos} = made (k ∙ ap (λ f. each_row f t) (sym (by_letters ones twos g q r l)))
+    pub plays-letters : PlaysLetters q t
+    plays-letters = record { laid = fits.laid; qubit = fits.first }
 
-        pub letters-own : ones ≡ letter_tables → GatePlayed g q r t d true
-        letters-own o = gate-played o refl letters_by
+    pub letters_by : {G : Gate} {x : OneQubitGate} {ones twos : List (List (List ℕ))} {d : List ℕ} → gate_number G ≡ g → G ≡ One x
+        → d ≡ each_row (letter_table_on_row (get_or ones x.number []) q) t → PlayedBy ones twos g q r t d true
+    letters_by {G} {x} {ones} {twos} n e k =
+        let own = one_number n e in
+        let low : g < 24 = omega (arith, own, x.small) in
+        made (k ∙ ap (λ (j : ℕ). each_row (letter_table_on_row (get_or ones j []) q) t) own ∙ ap (λ f. each_row f t) (sym (by_letters ones twos g q r low)))
 
-    module _ (l : 24 ≤ g) where
-      pub plays-pairs : PlaysPairs (g - 24) q r t
-      plays-pairs = record { laid = fits.laid; gate = omega (arith, fits.gate); first = fits.first; second = fits.second l }
+    module _ {G : Gate} {x : TwoQubitGate} (n : gate_number G ≡ g) (is : G ≡ Two x) where
+      high : 24 ≤ g
+      high = omega (arith, two_number n is, x.from)
 
-      module _ {twos : List (List (List ℕ))} {d : List ℕ} (k : d ≡ each_row (pair_table_on_row (get_or twos (g - 24) []) q r) t) where
-        pub pairs_by : {ones : List (List (List ℕ))} → PlayedBy ones twos g q r t d true
-        pairs_by {ones} = made (k ∙ ap (λ f. each_row f t) (sym (by_pairs ones twos g q r l)))
+      pub plays-pairs : PlaysPairs q r t
+      plays-pairs = record { laid = fits.laid; first = fits.first; second = fits.second high }
 
-        pub pairs-own : twos ≡ pair_tables → GatePlayed g q r t d true
-        pairs-own o = gate-played refl o pairs_by
+      pub pairs_by : {ones twos : List (List (List ℕ))} {d : List ℕ} → d ≡ each_row (pair_table_on_row (get_or twos (x.number - 24) []) q r) t
+          → PlayedBy ones twos g q r t d true
+      pairs_by {ones} {twos} k =
+          made (k ∙ ap (λ (j : ℕ). each_row (pair_table_on_row (get_or twos (j - 24) []) q r) t) (two_number n is) ∙ ap (λ f. each_row f t) (sym (by_pairs ones twos g q r high)))
 
   module _ (h : not b ≡ true) where
     is_false : false ≡ playable g q r t
@@ -369,9 +373,4 @@ module _ (g q r : ℕ) (t : List ℕ) {b : Bool} (e : b ≡ playable g q r t) wh
     unfolding played_by
     stays_by {ones} {twos} = record { flag = is_false; bytes = ap (λ c. cond c (each_row (table_on_row ones twos g q r) t) t) is_false }
 
-    pub stays_own : GatePlayed g q r t t false
-    stays_own = gate-played refl refl stays_by
-
-pub ruleset playing = (plays-letters, letters_by, plays-pairs, pairs_by, stays_by, rules)
-
-pub ruleset gate-plays = (plays-letters, letters-own, plays-pairs, pairs-own, stays_own, rules)
+pub ruleset playing = (plays_gate, plays-letters, letters_by, plays-pairs, pairs_by, stays_by, rules)

@@ -94,18 +94,9 @@ module _ (t : List ℕ) (slot : ℕ) (s : List ℕ) where
   set-first h = first_not _ (first_not _ h)
 
   module _ (ht : Ok tt ≡ tableau_questions t) where
-    pub set-second : {x : Refusal} → Err x ≡ string_questions s → Err x ≡ set_questions t slot s
-    unfolding set_questions apply_questions
-    set-second h = first_not _ (first_done ht h)
-
     module _ (hs : Ok tt ≡ string_questions s) {n : ℕ} (en : n ≡ width_of t) where
       pub set_beside : Beside s n
       set_beside = record { string = string-formed s (sym hs); narrow = omega (arith, en, (checked ht).narrow) }
-
-      -- 14, and then 15
-      pub set_then : {z : Outcome} → z ≡ inside_question n (string_of s) and_then slot_question slot n → z ≡ set_questions t slot s
-      unfolding set_questions apply_questions
-      set_then e = first_done (first_done ht hs) (e ∙ ap (λ (j : ℕ). inside_question j (string_of s) and_then slot_question slot j) en)
 
 pub sets : {t : List ℕ} {slot : ℕ} {s : List ℕ} → Ok tt ≡ set_questions t slot s → Sets t slot s
 unfolding set_questions apply_questions
@@ -282,7 +273,5 @@ module _ {t : List ℕ} {slot : ℕ} {s : List ℕ} (o : Sets t slot s) where
       (same-record (with_row (tableau_of t) (width_of t + slot) (string_of s)) (with_z_image (tableau_of t) slot (string_of s)) z-same)
 
 pub ruleset insides = (outside_start, outside-more, outside_found, outside-left, beside_place, inside_no, inside_yes, rules)
-
-pub ruleset image_questions_lem = (exit_not, first_not, first_done, set-first, set-second, set_beside, set_then, rules)
 
 pub ruleset image_setting = (written-exit, written-done, sets, set-slot, set-row, set-written, rules)

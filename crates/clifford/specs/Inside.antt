@@ -4,3 +4,4 @@ pub mod Writing
 pub mod GateRows
 pub mod Playing
 pub mod Made
+pub mod Numbering

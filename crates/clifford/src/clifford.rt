@@ -6,12 +6,12 @@ ghost use Rattle.clifford_gates.specs.GateNumbers.{gate_tableau, compose_gate};
 ghost use Rattle.clifford.specs.Layout.{FormedTableau};
 ghost use Rattle.clifford.specs.GateQuestions.{own_qubit_question, qubits_questions};
 ghost use Rattle.clifford.specs.GateAnswers.{named, record_name};
-ghost use Rattle.clifford.specs.Inside.GateRows.{GateOn, GateSpan, BothSmall};
 ghost use Rattle.clifford.specs.Inside.Made.{GateInside, TableauWritten};
 ghost use Rattle.clifford.specs.Promises.{GateWritten, WidthGateWritten, OneQubitGateWritten, SingleQubitCliffordWritten, GateNamed, GatesComposed, GateInverted};
 
-use crate::gates::{first_gate, inverse_number, letter_image, product_number, sent_image};
+use crate::gates::{first_gate, inverse_number, product_number};
 use crate::layout::{letter_at, phase_at, width};
+use crate::numbering::{OneQubitGate, PlacedGate};
 use crate::questions::{check_different, check_gate, check_tableau, check_width};
 use crate::writing::{OfGate, write_made};
 use pauli::QUBITS;
@@ -20,7 +20,9 @@ use pauli::refusal::Refusal;
 
 // ---- questions
 
-// A qubit of a gate on a tableau of this width.
+// A qubit of a gate on a tableau of this width. At width 128 it is pauli's `check_qubit`, which promises its callers a question that
+// names no width.
+#[tactic(auto, using(pauli::proofs::Asking::by_tests), unfolding(crate::specs::GateQuestions::own_qubit_question))]
 fn check_own_qubit(width: usize, qubit: usize) -> Result<(), Refusal>
     ensures { result ≡ own_qubit_question width qubit }
 {
@@ -30,7 +32,8 @@ fn check_own_qubit(width: usize, qubit: usize) -> Result<(), Refusal>
     Err(Refusal::Qubit { qubit })
 }
 
-// The qubits of a gate; the second is not looked at for a one-qubit gate.
+// The qubits of a gate, of any number; the second is not looked at for gates 0 to 23.
+#[tactic(auto, using(pauli::proofs::Asking::by_questions), unfolding(crate::specs::GateQuestions::qubits_questions))]
 pub fn check_qubits(width: usize, gate: usize, q: usize, r: usize) -> Result<(), Refusal>
     ensures { result ≡ qubits_questions width gate q r }
 {
@@ -44,44 +47,32 @@ pub fn check_qubits(width: usize, gate: usize, q: usize, r: usize) -> Result<(),
 
 // ---- tableaux of gates
 
-fn gate_width(gate: usize, q: usize, r: usize) -> usize
-    requires { GateOn gate q r }
-    ensures { GateSpan gate q r result }
-{
-    if gate < 24 { q + 1 } else { q.max(r) + 1 }
-}
-
 // The record of a gate on its qubits, at this width.
-fn write_gate(
-    gate: usize,
-    first: usize,
-    second: usize,
-    width: usize,
-    dst: &mut [u8],
-) -> Result<(), Refusal>
-    requires { GateInside gate first second width }
-    ensures { TableauWritten width (widen width (gate_tableau gate first second)) dst.old dst.new result }
+fn write_gate(gate: PlacedGate, width: usize, dst: &mut [u8]) -> Result<(), Refusal>
+    requires { GateInside gate.number gate.first gate.second width }
+    ensures { TableauWritten width (widen width (gate_tableau gate.number gate.first gate.second)) dst.old dst.new result }
 {
-    let made = OfGate {
-        gate,
-        first,
-        second,
-        width,
-    };
-    write_made(&made, dst)
+    write_made(&OfGate { gate, width }, dst)
 }
 
 // A gate on its qubits; the second is not looked at for gates 0 to 23.
+#[tactic(auto, using(crate::proofs::GateAsking::gate_answers))]
 pub fn on_qubits(gate: u8, q0: usize, q1: usize, dst: &mut [u8]) -> Result<(), Refusal>
     ensures { GateWritten gate q0 q1 dst.old dst.new result }
 {
     let g = usize::from(gate);
     check_gate(38, g)?;
     check_qubits(QUBITS, g, q0, q1)?;
-    write_gate(g, q0, q1, gate_width(g, q0, q1), dst)
+    let placed = PlacedGate {
+        number: g,
+        first: q0,
+        second: q1,
+    };
+    write_gate(placed, placed.width(), dst)
 }
 
 // A gate on its qubits, at the width n; the second is not looked at for gates 0 to 23.
+#[tactic(auto, using(crate::proofs::GateAsking::width_answers))]
 pub fn on_width(n: usize, gate: u8, q0: usize, q1: usize, dst: &mut [u8]) -> Result<(), Refusal>
     ensures { WidthGateWritten n gate q0 q1 dst.old dst.new result }
 {
@@ -89,31 +80,49 @@ pub fn on_width(n: usize, gate: u8, q0: usize, q1: usize, dst: &mut [u8]) -> Res
     check_width(n)?;
     check_gate(38, g)?;
     check_qubits(n, g, q0, q1)?;
-    write_gate(g, q0, q1, n, dst)
+    let placed = PlacedGate {
+        number: g,
+        first: q0,
+        second: q1,
+    };
+    write_gate(placed, n, dst)
 }
 
 // A one-qubit gate on its qubit.
+#[tactic(auto, using(crate::proofs::GateAnswers::one_qubit_answers))]
 pub fn on_qubit(gate: u8, q: usize, dst: &mut [u8]) -> Result<(), Refusal>
     ensures { OneQubitGateWritten gate q dst.old dst.new result }
 {
     let g = usize::from(gate);
     check_gate(24, g)?;
     check_qubit(q)?;
-    write_gate(g, q, q, q + 1, dst)
+    let placed = PlacedGate {
+        number: g,
+        first: q,
+        second: q,
+    };
+    write_gate(placed, q + 1, dst)
 }
 
 // One of the 24 products of H and SZ, by its index.
+#[tactic(auto, using(crate::proofs::GateAnswers::one_qubit_answers))]
 pub fn single_qubit_clifford(index: usize, qubit: usize, dst: &mut [u8]) -> Result<(), Refusal>
     ensures { SingleQubitCliffordWritten index qubit dst.old dst.new result }
 {
     check_gate(24, index)?;
     check_qubit(qubit)?;
-    write_gate(product_number(index), qubit, qubit, qubit + 1, dst)
+    let placed = PlacedGate {
+        number: product_number(index),
+        first: qubit,
+        second: qubit,
+    };
+    write_gate(placed, qubit + 1, dst)
 }
 
 // ---- names
 
 // The number of the gate that a tableau is.
+#[tactic(auto, using(crate::proofs::GateNaming::record_names))]
 fn name_of(t: &[u8]) -> Option<u8>
     requires { FormedTableau t.now }
     ensures { result ≡ named (record_name t.now) }
@@ -130,6 +139,7 @@ fn name_of(t: &[u8]) -> Option<u8>
 }
 
 // The first of the 24 gates, by number, whose tableau on qubit 0 this is. None, unless it has width 1 and is valid.
+#[tactic(auto, using(crate::proofs::GateAnswers::name_answers))]
 pub fn from_clifford_rep(t: &[u8]) -> Result<Option<u8>, Refusal>
     ensures { GateNamed t.now result }
 {
@@ -140,12 +150,12 @@ pub fn from_clifford_rep(t: &[u8]) -> Result<Option<u8>, Refusal>
 // ---- products and inverses by number
 
 // The number of the gate that g after h is.
-fn composed(g: usize, h: usize) -> Option<u8>
-    requires { BothSmall g h }
-    ensures { result ≡ Some (compose_gate g h) }
+#[tactic(auto, using(crate::proofs::GateNaming::composed_names))]
+fn composed(g: OneQubitGate, h: OneQubitGate) -> Option<u8>
+    ensures { result ≡ Some (compose_gate g.number h.number) }
 {
-    let x = sent_image(g, letter_image(h, 1));
-    let z = sent_image(g, letter_image(h, 2));
+    let x = g.sent_image(h.letter_image(1));
+    let z = g.sent_image(h.letter_image(2));
     first_gate([x.0, x.1, z.0, z.1])
 }
 
@@ -157,10 +167,14 @@ pub fn compose(g: u8, h: u8) -> Result<Option<u8>, Refusal>
     let second = usize::from(h);
     check_gate(24, first)?;
     check_gate(24, second)?;
-    Ok(composed(first, second))
+    Ok(composed(
+        OneQubitGate { number: first },
+        OneQubitGate { number: second },
+    ))
 }
 
 // The inverse of a gate.
+#[tactic(auto, using(crate::proofs::GateAnswers::gate_numbers))]
 pub fn inverse(g: u8) -> Result<Option<u8>, Refusal>
     ensures { GateInverted g result }
 {

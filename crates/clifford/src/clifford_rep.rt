@@ -37,8 +37,10 @@ pub trait Generator {
         ensures { result ≡ letter_byte (generator letter) };
 }
 
+#[derive(Clone, Copy, Debug, PartialEq, Eq)]
 pub struct X;
 
+#[derive(Clone, Copy, Debug, PartialEq, Eq)]
 pub struct Z;
 
 impl Generator for X {
@@ -68,6 +70,7 @@ impl Generator for Z {
 }
 
 // The row of the letter's image on this qubit.
+#[tactic(auto, unfolding(crate::specs::Layout::generator_row))]
 fn image_row<G: Generator>(width: usize, slot: usize) -> usize
     requires { SlotIndex width slot }
     ensures { result ≡ generator_row G.letter width slot }
@@ -76,6 +79,7 @@ fn image_row<G: Generator>(width: usize, slot: usize) -> usize
 }
 
 // Whether a qubit has images to hand out.
+#[tactic(auto, using(pauli::proofs::Asking::by_questions), unfolding(crate::specs::Questions::image_questions))]
 fn check_image(t: &[u8], slot: usize) -> Result<(), Refusal>
     ensures { result ≡ image_questions t.now slot }
 {
@@ -84,6 +88,7 @@ fn check_image(t: &[u8], slot: usize) -> Result<(), Refusal>
 }
 
 // The image of X or Z on this qubit, the row's own part of the record.
+#[tactic(auto, using(crate::proofs::Images::images))]
 pub fn image<G: Generator>(t: &[u8], slot: usize) -> Result<&[u8], Refusal>
     ensures { result_map_both (λ part. part.now) (λ why. why) result ≡ image_part G.letter t.now slot }
 {
@@ -95,13 +100,11 @@ pub fn image<G: Generator>(t: &[u8], slot: usize) -> Result<&[u8], Refusal>
 pub fn image_or_none<G: Generator>(t: &[u8], slot: usize) -> &[u8]
     ensures { result.now ≡ result_unwrap_or (image_part G.letter t.now slot) [] }
 {
-    match image::<G>(t, slot) {
-        Ok(part) => part,
-        Err(_) => &t[0..0],
-    }
+    image::<G>(t, slot).unwrap_or(&t[..0])
 }
 
 // Where in the record that image starts.
+#[tactic(auto, using(crate::proofs::Images::image_offsets))]
 pub fn image_offset<G: Generator>(t: &[u8], slot: usize) -> Result<usize, Refusal>
     ensures { ImageAt G.letter t.now slot result }
 {
@@ -110,6 +113,7 @@ pub fn image_offset<G: Generator>(t: &[u8], slot: usize) -> Result<usize, Refusa
     Ok(row_offset(n, image_row::<G>(n, slot)))
 }
 
+#[tactic(auto, using(pauli::proofs::Asking::by_questions), unfolding(crate::specs::Questions::set_questions, crate::specs::Questions::apply_questions))]
 fn check_set(t: &[u8], slot: usize, s: &[u8]) -> Result<(), Refusal>
     ensures { result ≡ set_questions t.now slot s.now }
 {
@@ -121,6 +125,7 @@ fn check_set(t: &[u8], slot: usize, s: &[u8]) -> Result<(), Refusal>
 }
 
 // The image of X or Z on this qubit, replaced by the string s.
+#[tactic(auto, using(crate::proofs::SetImage::image_setting))]
 pub fn set_image<G: Generator>(t: &mut [u8], slot: usize, s: &[u8]) -> Result<(), Refusal>
     ensures { ImageSet G.letter slot s.now t.old t.new result }
 {
@@ -132,6 +137,7 @@ pub fn set_image<G: Generator>(t: &mut [u8], slot: usize, s: &[u8]) -> Result<()
 // ---- identity
 
 // The identity of width n: the tableau of width 0 widened.
+#[tactic(auto, using(crate::proofs::Answers::identities))]
 pub fn identity(n: usize, dst: &mut [u8]) -> Result<(), Refusal>
     ensures { IdentityWritten n dst.old dst.new result }
 {
@@ -143,6 +149,7 @@ pub fn identity(n: usize, dst: &mut [u8]) -> Result<(), Refusal>
 // ---- apply
 
 // The image of the string s.
+#[tactic(auto, using(crate::proofs::Answers::applying))]
 pub fn apply(t: &[u8], s: &[u8], dst: &mut [u8]) -> Result<(), Refusal>
     ensures { Applied t.now s.now dst.old dst.new result }
 {
@@ -156,6 +163,7 @@ pub fn apply(t: &[u8], s: &[u8], dst: &mut [u8]) -> Result<(), Refusal>
 // ---- compose
 
 // a composed with b: b acts first.
+#[tactic(auto, using(crate::proofs::Answers::compositions))]
 pub fn compose(a: &[u8], b: &[u8], dst: &mut [u8]) -> Result<(), Refusal>
     ensures { Composed a.now b.now dst.old dst.new result }
 {
@@ -167,6 +175,7 @@ pub fn compose(a: &[u8], b: &[u8], dst: &mut [u8]) -> Result<(), Refusal>
 // ---- extended_to
 
 // The tableau widened to n; a smaller n gives a copy.
+#[tactic(auto, using(crate::proofs::Answers::extensions))]
 pub fn extended_to(t: &[u8], n: usize, dst: &mut [u8]) -> Result<(), Refusal>
     ensures { Extended t.now n dst.old dst.new result }
 {
@@ -179,6 +188,7 @@ pub fn extended_to(t: &[u8], n: usize, dst: &mut [u8]) -> Result<(), Refusal>
 // ---- inverse
 
 // The inverse. Of an invalid tableau, what the same rule gives.
+#[tactic(auto, using(crate::proofs::Answers::inverses))]
 pub fn inverse(t: &[u8], dst: &mut [u8]) -> Result<(), Refusal>
     ensures { Inverted t.now dst.old dst.new result }
 {
@@ -189,6 +199,7 @@ pub fn inverse(t: &[u8], dst: &mut [u8]) -> Result<(), Refusal>
 // ---- is_valid
 
 // Whether the tableau is valid.
+#[tactic(auto, using(crate::proofs::IsValid::validity))]
 pub fn is_valid(t: &[u8]) -> Result<bool, Refusal>
     ensures { ValidityTold t.now result }
 {
@@ -209,6 +220,7 @@ pub fn from_pauli_string(s: &[u8], dst: &mut [u8]) -> Result<(), Refusal>
 
 // ---- support_qubits
 
+#[tactic(auto, using(pauli::proofs::Asking::by_questions), unfolding(crate::specs::Questions::support_answer))]
 fn check_support(t: &[u8], room: usize) -> Result<(), Refusal>
     ensures { result ≡ support_answer t.now room }
 {
@@ -217,6 +229,7 @@ fn check_support(t: &[u8], room: usize) -> Result<(), Refusal>
 }
 
 // The qubits of the support, rising, and their number.
+#[tactic(auto, using(crate::proofs::SupportQubits::support_answers))]
 pub fn support_qubits(t: &[u8], dst: &mut [u8]) -> Result<usize, Refusal>
     ensures { SupportWritten t.now dst.old dst.new result }
 {
@@ -228,6 +241,7 @@ pub fn support_qubits(t: &[u8], dst: &mut [u8]) -> Result<usize, Refusal>
 
 // ---- display
 
+#[tactic(auto, using(pauli::proofs::Asking::by_questions), unfolding(crate::specs::Display::display_answer))]
 fn check_display(t: &[u8], room: usize) -> Result<(), Refusal>
     ensures { result ≡ display_answer t.now room }
 {
@@ -236,6 +250,7 @@ fn check_display(t: &[u8], room: usize) -> Result<(), Refusal>
 }
 
 // The text that shows a tableau; the answer is its length.
+#[tactic(auto, using(crate::proofs::Display::displays))]
 pub fn display(t: &[u8], dst: &mut [u8]) -> Result<usize, Refusal>
     ensures { Displayed t.now dst.old dst.new result }
 {
@@ -244,6 +259,7 @@ pub fn display(t: &[u8], dst: &mut [u8]) -> Result<usize, Refusal>
 }
 
 // Whether a text starts as every display text does.
+#[tactic(auto, unfolding(crate::specs::Display::starts_with))]
 pub fn starts_with_name(text: &[u8]) -> bool
     ensures { result ≡ starts_with name_text text.now }
 {

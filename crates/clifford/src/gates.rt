@@ -1,6 +1,6 @@
 // The images of the gates, and the rows of their tableaux. Ports clifford.rs and the constructors of clifford_rep.rs of PECOS,
 // changed: Copyright 2026 and 2024 The PECOS Developers, Apache License, Version 2.0.
-ghost use Rattle.std.specs.Prelude.{◌≡◌, suc, ◌<◌, max, slice_index};
+ghost use Rattle.std.specs.Prelude.{◌≡◌, suc, ◌<◌, ◌≤◌, max, slice_index};
 ghost use Rattle.clifford_group.specs.Tableau.{image_of};
 ghost use Rattle.clifford_gates.specs.GateTableaux.{image_string};
 ghost use Rattle.clifford_gates.specs.GateNumbers.{one_qubit_gate, two_qubit_gate, gate_tableau, product_gates, inverse_numbers};
@@ -10,9 +10,11 @@ ghost use Rattle.clifford.specs.Inside.Rows.{letters_in};
 ghost use Rattle.clifford.specs.GateQuestions.{gate_width};
 ghost use Rattle.clifford.specs.GateAnswers.{named};
 ghost use Rattle.clifford.specs.GateRows.{image_bytes, y_bytes, ImageOf};
-ghost use Rattle.clifford.specs.Inside.GateRows.{pair_bytes, image_held, first_entry, TakesTwo, EntryPlace, entry_pair, OneRow, ImageAsked, RowImageOf, row_image_string, PutsImage};
+ghost use Rattle.clifford.specs.Inside.Writing.{IsGenerator};
+ghost use Rattle.clifford.specs.Inside.GateRows.{pair_bytes, image_held, first_entry, entry_pair, OneRow, RowImageOf, row_image_string, GateSpan, PutsImage};
 
 use crate::applying::{clear_row, multiply_letter};
+use crate::numbering::{Gate, OneQubitGate, PlacedGate, TwoQubitGate};
 use pauli::algebra::{PhasedLetter, multiply_paulis};
 use pauli::rows::phase_times;
 
@@ -73,6 +75,8 @@ const INVERSES: [u8; 38] = [
     26, 27, 29, 28, 31, 30, 33, 32, 35, 34, 37, 36,
 ];
 
+const IDENTITY: OneQubitGate = OneQubitGate { number: 0 };
+
 // A sign, a letter on a qubit, and one more letter on a qubit.
 #[derive(Clone, Copy)]
 pub(crate) struct RowImage {
@@ -83,25 +87,10 @@ pub(crate) struct RowImage {
     other: usize,
 }
 
-// ---- the tables
-
-pub(crate) fn images_1q(gate: usize) -> [u8; 4]
-    requires { gate < 24 }
-    ensures { result ≡ image_bytes (one_qubit_gate gate) }
-{
-    IMAGES_1Q[gate]
-}
-
-fn images_2q(gate: usize) -> [u8; 12]
-    requires { TakesTwo gate }
-    ensures { result ≡ pair_bytes (two_qubit_gate gate) }
-{
-    IMAGES_2Q[gate - 24]
-}
-
 // ---- images
 
 // The image of Y = iXZ.
+#[tactic(auto, using(crate::proofs::GateImages::y_made))]
 fn y_image(images: [u8; 4]) -> PhasedLetter
     ensures { result ≡ y_bytes images }
 {
@@ -110,32 +99,77 @@ fn y_image(images: [u8; 4]) -> PhasedLetter
     PhasedLetter(phase_times(2, phase_times(signs, p.0)), p.1)
 }
 
-// What a one-qubit gate makes of a letter.
-pub(crate) fn letter_image(gate: usize, letter: u8) -> PhasedLetter
-    requires { gate < 24 }
-    ensures { ImageOf (letter_image (one_qubit_gate gate) (letter_of letter)) result }
-{
-    let e = images_1q(gate);
-    match letter {
-        0 => PhasedLetter(0, 0),
-        1 => PhasedLetter(e[0], e[1]),
-        2 => PhasedLetter(e[2], e[3]),
-        _ => y_image(e),
+impl OneQubitGate {
+    fn images(self) -> [u8; 4]
+        ensures { result ≡ image_bytes (one_qubit_gate self.number) }
+    {
+        IMAGES_1Q[self.number]
+    }
+
+    // What it makes of a letter.
+    pub(crate) fn letter_image(self, letter: u8) -> PhasedLetter
+        ensures { ImageOf (letter_image (one_qubit_gate self.number) (letter_of letter)) result }
+    {
+        let e = self.images();
+        match letter {
+            0 => PhasedLetter(0, 0),
+            1 => PhasedLetter(e[0], e[1]),
+            2 => PhasedLetter(e[2], e[3]),
+            _ => y_image(e),
+        }
+    }
+
+    // What it makes of an image.
+    pub(crate) fn sent_image(self, image: PhasedLetter) -> PhasedLetter
+        ensures { ImageOf (sent_image (one_qubit_gate self.number) (image_held image)) result }
+    {
+        let i = self.letter_image(image.1);
+        PhasedLetter(phase_times(image.0, i.0), i.1)
+    }
+
+    // Its image of X or of Z on qubit k.
+    fn row_image(self, k: usize, letter: u8) -> RowImage
+        ensures { OneRow (image_string (letter_image (one_qubit_gate self.number) (letter_of letter)) k) k result }
+    {
+        let i = self.letter_image(letter);
+        RowImage {
+            sign: i.0,
+            first: i.1,
+            place: k,
+            second: 0,
+            other: k,
+        }
     }
 }
 
-// ---- gates found by their images
+impl TwoQubitGate {
+    fn images(self) -> [u8; 12]
+        ensures { result ≡ pair_bytes (two_qubit_gate self.number) }
+    {
+        IMAGES_2Q[self.number - 24]
+    }
 
-// What a one-qubit gate makes of an image.
-pub(crate) fn sent_image(gate: usize, image: PhasedLetter) -> PhasedLetter
-    requires { gate < 24 }
-    ensures { ImageOf (sent_image (one_qubit_gate gate) (image_held image)) result }
-{
-    let i = letter_image(gate, image.1);
-    PhasedLetter(phase_times(image.0, i.0), i.1)
+    // The image that starts at this place of its entry, on its qubits.
+    #[tactic(auto, using(crate::proofs::GateImages::pair_reads))]
+    fn row_image(self, at: usize, q: usize, r: usize) -> RowImage
+        requires { at ≤ 9 }
+        ensures { result ≡ entry_pair (pair_bytes (two_qubit_gate self.number)) at q r }
+    {
+        let e = self.images();
+        RowImage {
+            sign: e[at],
+            first: e[at + 1],
+            place: q,
+            second: e[at + 2],
+            other: r,
+        }
+    }
 }
 
+// ---- gates found by their images or by number
+
 // The first gate, by number, whose images of X and of Z, phase and letter, are these.
+#[tactic(auto, using(crate::proofs::GateNaming::gate_searches))]
 pub(crate) fn first_gate(images: [u8; 4]) -> Option<u8>
     ensures { result ≡ named (first_entry images) }
 {
@@ -144,7 +178,10 @@ pub(crate) fn first_gate(images: [u8; 4]) -> Option<u8>
         if 24 <= gate {
             break None;
         }
-        if images_1q(usize::from(gate)) == images {
+        let this = OneQubitGate {
+            number: usize::from(gate),
+        };
+        if this.images() == images {
             break Some(gate);
         }
         gate += 1;
@@ -152,6 +189,7 @@ pub(crate) fn first_gate(images: [u8; 4]) -> Option<u8>
 }
 
 // The gate that a product of H and SZ is.
+#[tactic(auto, unfolding(clifford_gates::specs::GateNumbers::product_gates))]
 pub(crate) fn product_number(index: usize) -> usize
     requires { index < 24 }
     ensures { result ≡ slice_index product_gates index }
@@ -159,6 +197,7 @@ pub(crate) fn product_number(index: usize) -> usize
     usize::from(PRODUCTS[index])
 }
 
+#[tactic(auto, unfolding(clifford_gates::specs::GateNumbers::inverse_numbers))]
 pub(crate) fn inverse_number(gate: usize) -> u8
     requires { gate < 38 }
     ensures { result ≡ slice_index inverse_numbers gate }
@@ -168,58 +207,46 @@ pub(crate) fn inverse_number(gate: usize) -> u8
 
 // ---- rows
 
-// A one-qubit gate's image of X or of Z on qubit k.
-fn on_one(gate: usize, k: usize, letter: u8) -> RowImage
-    requires { gate < 24 }
-    ensures { OneRow (image_string (letter_image (one_qubit_gate gate) (letter_of letter)) k) k result }
-{
-    let i = letter_image(gate, letter);
-    RowImage {
-        sign: i.0,
-        first: i.1,
-        place: k,
-        second: 0,
-        other: k,
-    }
-}
-
-// The image that starts at this place of a two-qubit gate's entry, on the gate's qubits.
-fn on_two(gate: usize, at: usize, q: usize, r: usize) -> RowImage
-    requires { EntryPlace gate at }
-    ensures { result ≡ entry_pair (pair_bytes (two_qubit_gate gate)) at q r }
-{
-    let e = images_2q(gate);
-    RowImage {
-        sign: e[at],
-        first: e[at + 1],
-        place: q,
-        second: e[at + 2],
-        other: r,
-    }
-}
-
-// A gate's image of X or of Z on qubit k, also where the gate's tableau is narrower.
-pub(crate) fn gate_image(gate: usize, q: usize, r: usize, k: usize, letter: u8) -> RowImage
-    requires { ImageAsked gate q r letter }
-    ensures { RowImageOf (max (gate_width gate q r) (suc k)) (image_of (gate_tableau gate q r) k (letter_of letter)) result }
-{
-    if gate < 24 {
-        if k == q {
-            return on_one(gate, k, letter);
+impl PlacedGate {
+    // The width of its tableau.
+    pub(crate) fn width(self) -> usize
+        ensures { GateSpan self.number self.first self.second result }
+    {
+        match Gate::numbered(self.number) {
+            Gate::One(_) => self.first + 1,
+            Gate::Two(_) => self.first.max(self.second) + 1,
         }
-        return on_one(0, k, letter);
     }
-    let row = 6 * usize::from(letter);
-    if k == q {
-        return on_two(gate, row - 6, q, r);
+
+    // Its image of X or of Z on qubit k, also where its tableau is narrower.
+    pub(crate) fn image(self, k: usize, letter: u8) -> RowImage
+        requires { IsGenerator letter }
+        ensures { RowImageOf (max (gate_width self.number self.first self.second) (suc k)) (image_of (gate_tableau self.number self.first self.second) k (letter_of letter)) result }
+    {
+        match Gate::numbered(self.number) {
+            Gate::One(own) => {
+                if k == self.first {
+                    own.row_image(k, letter)
+                } else {
+                    IDENTITY.row_image(k, letter)
+                }
+            }
+            Gate::Two(own) => {
+                let row = 6 * usize::from(letter);
+                if k == self.first {
+                    own.row_image(row - 6, self.first, self.second)
+                } else if k == self.second {
+                    own.row_image(row - 3, self.first, self.second)
+                } else {
+                    IDENTITY.row_image(k, letter)
+                }
+            }
+        }
     }
-    if k == r {
-        return on_two(gate, row - 3, q, r);
-    }
-    on_one(0, k, letter)
 }
 
 // An image as a work row.
+#[tactic(auto, using(crate::proofs::GateWriting::image_puts))]
 pub(crate) fn put_image(image: RowImage, work: &mut [u8])
     requires { PutsImage image work.old }
     ensures { work.new ≡ encode_string (letters_in work.old) (row_image_string image) }

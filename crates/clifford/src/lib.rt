@@ -9,6 +9,7 @@ mod displaying;
 mod gates;
 mod inverting;
 pub mod layout;
+mod numbering;
 mod pauli_tableau;
 pub mod playing;
 pub mod questions;

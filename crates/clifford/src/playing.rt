@@ -1,14 +1,16 @@
 // A gate composed on the left of a tableau record, in place and in time linear in the width.
-ghost use Rattle.std.specs.Prelude.{◌≡◌, [], slice_index_or};
+ghost use Rattle.std.specs.Prelude.{◌≡◌, ◌-◌, [], slice_index_or};
 ghost use Rattle.clifford.specs.Layout.{each_row};
 ghost use Rattle.clifford.specs.Playing.{second_fits, playable, GatePlayed, PlayedBy, letter_table_on_row, pair_table_on_row};
 ghost use Rattle.clifford.specs.Inside.Playing.{PlaysLetters, PlaysPairs};
 
 use crate::layout::{change_letter, change_pair, record_length, row_offset, width};
+use crate::numbering::{Gate, OneQubitGate, TwoQubitGate};
 use crate::tables::{letter_tables, pair_tables};
 use pauli::QUBITS;
 
-// Whether the second qubit of a two-qubit gate is below the width and another than the first.
+// Whether the second qubit of a two-qubit gate is below the width and another than the first. The gate may be any number.
+#[tactic(auto, unfolding(crate::specs::Playing::second_fits))]
 fn second_fits(gate: usize, q: usize, r: usize, width: usize) -> bool
     ensures { result ≡ second_fits gate q r width }
 {
@@ -16,6 +18,7 @@ fn second_fits(gate: usize, q: usize, r: usize, width: usize) -> bool
 }
 
 // Whether the gate has a place in the record. The rows are not looked at.
+#[tactic(auto, using(crate::proofs::Play::playables))]
 fn is_playable(gate: usize, q: usize, r: usize, t: &[u8]) -> bool
     ensures { result ≡ playable gate q r t.now }
 {
@@ -23,13 +26,14 @@ fn is_playable(gate: usize, q: usize, r: usize, t: &[u8]) -> bool
     gate < 38 && q < n && second_fits(gate, q, r, n) && n <= QUBITS && t.len() == record_length(n)
 }
 
-// A one-qubit gate on each row, by its table. This loop and the next are no generic function: what the function that changes a row may
-// count on, and that it reaches no other row, would be clauses longer than the loop.
-fn play_letters(tables: &[[[u8; 4]; 2]; 24], gate: usize, q: usize, t: &mut [u8])
-    requires { PlaysLetters gate q t.old }
-    ensures { t.new ≡ each_row (letter_table_on_row (slice_index_or tables.now gate []) q) t.old }
+// A one-qubit gate on each row, by its table. This loop and the next are no generic function: a trait of row changes would state what
+// a change may count on and that it reaches no other row, and with its two implementations be longer than both loops.
+#[tactic(auto, using(crate::proofs::Play::plays))]
+fn play_letters(tables: &[[[u8; 4]; 2]; 24], gate: OneQubitGate, q: usize, t: &mut [u8])
+    requires { PlaysLetters q t.old }
+    ensures { t.new ≡ each_row (letter_table_on_row (slice_index_or tables.now gate.number []) q) t.old }
 {
-    let table = tables[gate];
+    let table = tables[gate.number];
     let n = width(t);
     for i in 0..2 * n {
         let at = row_offset(n, i);
@@ -37,12 +41,13 @@ fn play_letters(tables: &[[[u8; 4]; 2]; 24], gate: usize, q: usize, t: &mut [u8]
     }
 }
 
-// Gate 24 + k on each row, by its table.
-fn play_pairs(tables: &[[[u8; 16]; 4]; 14], k: usize, q: usize, r: usize, t: &mut [u8])
-    requires { PlaysPairs k q r t.old }
-    ensures { t.new ≡ each_row (pair_table_on_row (slice_index_or tables.now k []) q r) t.old }
+// A two-qubit gate on each row, by its table.
+#[tactic(auto, using(crate::proofs::Play::plays))]
+fn play_pairs(tables: &[[[u8; 16]; 4]; 14], gate: TwoQubitGate, q: usize, r: usize, t: &mut [u8])
+    requires { PlaysPairs q r t.old }
+    ensures { t.new ≡ each_row (pair_table_on_row (slice_index_or tables.now (gate.number - 24) []) q r) t.old }
 {
-    let table = tables[k];
+    let table = tables[gate.number - 24];
     let n = width(t);
     for i in 0..2 * n {
         let at = row_offset(n, i);
@@ -51,6 +56,7 @@ fn play_pairs(tables: &[[[u8; 16]; 4]; 14], k: usize, q: usize, r: usize, t: &mu
 }
 
 // `play_gate` by tables that are lent.
+#[tactic(auto, using(crate::proofs::Play::playing))]
 pub fn play_with(
     ones: &[[[u8; 4]; 2]; 24],
     twos: &[[[u8; 16]; 4]; 14],
@@ -65,29 +71,17 @@ pub fn play_with(
     if !is_playable(g, q, r, t) {
         return false;
     }
-    if g < 24 {
-        play_letters(ones, g, q, t);
-    } else {
-        play_pairs(twos, g - 24, q, r, t);
+    match Gate::numbered(g) {
+        Gate::One(own) => play_letters(ones, own, q, t),
+        Gate::Two(own) => play_pairs(twos, own, q, r, t),
     }
     true
 }
 
 // The gate's tableau composed on the left of the record t; the answer is whether it was. Where the gate, its qubits or the length
-// don't fit, t stays. The rows are not looked at before: a byte above 3 is read as 3. Only the tables that the gate needs are laid out.
+// don't fit, t stays. The rows are not looked at before: a byte above 3 is read as 3.
 pub fn play_gate(gate: u8, q: usize, r: usize, t: &mut [u8]) -> bool
     ensures { GatePlayed gate q r t.old t.new result }
 {
-    let g = usize::from(gate);
-    if !is_playable(g, q, r, t) {
-        return false;
-    }
-    if g < 24 {
-        let ones = letter_tables();
-        play_letters(&ones, g, q, t);
-    } else {
-        let twos = pair_tables();
-        play_pairs(&twos, g - 24, q, r, t);
-    }
-    true
+    play_with(&letter_tables(), &pair_tables(), gate, q, r, t)
 }

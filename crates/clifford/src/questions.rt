@@ -10,6 +10,7 @@ use crate::layout::{check_row, check_weights, record_length, width};
 use pauli::QUBITS;
 use pauli::refusal::Refusal;
 
+#[tactic(auto, using(pauli::proofs::Asking::by_tests), unfolding(crate::specs::Questions::width_question, pauli_group::specs::PauliString::qubits))]
 pub fn check_width(width: usize) -> Result<(), Refusal>
     ensures { result ≡ width_question width }
 {
@@ -27,6 +28,7 @@ pub fn record_size(width: usize) -> usize
 }
 
 // A qubit of a tableau whose image is meant.
+#[tactic(auto, using(pauli::proofs::Asking::by_tests), unfolding(crate::specs::Questions::slot_question))]
 pub fn check_slot(slot: usize, width: usize) -> Result<(), Refusal>
     ensures { result ≡ slot_question slot width }
 {
@@ -67,6 +69,7 @@ pub fn check_tableau(t: &[u8]) -> Result<(), Refusal>
 }
 
 // Two tableau records, the first one first.
+#[tactic(auto, using(pauli::proofs::Asking::by_questions), unfolding(crate::specs::Questions::compose_questions))]
 pub fn check_tableaux(a: &[u8], b: &[u8]) -> Result<(), Refusal>
     ensures { result ≡ compose_questions a.now b.now }
 {
@@ -75,6 +78,7 @@ pub fn check_tableaux(a: &[u8], b: &[u8]) -> Result<(), Refusal>
 }
 
 // A gate, or an index of the 24 products, below the limit.
+#[tactic(auto, using(pauli::proofs::Asking::by_tests), unfolding(crate::specs::GateQuestions::gate_question))]
 pub fn check_gate(limit: usize, gate: usize) -> Result<(), Refusal>
     ensures { result ≡ gate_question limit gate }
 {
@@ -85,6 +89,7 @@ pub fn check_gate(limit: usize, gate: usize) -> Result<(), Refusal>
 }
 
 // Two qubits of a gate.
+#[tactic(auto, using(pauli::proofs::Asking::by_tests), unfolding(crate::specs::GateQuestions::different_question))]
 pub fn check_different(q: usize, r: usize) -> Result<(), Refusal>
     ensures { result ≡ different_question q r }
 {

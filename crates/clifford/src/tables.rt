@@ -134,14 +134,14 @@ const PAIRS: [[[u8; 16]; 4]; 14] = [
     ],
 ];
 
-// The tables of gates 0 to 23.
+// The tables of gates 0 to 23. A constant has no contract, so this function promises what the numbers are.
 pub fn letter_tables() -> [[[u8; 4]; 2]; 24]
     ensures { result ≡ letter_tables }
 {
     LETTERS
 }
 
-// The tables of gates 24 to 37.
+// The tables of gates 24 to 37, in the same way.
 pub fn pair_tables() -> [[[u8; 16]; 4]; 14]
     ensures { result ≡ pair_tables }
 {

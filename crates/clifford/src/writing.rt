@@ -10,9 +10,10 @@ ghost use Rattle.clifford.specs.Inside.Rows.{row_written};
 ghost use Rattle.clifford.specs.Inside.Made.{Made, MakesRow, WritesRow, WritesAll, TableauWritten, Widens, Composes, Spans, GateInside};
 
 use crate::applying::{apply_letter, apply_string};
-use crate::gates::{gate_image, put_image};
+use crate::gates::put_image;
 use crate::inverting::InverseRow;
 use crate::layout::{RowPlace, record_length, row_offset, width, write_row};
+use crate::numbering::PlacedGate;
 use crate::pauli_tableau::pauli_row;
 use pauli::STRING_LENGTH;
 use pauli::questions::check_room;
@@ -128,17 +129,15 @@ impl<'a> RowMaker for OfPauli<'a> {
 // The tableau of a gate, widened.
 #[derive(Clone, Copy)]
 pub(crate) struct OfGate {
-    pub(crate) gate: usize,
-    pub(crate) first: usize,
-    pub(crate) second: usize,
+    pub(crate) gate: PlacedGate,
     pub(crate) width: usize,
-    ghost inside: { GateInside gate first second width },
+    ghost inside: { GateInside gate.number gate.first gate.second width },
 }
 
 impl RowMaker for OfGate {
     ghost wide = { λ m. m.width };
 
-    ghost made = { λ m. widen m.width (gate_tableau m.gate m.first m.second) };
+    ghost made = { λ m. widen m.width (gate_tableau m.gate.number m.gate.first m.gate.second) };
 
     fn width(&self) -> usize {
         self.width
@@ -146,14 +145,7 @@ impl RowMaker for OfGate {
 
     #[tactic(auto, using(crate::proofs::Made::made_rows))]
     fn make_row(&self, row: RowPlace, _source: &mut [u8], work: &mut [u8]) {
-        let image = gate_image(
-            self.gate,
-            self.first,
-            self.second,
-            row.qubit(),
-            row.letter(),
-        );
-        put_image(image, work);
+        put_image(self.gate.image(row.qubit(), row.letter()), work);
     }
 }
 

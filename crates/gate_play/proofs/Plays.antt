@@ -7,7 +7,6 @@ use Prim.Native.Nat.{ℕ, ◌≤◌, ◌<◌}
 use native.Mathlib.Omega.{arith}
 use native.Mathlib.Decide.{dec_lt}
 use lib.ListN.{length, drop_of_length-le}
-use borrow.Author.Rules.{rules}
 use Rattle.pauli.specs.Answers.{written, Outcome}
 use Rattle.pauli.specs.Questions.{◌and_then◌}
 use Rattle.pauli.proofs.Asking.{passed, done_first, done_second}
@@ -20,7 +19,7 @@ use Rattle.clifford.specs.Playing.{playable, played, GatePlayed}
 use Rattle.clifford.proofs.Asking.{tableau-formed}
 use Rattle.clifford.proofs.GateAsking.{gate_in, gate-below, own_in, own_below, qubits-one, qubits_of_two, qubits_differ, are_different}
 use Rattle.clifford.proofs.Play.{playable-is, playable_yes}
-use Rattle.clifford_laws.proofs.PlayedGates.{played-is, length-played, played-same}
+use Rattle.clifford_laws.proofs.PlayedGates.{played-is, length-played}
 use Rattle.gate_play.specs.PlayQuestions.{play_questions}
 use Rattle.std.specs.Prelude.{Ok}
 
@@ -74,5 +73,3 @@ playable-asked t g q r e h =
 pub play_done : (t : List ℕ) (g q r : ℕ) {o : Outcome} {d : List ℕ} {b : Bool} → o ≡ play_questions t g q r → o ≡ Ok tt → GatePlayed g q r t d b
     → d ≡ written (Ok tt) (compose_record (gate_record g q r) t) t
 play_done t g q r e f p = play_written t g q r (sym e ∙ f) p
-
-pub ruleset play_answers = (play_done, played-same, rules)

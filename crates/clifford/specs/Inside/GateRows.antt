@@ -7,7 +7,6 @@ use Rattle.clifford_gates.specs.GateNumbers.{first_with}
 use Rattle.pauli.specs.Layout.{phase_byte, phase_of, letter_byte, letter_of}
 use Rattle.pauli.specs.declared.algebra.PhasedLetter.{PhasedLetter}
 use Rattle.clifford.specs.declared.gates.RowImage.{RowImage}
-use Rattle.clifford.specs.Inside.Writing.{IsGenerator}
 use Rattle.clifford.specs.GateQuestions.{gate_width}
 use Rattle.clifford.specs.GateRows.{image_bytes}
 
@@ -30,16 +29,6 @@ unfoldable pub generator_image : PairImage → PairImage → ℕ → PairImage
 generator_image x z zero = z
 generator_image x z (suc zero) = x
 generator_image x z (suc (suc l)) = z
-
--- a gate on two qubits
-pub record TakesTwo (g : ℕ) : Type 0 where
-  pub from : 24 ≤ g
-  pub below : g < 38
-
--- and a place of its entry where an image starts
-pub record EntryPlace (g k : ℕ) : Type 0 where
-  pub two : TakesTwo g
-  pub inside : k ≤ 9
 
 -- ---- gates found by their images
 
@@ -88,11 +77,6 @@ pub record GateOn (g q r : ℕ) : Type 0 where
   pub second : 24 ≤ g → r < 128
   pub different : 24 ≤ g → q ≢ r
 
--- the same, with X or Z
-pub record ImageAsked (g q r l : ℕ) : Type 0 where
-  pub on : GateOn g q r
-  pub letter : IsGenerator l
-
 -- an image, and a work row of any content that it fits
 pub record PutsImage (i : RowImage) (d : List ℕ) : Type 0 where
   pub sign : i.sign ≤ 3
@@ -104,8 +88,3 @@ pub record PutsImage (i : RowImage) (d : List ℕ) : Type 0 where
 pub record GateSpan (g q r w : ℕ) : Type 0 where
   pub is : w ≡ gate_width g q r
   pub small : w ≤ 128
-
--- two one-qubit gates
-pub record BothSmall (g h : ℕ) : Type 0 where
-  pub first : g < 24
-  pub second : h < 24

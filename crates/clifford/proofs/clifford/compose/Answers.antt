@@ -10,8 +10,11 @@ pub returns-in_err-check_gate-2 : goal.returns-in_err-check_gate-2
 returns-in_err-check_gate-2 c =
     rw (← c.from-first.ensures, ← c.from-second.ensures) (answered-exit _ (gates_asked _ _ c.in_ok-check_gate.ensures c.in_err-check_gate-2.ensures) c.from_residual-in_err-check_gate-2.ensures.1)
 
-pub composed-requires : goal.composed-requires
-composed-requires c = search (gate-products, c.in_ok-check_gate.ensures, c.in_ok-check_gate-2.ensures)
+pub invariant_of-composed : goal.invariant_of-composed
+invariant_of-composed c = record { small = search (gate-products, c.in_ok-check_gate.ensures) }
+
+pub invariant_of-composed-2 : goal.invariant_of-composed-2
+invariant_of-composed-2 c = record { small = search (gate-products, c.in_ok-check_gate-2.ensures) }
 
 pub returns : goal.returns
 returns c = rw (← c.from-first.ensures, ← c.from-second.ensures) (search (gate-products, c.in_ok-check_gate.ensures, c.in_ok-check_gate-2.ensures))

@@ -1,5 +1,5 @@
 -- `clifford::on_qubit` meets its contract.
-use Rattle.clifford.proofs.GateAnswers.{one_qubit_answers}
+use Rattle.clifford.proofs.GateAnswers.{one-inside, one_qubit_answers}
 use Rattle.clifford.proofs.clifford.on_qubit.Goals as goal
 
 pub returns-in_err-check_gate : goal.returns-in_err-check_gate
@@ -8,11 +8,8 @@ returns-in_err-check_gate c = rw (← c.from-g.ensures) (search (one_qubit_answe
 pub returns-in_err-check_qubit : goal.returns-in_err-check_qubit
 returns-in_err-check_qubit c = rw (← c.from-g.ensures) (search (one_qubit_answers, c.in_err-check_qubit.ensures, c.in_ok-check_gate.ensures))
 
-pub overflow_add-q : goal.overflow_add-q
-overflow_add-q c = search (one_qubit_answers, c.in_ok-check_gate.ensures, c.in_ok-check_qubit.ensures)
-
-pub write_gate-requires : goal.write_gate-requires
-write_gate-requires c = search (one_qubit_answers, c.in_ok-check_gate.ensures, c.in_ok-check_qubit.ensures)
+pub invariant_of-placed : goal.invariant_of-placed
+invariant_of-placed c = record { on = (one-inside _ _ c.in_ok-check_gate.ensures c.in_ok-check_qubit.ensures).on }
 
 pub returns : goal.returns
 returns c = rw (← c.from-g.ensures) (search (one_qubit_answers, c.in_ok-check_gate.ensures, c.in_ok-check_qubit.ensures))

@@ -8,11 +8,5 @@ returns-in_err-check_gate c = rw (← c.from-g.ensures) (search (gate_answers, c
 pub returns-in_err-check_qubits : goal.returns-in_err-check_qubits
 returns-in_err-check_qubits c = rw (← c.from-g.ensures) (search (gate_answers, c.in_err-check_qubits.ensures, c.in_ok-check_gate.ensures))
 
-pub gate_width-requires : goal.gate_width-requires
-gate_width-requires c = search (gate_answers, c.in_ok-check_gate.ensures, c.in_ok-check_qubits.ensures)
-
-pub write_gate-requires : goal.write_gate-requires
-write_gate-requires c = search (gate_answers, c.in_ok-check_gate.ensures, c.in_ok-check_qubits.ensures)
-
 pub returns : goal.returns
 returns c = rw (← c.from-g.ensures) (search (gate_answers, c.in_ok-check_gate.ensures, c.in_ok-check_qubits.ensures))

@@ -1,5 +1,5 @@
 -- `clifford::on_width` meets its contract.
-use Rattle.clifford.proofs.GateAsking.{width_answers}
+use Rattle.clifford.proofs.GateAsking.{width-inside, width_answers}
 use Rattle.clifford.proofs.clifford.on_width.Goals as goal
 
 pub returns-in_err-check_width : goal.returns-in_err-check_width
@@ -10,9 +10,6 @@ returns-in_err-check_gate c = rw (← c.from-g.ensures) (search (width_answers, 
 
 pub returns-in_err-check_qubits : goal.returns-in_err-check_qubits
 returns-in_err-check_qubits c = rw (← c.from-g.ensures) (search (width_answers, c.in_err-check_qubits.ensures, c.in_ok-check_width.ensures, c.in_ok-check_gate.ensures))
-
-pub write_gate-requires : goal.write_gate-requires
-write_gate-requires c = search (width_answers, c.in_ok-check_width.ensures, c.in_ok-check_gate.ensures, c.in_ok-check_qubits.ensures)
 
 pub returns : goal.returns
 returns c = rw (← c.from-g.ensures) (search (width_answers, c.in_ok-check_width.ensures, c.in_ok-check_gate.ensures, c.in_ok-check_qubits.ensures))

@@ -1,5 +1,5 @@
 -- `clifford::single_qubit_clifford` meets its contract.
-use Rattle.clifford.proofs.GateAnswers.{one_qubit_answers}
+use Rattle.clifford.proofs.GateAnswers.{product-inside, one_qubit_answers}
 use Rattle.clifford.proofs.clifford.single_qubit_clifford.Goals as goal
 
 pub returns-in_err-check_gate : goal.returns-in_err-check_gate
@@ -8,14 +8,8 @@ returns-in_err-check_gate c = search (one_qubit_answers, c.in_err-check_gate.ens
 pub returns-in_err-check_qubit : goal.returns-in_err-check_qubit
 returns-in_err-check_qubit c = search (one_qubit_answers, c.in_err-check_qubit.ensures, c.in_ok-check_gate.ensures)
 
-pub product_number-requires : goal.product_number-requires
-product_number-requires c = search (one_qubit_answers, c.in_ok-check_gate.ensures)
-
-pub overflow_add-qubit : goal.overflow_add-qubit
-overflow_add-qubit c = search (one_qubit_answers, c.in_ok-check_gate.ensures, c.in_ok-check_qubit.ensures)
-
-pub write_gate-requires : goal.write_gate-requires
-write_gate-requires c = search (one_qubit_answers, c.in_ok-check_gate.ensures, c.in_ok-check_qubit.ensures)
+pub invariant_of-placed : goal.invariant_of-placed
+invariant_of-placed c = record { on = (product-inside _ _ c.in_ok-check_gate.ensures c.in_ok-check_qubit.ensures c.product_number.ensures).on }
 
 pub returns : goal.returns
 returns c = search (one_qubit_answers, c.in_ok-check_gate.ensures, c.in_ok-check_qubit.ensures)

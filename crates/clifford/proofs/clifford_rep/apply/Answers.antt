@@ -10,12 +10,3 @@ returns-in_err-check_string c = search (applying, c.in_err-check_string.ensures,
 
 pub returns-in_err-check_room : goal.returns-in_err-check_room
 returns-in_err-check_room c = search (applying, c.in_err-check_room.ensures, c.in_ok-check_tableau.ensures, c.in_ok-check_string.ensures)
-
-pub slice_bounds-apply_string-end : goal.slice_bounds-apply_string-end
-slice_bounds-apply_string-end c = search (applying, c.in_ok-check_tableau.ensures, c.in_ok-check_string.ensures, c.in_ok-check_room.ensures)
-
-pub apply_string-requires : goal.apply_string-requires
-apply_string-requires c = search (applying, c.in_ok-check_tableau.ensures, c.in_ok-check_string.ensures, c.in_ok-check_room.ensures)
-
-pub returns : goal.returns
-returns c = search (applying, c.in_ok-check_tableau.ensures, c.in_ok-check_string.ensures, c.in_ok-check_room.ensures)

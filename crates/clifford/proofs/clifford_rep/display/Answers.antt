@@ -5,8 +5,5 @@ use Rattle.clifford.proofs.clifford_rep.display.Goals as goal
 pub returns-in_err-check_display : goal.returns-in_err-check_display
 returns-in_err-check_display c = search (displays, c.in_err-check_display.ensures)
 
-pub of-requires : goal.of-requires
-of-requires c = search (displays, c.in_ok-check_display.ensures)
-
 pub returns : goal.returns
 returns c = search (displays, c.in_ok-check_display.ensures)

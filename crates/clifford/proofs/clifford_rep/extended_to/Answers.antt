@@ -8,11 +8,5 @@ returns-in_err-check_tableau c = search (extensions, c.in_err-check_tableau.ensu
 pub returns-in_err-check_width : goal.returns-in_err-check_width
 returns-in_err-check_width c = search (extensions, c.in_err-check_width.ensures, c.in_ok-check_tableau.ensures)
 
-pub invariant_of-write_made : goal.invariant_of-write_made
-invariant_of-write_made c = search (extensions, c.in_ok-check_tableau.ensures, c.in_ok-check_width.ensures)
-
-pub write_made-requires : goal.write_made-requires
-write_made-requires c = search extensions
-
 pub returns : goal.returns
 returns c = search (extensions, c.in_ok-check_tableau.ensures, c.in_ok-check_width.ensures)

@@ -5,11 +5,5 @@ use Rattle.clifford.proofs.clifford_rep.identity.Goals as goal
 pub returns-in_err-check_width : goal.returns-in_err-check_width
 returns-in_err-check_width c = search (identities, c.in_err-check_width.ensures)
 
-pub invariant_of-write_made : goal.invariant_of-write_made
-invariant_of-write_made c = search (identities, c.in_ok-check_width.ensures)
-
-pub write_made-requires : goal.write_made-requires
-write_made-requires c = search (identities, c.in_ok-check_width.ensures)
-
 pub returns : goal.returns
 returns c = search (identities, c.in_ok-check_width.ensures)

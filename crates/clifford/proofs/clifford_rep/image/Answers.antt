@@ -4,12 +4,3 @@ use Rattle.clifford.proofs.clifford_rep.image.Goals as goal
 
 pub returns-in_err-check_image : goal.returns-in_err-check_image
 returns-in_err-check_image g c = search (images, c.in_err-check_image.ensures)
-
-pub image_row-requires : goal.image_row-requires
-image_row-requires g c = search (images, c.in_ok-check_image.ensures)
-
-pub row-requires : goal.row-requires
-row-requires g c = search (images, c.in_ok-check_image.ensures)
-
-pub returns : goal.returns
-returns g c = search (images, c.in_ok-check_image.ensures)

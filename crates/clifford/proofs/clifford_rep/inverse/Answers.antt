@@ -5,11 +5,5 @@ use Rattle.clifford.proofs.clifford_rep.inverse.Goals as goal
 pub returns-in_err-check_tableau : goal.returns-in_err-check_tableau
 returns-in_err-check_tableau c = search (inverses, c.in_err-check_tableau.ensures)
 
-pub invariant_of-write_made : goal.invariant_of-write_made
-invariant_of-write_made c = search (inverses, c.in_ok-check_tableau.ensures)
-
-pub write_made-requires : goal.write_made-requires
-write_made-requires c = search (inverses, c.in_ok-check_tableau.ensures)
-
 pub returns : goal.returns
 returns c = search (inverses, c.in_ok-check_tableau.ensures)

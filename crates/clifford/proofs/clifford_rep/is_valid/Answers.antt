@@ -5,8 +5,5 @@ use Rattle.clifford.proofs.clifford_rep.is_valid.Goals as goal
 pub returns-in_err-check_tableau : goal.returns-in_err-check_tableau
 returns-in_err-check_tableau c = search (validity, c.in_err-check_tableau.ensures)
 
-pub of-requires : goal.of-requires
-of-requires c = search (validity, c.in_ok-check_tableau.ensures)
-
 pub returns : goal.returns
 returns c = search (validity, c.in_ok-check_tableau.ensures, c.of.ensures)

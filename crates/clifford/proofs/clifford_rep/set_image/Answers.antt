@@ -5,11 +5,5 @@ use Rattle.clifford.proofs.clifford_rep.set_image.Goals as goal
 pub returns-in_err-check_set : goal.returns-in_err-check_set
 returns-in_err-check_set g c = search (image_setting, c.in_err-check_set.ensures)
 
-pub image_row-requires : goal.image_row-requires
-image_row-requires g c = search (image_setting, c.in_ok-check_set.ensures)
-
-pub set_row-requires : goal.set_row-requires
-set_row-requires g c = search (image_setting, c.in_ok-check_set.ensures)
-
 pub returns : goal.returns
 returns g c = search (image_setting, c.in_ok-check_set.ensures)

@@ -2,14 +2,5 @@
 use Rattle.clifford.proofs.GateNaming.{gate_searches}
 use Rattle.clifford.proofs.gates.first_gate.Goals as goal
 
-pub loop-gate-init : goal.loop-gate-init
-loop-gate-init c = search gate_searches
-
-pub loop-gate-preserved : goal.loop-gate-preserved
-loop-gate-preserved c = search gate_searches
-
-pub returns-then-gate-ge24 : goal.returns-then-gate-ge24
-returns-then-gate-ge24 c = search gate_searches
-
 pub returns-then-eq : goal.returns-then-eq
 returns-then-eq c = search gate_searches

@@ -2,17 +2,11 @@
 use Rattle.clifford.proofs.Play.{playing}
 use Rattle.clifford.proofs.playing.play_with.Goals as goal
 
-pub returns-then-not-is_playable : goal.returns-then-not-is_playable
-returns-then-not-is_playable c = search playing
-
-pub play_letters-requires : goal.play_letters-requires
-play_letters-requires c = search playing
-
 pub play_pairs-requires : goal.play_pairs-requires
 play_pairs-requires c = search playing
 
-pub returns-then-g-lt24 : goal.returns-then-g-lt24
-returns-then-g-lt24 c = rw (← c.from-g.ensures) (search playing)
+pub returns-in-One : goal.returns-in-One
+returns-in-One c = rw (← c.from-g.ensures) (search playing)
 
-pub returns-else-g-lt24 : goal.returns-else-g-lt24
-returns-else-g-lt24 c = rw (← c.from-g.ensures) (search playing)
+pub returns-in-Two : goal.returns-in-Two
+returns-in-Two c = rw (← c.from-g.ensures) (search playing)
