@@ -1,15 +1,15 @@
--- `running::play_chain` meets its contract, by the laws of `Running`.
+-- `running::Tables::play_chain` meets its contract, by the laws of `Running`.
 use Rattle.gate_list.proofs.RunSteps.{runs}
-use Rattle.gate_list.proofs.running.play_chain.Goals as goal
+use Rattle.gate_list.proofs.running.Tables.play_chain.Goals as goal
 
-pub next-i-requires : goal.next-i-requires
-next-i-requires c = search runs
+pub invariant_of-next : goal.invariant_of-next
+invariant_of-next c = search runs
 
-pub loop-i-init : goal.loop-i-init
-loop-i-init c = search runs
+pub chain-init : goal.chain-init
+chain-init c = search runs
 
-pub loop-i-preserved : goal.loop-i-preserved
-loop-i-preserved c = search runs
+pub chain-preserved : goal.chain-preserved
+chain-preserved c = search runs
 
 pub returns : goal.returns
 returns c = search runs
