@@ -74,6 +74,6 @@ impl<'a> Record<'a> {
     pub(crate) fn next(&self) -> usize
         ensures { result ≡ next_of self.now.list.now self.now.i }
     {
-        usize::from(self.byte(4)) + 256 * usize::from(self.byte(5))
+        usize::from(u16::from_le_bytes([self.byte(4), self.byte(5)]))
     }
 }
