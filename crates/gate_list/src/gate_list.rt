@@ -26,7 +26,7 @@ pub fn check_list(list: &[u8]) -> Result<(), Refusal>
 }
 
 // The questions of a run: those of the list, and room for the record last.
-#[tactic(auto, using(pauli::proofs::Asking::by_questions), unfolding(crate::specs::Runs::run_answer))]
+#[tactic(auto, using(pauli::proofs::Asking::by_questions, crate::proofs::RunAnswers::run_asks), unfolding(crate::specs::Runs::run_answer))]
 fn run_answer(list: &[u8], room: usize) -> Result<(), Refusal>
     ensures { result ≡ run_answer list.now room }
 {

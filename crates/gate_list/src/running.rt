@@ -46,6 +46,7 @@ impl<'a> Tables<'a> {
 }
 
 // The whole run, in the front of a destination.
+#[tactic(auto, using(crate::proofs::RunAnswers::run_writes))]
 pub(crate) fn write_run(list: &[u8], dst: &mut [u8]) -> usize
     requires { RunRoom list.now dst.old }
     ensures { RunWritten list.now dst.old dst.new result }
