@@ -8,7 +8,7 @@ use borrow.Author.Tests.{le-leb, lt-leb, lt-ltb, le-ltb, eq-eqb, ne_eqb}
 use Rattle.pauli.specs.declared.refusal.Refusal.TheVariants.{ListLength}
 use Rattle.pauli.proofs.Asking.{asked_yes, asked_no}
 use Rattle.gate_list.specs.Lists.{record_count, byte_of, next_of}
-use Rattle.gate_list.specs.ListQuestions.{size_question, head_question, link_question, zeros_question}
+use Rattle.gate_list.specs.ListQuestions.{size_question, head_question, link_question}
 use Rattle.std.specs.Prelude.{Ok, Err}
 
 -- a question by the tests of numbers that it is made of
@@ -37,7 +37,3 @@ module _ (l : List ℕ) where
     pub link-good : next_of l i < record_count l → Ok tt ≡ link_question l i
     unfolding link_question
     link-good h = grind (arith, by_tests)
-
-    pub zeros-one : byte_of l i 2 ≡ 0 → byte_of l i 3 ≡ 0 → Ok tt ≡ zeros_question l i
-    unfolding zeros_question
-    zeros-one s f = grind (arith, by_tests)
