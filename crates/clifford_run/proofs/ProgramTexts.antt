@@ -7,7 +7,6 @@ use native.Mathlib.Omega.{arith}
 use lib.ListN.{length, take, drop, length-take, length-drop, length-append}
 use lib.Seq.{take_all, take_at}
 use borrow.Author.Rules.{rules}
-use Rattle.pauli.specs.declared.refusal.Refusal.{Refusal}
 use Rattle.pauli.specs.declared.refusal.Refusal.TheVariants.{ListLength}
 use Rattle.pauli.specs.Answers.{answer_to, written, CountWritten, Answer}
 use Rattle.pauli.proofs.Asking.{refused}

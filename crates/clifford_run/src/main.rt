@@ -9,7 +9,14 @@ use gate_list::gate_list::report;
 use std::io;
 use std::io::{Read, Write};
 
-// Reads until the input ends or the buffer is full; the answer is how many bytes were read.
+// One byte more than the longest list has, so that a longer input is seen to be one.
+const INPUT_MOST: usize = 24577;
+
+// Room for any report (`report-most`).
+const REPORT_MOST: usize = 138557;
+
+// Reads until the input ends or the buffer is full; the answer is how many bytes were read. No method of `Read` does this without a heap:
+// `read_exact` refuses an input that ends before.
 fn read_input<R: Read>(from: &mut R, input: &mut [u8]) -> io::Result<usize>
     ensures { InputRead input.old input.new result }
 {
@@ -52,6 +59,7 @@ fn write_report<W: Write, E: Write>(
     }
 }
 
+#[tactic(auto, using(crate::proofs::ProgramTexts::owings))]
 fn answer_input<R: Read, W: Write, E: Write>(
     from: &mut R,
     output: &mut W,
@@ -69,10 +77,9 @@ fn answer_input<R: Read, W: Write, E: Write>(
     write_report(output, errors, input, n, &text[..length]);
 }
 
-// One byte more than the longest list has, so that a longer input is seen to be one; and room for any report (`report-most`).
 fn main(rt: HostRuntime) {
-    let mut input = [0u8; 24577];
-    let mut text = [0u8; 138557];
+    let mut input = [0u8; INPUT_MOST];
+    let mut text = [0u8; REPORT_MOST];
     answer_input(
         &mut rt.stdin(),
         &mut rt.stdout(),

@@ -5,7 +5,6 @@ use mathlib.Core.List.{List, [], ◌∷◌}
 use Prim.Native.Nat.{ℕ, zero, suc, ◌-◌, ◌<◌, ◌≤◌}
 use native.Mathlib.Decide.{ℕ_discrete}
 use native.Mathlib.Omega.{arith}
-use lib.Dec.{eqb}
 use lib.ListN.{length, get_or, set, length-set}
 use lib.Seq.{get_or-set_same, get_or-set_other}
 use borrow.Author.Rules.{rules}
@@ -18,7 +17,7 @@ use Rattle.pauli.specs.Questions.{◌and_then◌}
 use Rattle.pauli.proofs.Asking.{first_not, asked_yes, asked_no, ask_done, refused, passed, done_second}
 use Rattle.gate_list.specs.Lists.{record_count, byte_of, next_of}
 use Rattle.gate_list.specs.ListQuestions.{link_question, zeros_question, step_gate_question, step_qubit_question, step_second_questions, record_questions, is_met, chain_questions}
-use Rattle.gate_list.specs.Inside.Reading.{OwnRecord, BeforeChain, links_question}
+use Rattle.gate_list.specs.Inside.Reading.{BeforeChain, links_question}
 use Rattle.pauli.specs.Answers.{Outcome}
 use Rattle.std.specs.Prelude.{Ok, Err}
 
@@ -32,19 +31,19 @@ count_all zero f h = refl
 count_all (suc n) f h = omega (arith, count_all n f h, ap {B = ℕ} (λ b. cond b 1 0) (h n))
 
 -- the number of records from 1 to c that have no mark
-unfoldable pub unmet : ℕ → List ℕ → ℕ
-unmet c m = count_to c (λ k. eqb (get_or m (suc k) 0) 0)
+unfoldable pub unmet : ℕ → List Bool → ℕ
+unmet c m = count_to c (λ k. not (get_or m (suc k) false))
 
-unmet_all : (c : ℕ) (m : List ℕ) → ((k : ℕ) → get_or m k 0 ≡ 0) → unmet c m ≡ c
+unmet_all : (c : ℕ) (m : List Bool) → ((k : ℕ) → get_or m k false ≡ false) → unmet c m ≡ c
 unfolding unmet
-unmet_all c m h = count_all c (λ k. eqb (get_or m (suc k) 0) 0) (λ k. eq-eqb _ 0 (h (suc k)))
+unmet_all c m h = count_all c (λ k. not (get_or m (suc k) false)) (λ k. ap not (h (suc k)))
 
-unmet_mark : (c : ℕ) (m : List ℕ) (i : ℕ) → suc i ≤ c → suc i < length m → get_or m (suc i) 0 ≡ 0 → unmet c m ≡ suc (unmet c (set m (suc i) 1))
+unmet_mark : (c : ℕ) (m : List Bool) (i : ℕ) → suc i ≤ c → suc i < length m → get_or m (suc i) false ≡ false → unmet c m ≡ suc (unmet c (set m (suc i) true))
 unfolding unmet
 unmet_mark c m i h l e =
-    count_fewer c (λ k. eqb (get_or m (suc k) 0) 0) (λ k. eqb (get_or (set m (suc i) 1) (suc k) 0) 0) i h (eq-eqb _ 0 e)
-    (ap (λ (x : ℕ). eqb x 0) (get_or-set_same m (suc i) 1 0 l))
-    (λ q d. ap (λ (x : ℕ). eqb x 0) (sym (get_or-set_other m (suc i) (suc q) 1 0 (other q d))))
+    count_fewer c (λ k. not (get_or m (suc k) false)) (λ k. not (get_or (set m (suc i) true) (suc k) false)) i h (ap not e)
+    (ap not (get_or-set_same m (suc i) true false l))
+    (λ q d. ap not (sym (get_or-set_other m (suc i) (suc q) true false (other q d))))
   where
     other : (q : ℕ) → (q ≡ i → ⊥) → suc q ≡ suc i → ⊥
     other q d z = d (omega arith)
@@ -81,24 +80,21 @@ record-link l i e =
     (done_second (step_qubit_question l i (byte_of l i 1)) _ (done_second (step_gate_question l i) _ (done_second (zeros_question l i) _ e))))
 
 -- ---- the walk: the questions along the whole chain come to q, and the link of record k is followed next
-pub record Walking (l : List ℕ) (q : Outcome) (m : List ℕ) (k : ℕ) : Type 0 where
+pub record Walking (l : List ℕ) (q : Outcome) (m : List Bool) (k : ℕ) : Type 0 where
   pub long : length m ≡ 4096
   pub few : record_count l ≤ 4096
   pub own : k < record_count l
   pub link : next_of l k < record_count l
   pub met : List ℕ
-  pub marks : (j : ℕ) → is_met met j ≡ not (eqb (get_or m j 0) 0)
+  pub marks : (j : ℕ) → is_met met j ≡ get_or m j false
   pub same : q ≡ chain_questions l met (unmet (record_count l - 1) m) (next_of l k)
-
-pub walking_head : {l m : List ℕ} → BeforeChain l m → OwnRecord l 0
-walking_head u = record { own = u.some }
 
 module _ (l : List ℕ) {r : Outcome} (e : r ≡ link_question l 0) where
   pub walking_not : {x : Refusal} → r ≡ Err x → r ≡ links_question l
   unfolding links_question
   walking_not h = refused _ e h
 
-  pub walking_start : {m : List ℕ} → r ≡ Ok tt → BeforeChain l m → Walking l (links_question l) m 0
+  pub walking_start : {m : List Bool} → r ≡ Ok tt → BeforeChain l m → Walking l (links_question l) m 0
   unfolding links_question is_met
   walking_start {m} h u = record {
     long = u.blank.long;
@@ -106,26 +102,23 @@ module _ (l : List ℕ) {r : Outcome} (e : r ≡ link_question l 0) where
     own = u.some;
     link = link_done l 0 (sym e ∙ h);
     met = [];
-    marks = λ j. sym (ap not (eq-eqb (get_or m j 0) 0 (u.blank.clear j)));
+    marks = λ j. sym (u.blank.clear j);
     same = sym (passed e h refl) ∙ ap (λ (n : ℕ). chain_questions l [] n (next_of l 0)) (sym (unmet_all (record_count l - 1) m u.blank.clear));
   }
 
-pub walking_at : {l m : List ℕ} {q : Outcome} {k : ℕ} → Walking l q m k → OwnRecord l k
-walking_at w = record { own = w.own }
-
 -- record i is the one that is linked to
-module _ {l m : List ℕ} {q : Outcome} {k i : ℕ} (w : Walking l q m k) (ei : i ≡ next_of l k) where
+module _ {l : List ℕ} {m : List Bool} {q : Outcome} {k i : ℕ} (w : Walking l q m k) (ei : i ≡ next_of l k) where
   abbrev left : ℕ
   left = unmet (record_count l - 1) m
 
   abbrev then_left : ℕ
-  then_left = unmet (record_count l - 1) (set m i 1)
+  then_left = unmet (record_count l - 1) (set m i true)
 
   at-link : q ≡ chain_questions l w.met left i
   at-link = w.same ∙ ap (chain_questions l w.met left) (sym ei)
 
-  pub walking_own : OwnRecord l i
-  walking_own = record { own = omega (arith, w.link) }
+  pub walking_own : i < record_count l
+  walking_own = omega (arith, w.link)
 
   pub walking_room : i < length m
   walking_room = omega (arith, w.long, w.few, w.link)
@@ -133,18 +126,18 @@ module _ {l m : List ℕ} {q : Outcome} {k i : ℕ} (w : Walking l q m k) (ei : 
   pub walking_end : i ≡ 0 → Ok tt ≡ q
   walking_end h = sym (at-link ∙ chain_end l w.met left i h)
 
-  pub walking_met : (i ≡ 0 → ⊥) → (get_or m i 0 ≡ 0 → ⊥) → Err (Loop i) ≡ q
-  walking_met h e = sym (at-link ∙ chain_met l w.met left i h (w.marks i ∙ ap not (ne_eqb (get_or m i 0) 0 e)))
+  pub walking_met : (i ≡ 0 → ⊥) → get_or m i false ≡ true → Err (Loop i) ≡ q
+  walking_met h e = sym (at-link ∙ chain_met l w.met left i h (w.marks i ∙ e))
 
-  module _ (h : i ≡ 0 → ⊥) (e : get_or m i 0 ≡ 0) where
+  module _ (h : i ≡ 0 → ⊥) (e : get_or m i false ≡ false) where
     fewer : left ≡ suc then_left
     fewer = by i refl
       where
         by : (j : ℕ) → i ≡ j → left ≡ suc then_left
         by zero z = absurd (h z)
         by (suc j) z =
-            unmet_mark (record_count l - 1) m j (omega (arith, w.link)) (omega (arith, walking_room)) (ap (λ (x : ℕ). get_or m x 0) (sym z) ∙ e)
-            ∙ ap (λ (x : ℕ). suc (unmet (record_count l - 1) (set m x 1))) (sym z)
+            unmet_mark (record_count l - 1) m j (omega (arith, w.link)) (omega (arith, walking_room)) (ap (λ (x : ℕ). get_or m x false) (sym z) ∙ e)
+            ∙ ap (λ (x : ℕ). suc (unmet (record_count l - 1) (set m x true))) (sym z)
 
     pub walking_less : then_left < left
     walking_less = omega (arith, fewer)
@@ -152,33 +145,31 @@ module _ {l m : List ℕ} {q : Outcome} {k i : ℕ} (w : Walking l q m k) (ei : 
     asked-next : q ≡ record_questions l i and_then chain_questions l (i ∷ w.met) then_left (next_of l i)
     asked-next =
         at-link ∙ ap (λ (n : ℕ). chain_questions l w.met n i) fewer
-        ∙ chain_more l w.met then_left i h (w.marks i ∙ ap not (eq-eqb (get_or m i 0) 0 e))
+        ∙ chain_more l w.met then_left i h (w.marks i ∙ e)
 
     pub walking_refused : {x : Refusal} → Err x ≡ record_questions l i → Err x ≡ q
     walking_refused er = first_not (chain_questions l (i ∷ w.met) then_left (next_of l i)) er ∙ sym asked-next
 
-    pub walking_step : {r : Outcome} → r ≡ record_questions l i → r ≡ Ok tt → Walking l q (set m i 1) i
+    pub walking_step : {r : Outcome} → r ≡ record_questions l i → r ≡ Ok tt → Walking l q (set m i true) i
     unfolding is_met
     walking_step {r} er ed = record {
-      long = length-set m i 1 ∙ w.long;
+      long = length-set m i true ∙ w.long;
       few = w.few;
-      own = walking_own.own;
+      own = walking_own;
       link = record-link l i (sym er ∙ ed);
       met = i ∷ w.met;
       marks = λ j. elim (ℕ_discrete j i) [
         | yes d ↦ ap (λ b. b || is_met w.met j) (eq-eqb i j (sym d))
-            ∙ sym (ap (λ (x : ℕ). not (eqb x 0)) (ap (λ (x : ℕ). get_or (set m i 1) x 0) d ∙ get_or-set_same m i 1 0 walking_room))
+            ∙ sym (ap (λ (x : ℕ). get_or (set m i true) x false) d ∙ get_or-set_same m i true false walking_room)
         | no d ↦ ap (λ b. b || is_met w.met j) (ne_eqb i j (λ z. d (sym z))) ∙ w.marks j
-            ∙ sym (ap (λ (x : ℕ). not (eqb x 0)) (get_or-set_other m i j 1 0 d))
+            ∙ sym (get_or-set_other m i j true false d)
       ];
       same = asked-next ∙ sym (passed er ed refl);
     }
 
 pub ruleset walks = (
-  walking_head,
   walking_not,
   walking_start,
-  walking_at,
   walking_own,
   walking_room,
   walking_end,

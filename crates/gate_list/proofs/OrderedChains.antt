@@ -1,25 +1,27 @@
 -- Lists whose records stand in the order of their chain: they are admitted, and hold their gates.
 use mathlib.Core.Path.{◌≡◌, refl, sym, ap, ap₂, ◌∙◌, subst}
-use mathlib.Core.Bool.{false, ◌||◌}
+use mathlib.Core.Bool.{false, cond, not, ◌||◌}
 use mathlib.Core.List.{List, [], ◌∷◌, ◌++◌, append_assoc}
 use Prim.Native.Nat.{ℕ, suc, ◌+◌, ◌*◌, ◌-◌, ◌<◌, ◌≤◌}
 use native.Mathlib.Decide.{dec_lt}
 use native.Mathlib.Omega.{arith}
+use lib.Dec.{eqb}
 use lib.ListN.{length, get_or, length-append}
 use lib.Seq.{get_or-append-add}
-use borrow.Author.Tests.{lt-ltb, eq-eqb, ne_eqb}
-use Rattle.pauli.specs.declared.refusal.Refusal.TheVariants.{StepGate, StepQubit}
+use borrow.Author.Tests.{lt-ltb, le-ltb, ne_eqb}
+use Rattle.pauli.specs.declared.refusal.Refusal.TheVariants.{StepGate, StepQubit, StepSameQubit}
+use Rattle.pauli.specs.Answers.{Outcome}
+use Rattle.pauli.specs.Questions.{ask, ◌and_then◌}
 use Rattle.pauli.proofs.Asking.{asked_yes, passed}
 use Rattle.clifford_laws.specs.WayBack.{product_of}
 use Rattle.clifford.proofs.Asking.{width_narrow}
 use Rattle.gate_list.specs.Lists.{Play, record_count, byte_of, list_width, next_of, play_of, chain_from, chain_of, plays_of, gates_of}
 use Rattle.gate_list.specs.ListQuestions.{zeros_question, step_gate_question, step_qubit_question, step_second_questions, record_questions, is_met, chain_questions, list_questions}
 use Rattle.gate_list.specs.OrderedLists.{PlayFits, PlaysFit, none, more, record_bytes, link_to, records_from, head_play, ordered_list}
-use Rattle.gate_list.specs.Inside.Reading.{two_questions}
 use Rattle.gate_list.specs.Runs.{tableaux_of, run_record}
 use Rattle.gate_list.proofs.AdmittedChains.{chain_none, chain_one}
 use Rattle.gate_list.proofs.Chains.{chain_end, chain_more}
-use Rattle.gate_list.proofs.ListAsking.{size_good, head-good, link-good, zeros_good, right-two, right-one, two_in, different-good, second_none, second-two}
+use Rattle.gate_list.proofs.ListAsking.{by_tests, size_good, head-good, link-good}
 use Rattle.std.specs.Prelude.{Ok}
 
 -- ---- the bytes of record i
@@ -79,9 +81,10 @@ records_length i (p ∷ rest) = omega (arith, records_length (suc i) rest)
 -- ---- the questions of a record
 module _ {l : List ℕ} {i : ℕ} {p : Play} {next : ℕ} (r : RecordIs l i p next) (f : PlayFits (list_width l) p) (o : next < record_count l) where
   zeros_done : Ok tt ≡ zeros_question l i
+  unfolding zeros_question
   zeros_done = elim (dec_lt (byte_of l i 0) 24) [
-    | yes h ↦ zeros_good l i refl refl refl (right-one _ _ _ r.fixed h) (eq-eqb _ 0 (r.second ∙ f.unused (omega (arith, r.gate))))
-    | no h ↦ zeros_good l i refl refl refl (right-two _ _ _ r.fixed (omega arith)) refl
+    | yes h ↦ grind (arith, by_tests, r.fixed, r.second, f.unused (omega (arith, r.gate)))
+    | no h ↦ grind (arith, by_tests, r.fixed)
   ]
 
   gate_done : Ok tt ≡ step_gate_question l i
@@ -92,15 +95,19 @@ module _ {l : List ℕ} {i : ℕ} {p : Play} {next : ℕ} (r : RecordIs l i p ne
   unfolding step_qubit_question
   qubit_done q h = asked_yes (StepQubit i) (lt-ltb q (list_width l) h)
 
-  two_done : 24 ≤ p.gate → Ok tt ≡ two_questions l i
+  abbrev two_questions : Outcome
+  two_questions = step_qubit_question l i (byte_of l i 2) and_then ask (not (eqb (byte_of l i 1) (byte_of l i 2))) (StepSameQubit i)
+
+  two_done : 24 ≤ p.gate → Ok tt ≡ two_questions
   two_done h =
-      two_in l i refl (qubit_done (byte_of l i 2) (omega (arith, r.second, f.second h))) refl refl
-      (different-good i (byte_of l i 1) (byte_of l i 2) (λ e. f.different h (sym r.first ∙ e ∙ r.second)))
+      passed (qubit_done (byte_of l i 2) (omega (arith, r.second, f.second h))) refl
+      (asked_yes (StepSameQubit i) (ap not (ne_eqb _ _ (λ e. f.different h (sym r.first ∙ e ∙ r.second)))))
 
   second_done : Ok tt ≡ step_second_questions l i
+  unfolding step_second_questions
   second_done = elim (dec_lt (byte_of l i 0) 24) [
-    | yes h ↦ second_none l i refl h
-    | no h ↦ second-two l i refl (omega arith) (two_done (omega (arith, r.gate)))
+    | yes h ↦ sym (ap (λ b. cond b (Ok tt) two_questions) (lt-ltb (byte_of l i 0) 24 h))
+    | no h ↦ two_done (omega (arith, r.gate)) ∙ sym (ap (λ b. cond b (Ok tt) two_questions) (le-ltb (byte_of l i 0) 24 (omega arith)))
   ]
 
   pub record_done : Ok tt ≡ record_questions l i
@@ -108,7 +115,7 @@ module _ {l : List ℕ} {i : ℕ} {p : Play} {next : ℕ} (r : RecordIs l i p ne
   record_done =
       passed zeros_done refl
       (passed gate_done refl
-      (passed (qubit_done (byte_of l i 1) (omega (arith, r.first, f.first))) refl (passed second_done refl (link-good l i refl refl (omega (arith, r.link))))))
+      (passed (qubit_done (byte_of l i 1) (omega (arith, r.first, f.first))) refl (passed second_done refl (link-good l i (omega (arith, r.link))))))
 
 -- ---- the chain
 link-below : (i : ℕ) (ps : List Play) (c : ℕ) → 0 < i → c ≡ i + length ps → link_to i ps < c
@@ -218,5 +225,5 @@ module _ (w : ℕ) (ps : List Play) where
         sym
         (passed (size_good list (omega (arith, long)) (omega (arith, long)) (omega (arith, long))) refl
         (passed (width_narrow (omega (arith, ordered_width))) refl
-        (passed (head-good list refl head-is.gate refl head-is.second refl head-is.fixed) refl
-        (passed (link-good list 0 refl refl (omega (arith, head-is.link, link-below 1 ps (record_count list) (omega arith) ordered_count))) refl (sym links_done)))))
+        (passed (head-good list head-is.gate head-is.second head-is.fixed) refl
+        (passed (link-good list 0 (omega (arith, head-is.link, link-below 1 ps (record_count list) (omega arith) ordered_count))) refl (sym links_done)))))

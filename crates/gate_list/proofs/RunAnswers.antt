@@ -7,36 +7,33 @@ use lib.ListN.{length, take, drop, length-append, length-take, length-drop}
 use lib.Seq.{take_at, drop_at}
 use borrow.Author.Rules.{rules}
 use borrow.Rule.Slice.PartMut.{put_mid}
-use Rattle.pauli.specs.declared.refusal.Refusal.{Refusal}
 use Rattle.pauli_group.specs.PauliString.{qubits}
 use Rattle.pauli.specs.Answers.{written, Written, NumberWritten, Outcome}
-use Rattle.pauli.specs.Questions.{◌and_then◌, room_question}
-use Rattle.pauli.proofs.Asking.{first_done, refused, passed, has_room, done_first, done_second, room-is}
+use Rattle.pauli.specs.Questions.{room_question}
+use Rattle.pauli.proofs.Asking.{first_done, passed, has_room, done_first, done_second, room-is}
 use Rattle.pauli.proofs.Answers.{number-done}
 use Rattle.clifford.specs.Layout.{record_length}
-use Rattle.clifford.specs.Playing.{letter_tables, pair_tables}
 use Rattle.clifford.specs.Questions.{identity_answer}
 use Rattle.clifford.specs.Tableaux.{identity_record}
 use Rattle.clifford.proofs.RecordLaws.{identity-width, identity-good}
 use Rattle.clifford.proofs.Asking.{width_narrow}
 use Rattle.gate_list.specs.Lists.{list_width}
 use Rattle.gate_list.specs.ListQuestions.{list_questions}
-use Rattle.gate_list.specs.Inside.Reading.{ByteSized}
 use Rattle.gate_list.specs.Runs.{run_record, step_count, run_answer}
 use Rattle.gate_list.specs.Inside.Runs.{Begins, Ran, RunRoom, RunWritten}
 use Rattle.gate_list.proofs.AdmittedChains.{admitted_narrow}
 use Rattle.gate_list.proofs.RunTableaux.{run_length}
-use Rattle.std.specs.Prelude.{Ok, Err}
+use Rattle.std.specs.Prelude.{Ok}
 
 -- ---- the questions
 -- an admitted list's record has the size that its width has
-pub own_size : (l : List ℕ) {n k : ℕ} → list_questions l ≡ Ok tt → ByteSized (list_width l) n → k ≡ record_length (min n 128) → k ≡ record_length (list_width l)
+pub own_size : (l : List ℕ) {n k : ℕ} → list_questions l ≡ Ok tt → n ≡ list_width l → k ≡ record_length (min n 128) → k ≡ record_length (list_width l)
 own_size l {n} done en ek =
-    let same : min n 128 ≡ list_width l = omega (arith, en.is, admitted_narrow l done) in
+    let same : min n 128 ≡ list_width l = omega (arith, en, admitted_narrow l done) in
     ek ∙ ap record_length same
 
 -- so the room is asked for after the list alone
-pub run_asked : (l : List ℕ) (room : ℕ) {n k : ℕ} {r : Outcome} → Ok tt ≡ list_questions l → ByteSized (list_width l) n
+pub run_asked : (l : List ℕ) (room : ℕ) {n k : ℕ} {r : Outcome} → Ok tt ≡ list_questions l → n ≡ list_width l
     → k ≡ record_length (min n 128) → r ≡ room_question k room → r ≡ run_answer l room
 unfolding run_answer
 run_asked l room eq en ek er = first_done eq (er ∙ ap (λ (j : ℕ). room_question j room) (own_size l (sym eq) en ek))
@@ -45,7 +42,7 @@ pub ruleset run_asks = (run_asked, rules)
 
 -- ---- the record in the front of a destination: first the identity
 module _ {l d : List ℕ} {n k : ℕ} {e : List ℕ} {r : Outcome}
-    (o : RunRoom l d) (b : ByteSized (list_width l) n) (w : Written (identity_answer n (length d)) (identity_record n) d e r) (ek : k ≡ record_length (min n 128)) where
+    (o : RunRoom l d) (b : n ≡ list_width l) (w : Written (identity_answer n (length d)) (identity_record n) d e r) (ek : k ≡ record_length (min n 128)) where
   own : k ≡ record_length (list_width l)
   own = own_size l o.asked b ek
 
@@ -59,10 +56,10 @@ module _ {l d : List ℕ} {n k : ℕ} {e : List ℕ} {r : Outcome}
   begun : e ≡ start ++ drop k d
   unfolding identity_answer written
   begun =
-      let narrow : n ≤ 128 = omega (arith, admitted_narrow l o.asked, b.is) in
+      let narrow : n ≤ 128 = omega (arith, admitted_narrow l o.asked, b) in
       let done : Ok tt ≡ identity_answer n (length d) =
-      passed (width_narrow narrow) refl (has_room (record_length n) (length d) (omega (arith, ap record_length b.is, o.room))) in
-      w.bytes ∙ ap (λ q. written q (identity_record n) d) (sym done) ∙ ap (λ (j : ℕ). identity_record j ++ drop (length (identity_record j)) d) b.is
+      passed (width_narrow narrow) refl (has_room (record_length n) (length d) (omega (arith, ap record_length b, o.room))) in
+      w.bytes ∙ ap (λ q. written q (identity_record n) d) (sym done) ∙ ap (λ (j : ℕ). identity_record j ++ drop (length (identity_record j)) d) b
       ∙ ap (λ (j : ℕ). start ++ drop j d) start_long
 
   begun_long : length e ≡ length d
@@ -71,11 +68,9 @@ module _ {l d : List ℕ} {n k : ℕ} {e : List ℕ} {r : Outcome}
   pub run_room : k ≤ length e
   run_room = omega (arith, own, o.room, begun_long)
 
-  pub run_part : {ones twos : List (List (List ℕ))} → ones ≡ letter_tables → twos ≡ pair_tables → Begins l ones twos (take (k - 0) e)
-  run_part letters pairs = record {
+  pub run_part : Begins l (take (k - 0) e)
+  run_part = record {
     asked = o.asked;
-    letters = letters;
-    pairs = pairs;
     bytes = ap (take (k - 0)) begun ∙ take_at start (drop k d) (k - 0) (omega (arith, start_long));
   }
 

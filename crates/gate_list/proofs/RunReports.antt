@@ -12,15 +12,14 @@ use Rattle.pauli.specs.Questions.{room_question}
 use Rattle.pauli.proofs.Decimals.{decimal-most}
 use Rattle.pauli.proofs.Asking.{passed, has_room}
 use Rattle.clifford.specs.Display.{text_of_tableau, display_answer}
-use Rattle.clifford.specs.Layout.{record_length}
+use Rattle.clifford.specs.Layout.{record_length, longest_record}
 use Rattle.clifford.proofs.Asking.{formed-good}
 use Rattle.clifford.proofs.Records.{record-small}
 use Rattle.clifford_laws.proofs.DisplayLengths.{valid_display_most}
 use Rattle.gate_list.specs.Lists.{list_width}
 use Rattle.gate_list.specs.ListQuestions.{list_questions}
-use Rattle.gate_list.specs.Inside.Reading.{ByteSized}
 use Rattle.gate_list.specs.Reports.{refusal_text, text_after, report_text, report_answer}
-use Rattle.gate_list.specs.Inside.Reports.{WorkRoom, ShowRoom, TextReported}
+use Rattle.gate_list.specs.Inside.Reports.{TextReported}
 use Rattle.gate_list.specs.Runs.{run_record}
 use Rattle.gate_list.specs.Inside.Runs.{RunRoom, RunWritten}
 use Rattle.gate_list.proofs.AdmittedChains.{admitted_narrow}
@@ -31,18 +30,15 @@ use Rattle.gate_list.proofs.RunAnswers.{own_size, run_same}
 use Rattle.std.specs.Prelude.{Ok, Err}
 
 -- ---- the run shown
-pub show_runs : {l t : List ℕ} → ShowRoom l t → RunRoom l t
-show_runs {l} o = record { asked = o.asked; room = omega (arith, o.long, record-small (list_width l) (admitted_narrow l o.asked)) }
+pub show_runs : {l t : List ℕ} → list_questions l ≡ Ok tt → length t ≡ longest_record → RunRoom l t
+show_runs {l} o long = record { asked = o; room = omega (arith, long, record-small (list_width l) (admitted_narrow l o)) }
 
-pub show_same : {l t e : List ℕ} {n : ℕ} → ShowRoom l t → RunWritten l t e n → length e ≡ length t
-show_same o w = run_same (show_runs o) w
-
-module _ {l t e : List ℕ} {n m k : ℕ} (o : ShowRoom l t) (w : RunWritten l t e n) (b : ByteSized (list_width l) m) (ek : k ≡ record_length (min m 128)) where
+module _ {l t e : List ℕ} {n m k : ℕ} (o : RunRoom l t) (w : RunWritten l t e n) (b : m ≡ list_width l) (ek : k ≡ record_length (min m 128)) where
   long : k ≡ length (run_record l)
   long = own_size l o.asked b ek ∙ sym (run_length l o.asked)
 
   pub show_part : k ≤ length e
-  show_part = omega (arith, run_same (show_runs o) w, (show_runs o).room, long, run_length l o.asked)
+  show_part = omega (arith, run_same o w, o.room, long, run_length l o.asked)
 
   part_is : take (k - 0) e ≡ run_record l
   unfolding written
@@ -55,13 +51,10 @@ module _ {l t e : List ℕ} {n m k : ℕ} (o : ShowRoom l t) (w : RunWritten l t
       room : room_question (length (text_of_tableau (run_record l))) (length d) ≡ display_answer (run_record l) (length d)
       room = unfold display_answer in passed (sym (formed-good (run_record l) (run_good l o.asked).formed)) refl refl
 
-pub ruleset shows = (show_runs, show_same, show_part, run_shown, rules)
+pub ruleset shows = (show_runs, run_same, show_part, run_shown, rules)
 
 -- ---- the report
 module _ (l : List ℕ) {q : Outcome} (e : q ≡ list_questions l) where
-  pub report_shows : {t : List ℕ} → q ≡ Ok tt → WorkRoom t → ShowRoom l t
-  report_shows h o = record { asked = sym e ∙ h; long = o.long }
-
   reported : {text d f : List ℕ} {r : Answer ℕ} → text ≡ report_text l → TextReported text d f r
       → CountWritten (report_answer l (length d)) (report_text l) d f r
   unfolding report_answer
@@ -77,7 +70,7 @@ module _ (l : List ℕ) {q : Outcome} (e : q ≡ list_questions l) where
   unfolding report_text text_after
   report-refusal h x = reported (ap (λ y. text_after y (text_of_tableau (run_record l))) (sym h ∙ e)) x
 
-pub ruleset reports = (report_shows, report_run, report-refusal, rules)
+pub ruleset reports = (report_run, report-refusal, rules)
 
 -- ---- its length: that of a valid tableau's text at most, and a refusal's is short
 refusal-short : (r : Refusal) → Listed r → length (refusal_text r) ≤ 138557

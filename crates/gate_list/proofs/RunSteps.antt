@@ -11,21 +11,19 @@ use borrow.Author.Rules.{rules}
 use Rattle.pauli_group.specs.PauliString.{qubits}
 use Rattle.clifford.specs.Layout.{record_length, width_of, FormedTableau}
 use Rattle.clifford.specs.GateAnswers.{gate_record}
-use Rattle.clifford.specs.Playing.{played, PlayedBy}
+use Rattle.clifford.specs.Playing.{played, PlayedBy, letter_tables, pair_tables}
 use Rattle.clifford.proofs.Play.{gate-played}
 use Rattle.clifford.specs.Tableaux.{compose_record}
 use Rattle.clifford_laws.specs.WayBack.{product_from, product_of}
 use Rattle.clifford_laws.proofs.PlayedGates.{played-is, played-formed, played-same, width-played}
 use Rattle.clifford.proofs.RecordLaws.{identity-width, identity-good}
-use Rattle.gate_list.specs.Lists.{Play, record_size, record_count, byte_of, list_width, next_of, play_of, chain_of, plays_of, gates_of}
+use Rattle.gate_list.specs.Lists.{Play, record_count, byte_of, list_width, next_of, play_of, chain_of, plays_of, gates_of}
 use Rattle.gate_list.specs.OrderedLists.{PlayFits, PlaysFit, more, Chain, ends, links}
-use Rattle.gate_list.specs.Inside.Reading.{OwnRecord, OwnByte, ByteSized}
 use Rattle.gate_list.specs.Runs.{tableaux_of, run_record, step_count}
-use Rattle.gate_list.specs.Inside.Runs.{Plays, record_played, Begins, Ran}
+use Rattle.gate_list.specs.Inside.Runs.{record_played, Begins, Ran}
 use Rattle.gate_list.proofs.GateOrder.{product-first}
 use Rattle.gate_list.proofs.AdmittedChains.{admitted_chain, admitted_plays, admitted_narrow, admitted_sized, step_count_lem, steps-few}
 use Rattle.gate_list.proofs.ListAdmitted.{sized_some}
-use Rattle.gate_list.proofs.ListAsking.{own-byte}
 
 -- ---- the chain from record i on, taken apart
 record NextOn (l : List ℕ) (i : ℕ) (rest : List ℕ) : Type 0 where
@@ -59,17 +57,17 @@ pub record Running (l t : List ℕ) (n i : ℕ) : Type 0 where
   pub steps : n + length rest ≡ step_count l
   pub few : step_count l ≤ 4095
 
-begins-formed : {l t : List ℕ} {ones twos : List (List (List ℕ))} → Begins l ones twos t → FormedTableau t
+begins-formed : {l t : List ℕ} → Begins l t → FormedTableau t
 unfolding qubits
 begins-formed {l} b = subst FormedTableau (sym b.bytes) (identity-good (list_width l) (admitted_narrow l b.asked)).formed
 
-begins-wide : {l t : List ℕ} {ones twos : List (List (List ℕ))} → Begins l ones twos t → width_of t ≡ list_width l
+begins-wide : {l t : List ℕ} → Begins l t → width_of t ≡ list_width l
 begins-wide {l} b = ap width_of b.bytes ∙ identity-width (list_width l)
 
-pub running_head : {l t : List ℕ} {ones twos : List (List (List ℕ))} → Begins l ones twos t → OwnRecord l 0
-running_head {l} b = record { own = sized_some (admitted_sized l b.asked) }
+pub running_head : {l t : List ℕ} → Begins l t → 0 < record_count l
+running_head {l} b = sized_some (admitted_sized l b.asked)
 
-pub running_start : {l t : List ℕ} {ones twos : List (List (List ℕ))} {i : ℕ} → Begins l ones twos t → i ≡ next_of l 0 → Running l t 0 i
+pub running_start : {l t : List ℕ} {i : ℕ} → Begins l t → i ≡ next_of l 0 → Running l t 0 i
 unfolding run_record product_of gates_of
 running_start {l} {t} b e = record {
   rest = chain_of l;
@@ -85,7 +83,7 @@ running_start {l} {t} b e = record {
 running_long : {l t : List ℕ} {n i : ℕ} → Running l t n i → length t ≡ record_length (list_width l)
 running_long r = r.formed.long ∙ ap record_length r.wide
 
-pub running_same : {l t e : List ℕ} {ones twos : List (List (List ℕ))} {n i : ℕ} → Begins l ones twos t → Running l e n i → length e ≡ length t
+pub running_same : {l t e : List ℕ} {n i : ℕ} → Begins l t → Running l e n i → length e ≡ length t
 running_same b r = running_long r ∙ sym ((begins-formed b).long ∙ ap record_length (begins-wide b))
 
 pub running_end : {l t : List ℕ} {n i : ℕ} → Running l t n i → i ≡ 0 → Ran l t n
@@ -101,11 +99,8 @@ module _ {l t : List ℕ} {n i : ℕ} (r : Running l t n i) (h : i ≡ 0 → ⊥
   here : NextOn l i r.rest
   here = next-on r.chain h
 
-  pub running_own : OwnRecord l i
-  running_own = record { own = here.own }
-
-  pub running_plays : {t₀ : List ℕ} {ones twos : List (List (List ℕ))} → Begins l ones twos t₀ → Plays l i ones twos
-  running_plays b = record { own = running_own; letters = b.letters; pairs = b.pairs }
+  pub running_own : i < record_count l
+  running_own = here.own
 
   left : n + suc (length here.after) ≡ step_count l
   left = omega (arith, r.steps, ap length here.is)
@@ -160,7 +155,6 @@ pub ruleset runs = (
   running_same,
   running_end,
   running_own,
-  running_plays,
   running_fits,
   running_less,
   running_step,
@@ -168,16 +162,13 @@ pub ruleset runs = (
 )
 
 -- ---- one gate
-pub plays-byte : {l : List ℕ} {i k : ℕ} {ones twos : List (List (List ℕ))} → Plays l i ones twos → k < record_size → OwnByte l i k
-plays-byte o h = own-byte o.own h
+module _ {ones twos : List (List (List ℕ))} {t e : List ℕ} {g a b : ℕ} {f : Bool} (letters : ones ≡ letter_tables) (pairs : twos ≡ pair_tables) (p : PlayedBy ones twos g a b t e f) where
+  pub record_was_played : (l : List ℕ) (i : ℕ) → a ≡ byte_of l i 1 → b ≡ byte_of l i 2 → g ≡ byte_of l i 0 → e ≡ record_played l i t
+  unfolding record_played
+  record_was_played l i ea eb eg =
+      (gate-played letters pairs p).bytes ∙ ap (λ (k : ℕ). played k a b t) eg ∙ ap₂ (λ (j k : ℕ). played (byte_of l i 0) j k t) ea eb
 
-pub record-played : {l : List ℕ} {i a b g x y : ℕ} {ones twos : List (List (List ℕ))} {t e : List ℕ} {f : Bool} → Plays l i ones twos → a ≡ byte_of l i 1 → ByteSized a x
-    → b ≡ byte_of l i 2 → ByteSized b y → g ≡ byte_of l i 0 → PlayedBy ones twos g x y t e f → e ≡ record_played l i t
-unfolding record_played
-record-played {l} {i} {x = x} {y} {t = t} o ea ex eb ey eg p =
-    (gate-played o.letters o.pairs p).bytes ∙ ap (λ (k : ℕ). played k x y t) eg ∙ ap₂ (λ (j k : ℕ). played (byte_of l i 0) j k t) (ex.is ∙ ea) (ey.is ∙ eb)
+  pub played_length : length e ≡ length t
+  played_length = played-same (gate-played letters pairs p)
 
-pub plays-same : {l : List ℕ} {i g x y : ℕ} {ones twos : List (List (List ℕ))} {t e : List ℕ} {f : Bool} → Plays l i ones twos → PlayedBy ones twos g x y t e f → length e ≡ length t
-plays-same o p = played-same (gate-played o.letters o.pairs p)
-
-pub ruleset record-plays = (plays-byte, record-played, plays-same, rules)
+pub ruleset record_plays = (record_was_played, played_length, rules)

@@ -2,28 +2,27 @@
 ghost use Rattle.std.specs.Prelude.{◌≡◌};
 ghost use Rattle.gate_list.specs.Inside.Reading.{BeforeChain, links_question};
 
-use crate::questions::{check_link, check_record};
-use crate::reading::next;
+use crate::reading::Record;
 use pauli::refusal::Refusal;
 
 // The head's link, and then the records from there on, each marked when it is met.
-pub(crate) fn check_chain(list: &[u8], met: &mut [u8]) -> Result<(), Refusal>
+pub(crate) fn check_chain(list: &[u8], met: &mut [bool]) -> Result<(), Refusal>
     requires { BeforeChain list.now met.old }
     ensures { result ≡ links_question list.now }
 {
-    check_link(list, 0)?;
+    Record { list, i: 0 }.check_link()?;
     // The record whose link is followed.
     let mut at = 0;
-    loop {
-        let i = next(list, at);
+    'chain: loop {
+        let i = Record { list, i: at }.next();
         if i == 0 {
             return Ok(());
         }
-        if met[i] != 0 {
+        if met[i] {
             return Err(Refusal::Loop { record: i });
         }
-        check_record(list, i)?;
-        met[i] = 1;
+        Record { list, i }.check()?;
+        met[i] = true;
         at = i;
     }
 }

@@ -1,11 +1,18 @@
 // The questions put to a list and to its records. Each lets by, or refuses.
-ghost use Rattle.std.specs.Prelude.{◌≡◌};
+ghost use Rattle.std.specs.Prelude.{◌≡◌, ◌<◌};
+ghost use Rattle.gate_list.specs.Lists.{byte_of, record_count};
 ghost use Rattle.gate_list.specs.ListQuestions.{size_question, head_question, link_question, zeros_question, step_gate_question, step_qubit_question, step_second_questions, record_questions};
-ghost use Rattle.gate_list.specs.Inside.Reading.{OwnRecord, zeros_right, step_different_question, two_questions, step_qubits_questions};
+ghost use Rattle.gate_list.specs.Inside.Reading.{step_different_question, two_questions, step_qubits_questions};
 
-use crate::reading::{LONGEST_LIST, RECORD_SIZE, byte, next, record_count, wide, width};
+use crate::reading::{LONGEST_LIST, RECORD_SIZE, Record, record_count, width};
 use pauli::refusal::Refusal;
 
+// Gates 0 to 23 are on one qubit, and those from there on below 38 on two.
+const ONE_QUBIT_GATES: u8 = 24;
+
+const GATES: u8 = 38;
+
+#[tactic(auto, using(crate::proofs::ListAsking::by_tests), unfolding(crate::specs::ListQuestions::size_question))]
 pub(crate) fn check_size(list: &[u8]) -> Result<(), Refusal>
     ensures { result ≡ size_question list.now }
 {
@@ -15,112 +22,108 @@ pub(crate) fn check_size(list: &[u8]) -> Result<(), Refusal>
     Ok(())
 }
 
+#[tactic(auto, using(crate::proofs::ListAsking::by_tests), unfolding(crate::specs::ListQuestions::head_question))]
 pub(crate) fn check_head(list: &[u8]) -> Result<(), Refusal>
-    requires { OwnRecord list.now 0 }
+    requires { 0 < record_count list.now }
     ensures { result ≡ head_question list.now }
 {
-    if byte(list, 0, 0) != 0 || byte(list, 0, 2) != 0 || byte(list, 0, 3) != 0 {
+    let head = Record { list, i: 0 };
+    if head.gate() != 0 || head.second() != 0 || head.fixed() != 0 {
         return Err(Refusal::ListRecord { record: 0 });
     }
     Ok(())
 }
 
-pub(crate) fn check_link(list: &[u8], i: usize) -> Result<(), Refusal>
-    requires { OwnRecord list.now i }
-    ensures { result ≡ link_question list.now i }
-{
-    if next(list, i) < record_count(list) {
-        return Ok(());
+impl<'a> Record<'a> {
+    #[tactic(auto, using(crate::proofs::ListAsking::by_tests), unfolding(crate::specs::ListQuestions::link_question))]
+    pub(crate) fn check_link(&self) -> Result<(), Refusal>
+        ensures { result ≡ link_question self.now.list.now self.now.i }
+    {
+        if self.next() < record_count(self.list) {
+            return Ok(());
+        }
+        Err(Refusal::Link { record: self.i })
     }
-    Err(Refusal::Link { record: i })
-}
 
-// Byte 3, and the second qubit of a gate on one qubit.
-fn zeros_right(gate: u8, second: u8, fixed: u8) -> bool
-    ensures { result ≡ zeros_right gate second fixed }
-{
-    fixed == 0 && (24 <= gate || second == 0)
-}
-
-fn check_zeros(list: &[u8], i: usize) -> Result<(), Refusal>
-    requires { OwnRecord list.now i }
-    ensures { result ≡ zeros_question list.now i }
-{
-    if zeros_right(byte(list, i, 0), byte(list, i, 2), byte(list, i, 3)) {
-        return Ok(());
+    // Byte 3, and the second qubit of a gate on one qubit.
+    #[tactic(auto, using(crate::proofs::ListAsking::by_tests), unfolding(crate::specs::ListQuestions::zeros_question))]
+    fn check_zeros(&self) -> Result<(), Refusal>
+        ensures { result ≡ zeros_question self.now.list.now self.now.i }
+    {
+        if self.fixed() != 0 || (self.gate() < ONE_QUBIT_GATES && self.second() != 0) {
+            return Err(Refusal::ListRecord { record: self.i });
+        }
+        Ok(())
     }
-    Err(Refusal::ListRecord { record: i })
-}
 
-fn check_gate(list: &[u8], i: usize) -> Result<(), Refusal>
-    requires { OwnRecord list.now i }
-    ensures { result ≡ step_gate_question list.now i }
-{
-    if byte(list, i, 0) < 38 {
-        return Ok(());
+    #[tactic(auto, using(crate::proofs::ListAsking::by_tests), unfolding(crate::specs::ListQuestions::step_gate_question))]
+    fn check_gate(&self) -> Result<(), Refusal>
+        ensures { result ≡ step_gate_question self.now.list.now self.now.i }
+    {
+        if self.gate() < GATES {
+            return Ok(());
+        }
+        Err(Refusal::StepGate { record: self.i })
     }
-    Err(Refusal::StepGate { record: i })
-}
 
-// A qubit that record i names.
-fn check_qubit(list: &[u8], i: usize, qubit: u8) -> Result<(), Refusal>
-    ensures { result ≡ step_qubit_question list.now i qubit }
-{
-    if wide(qubit) < width(list) {
-        return Ok(());
+    // A qubit that the record names.
+    #[tactic(auto, using(crate::proofs::ListAsking::by_tests), unfolding(crate::specs::ListQuestions::step_qubit_question))]
+    fn check_qubit(&self, qubit: u8) -> Result<(), Refusal>
+        ensures { result ≡ step_qubit_question self.now.list.now self.now.i qubit }
+    {
+        if usize::from(qubit) < width(self.list) {
+            return Ok(());
+        }
+        Err(Refusal::StepQubit { record: self.i })
     }
-    Err(Refusal::StepQubit { record: i })
-}
 
-fn check_different(i: usize, first: u8, second: u8) -> Result<(), Refusal>
-    ensures { result ≡ step_different_question i first second }
-{
-    if first == second {
-        return Err(Refusal::StepSameQubit { record: i });
+    #[tactic(auto, using(crate::proofs::ListAsking::by_tests), unfolding(crate::specs::Inside::Reading::step_different_question))]
+    fn check_different(&self) -> Result<(), Refusal>
+        ensures { result ≡ step_different_question self.now.i (byte_of self.now.list.now self.now.i 1) (byte_of self.now.list.now self.now.i 2) }
+    {
+        if self.first() == self.second() {
+            return Err(Refusal::StepSameQubit { record: self.i });
+        }
+        Ok(())
     }
-    Ok(())
-}
 
-// The second qubit of a gate on two.
-#[tactic(auto, using(pauli::proofs::Asking::by_questions), unfolding(crate::specs::Inside::Reading::two_questions))]
-fn check_two(list: &[u8], i: usize) -> Result<(), Refusal>
-    requires { OwnRecord list.now i }
-    ensures { result ≡ two_questions list.now i }
-{
-    let second = byte(list, i, 2);
-    check_qubit(list, i, second)?;
-    check_different(i, byte(list, i, 1), second)
-}
-
-// The second qubit, where the gate has one.
-fn check_second(list: &[u8], i: usize) -> Result<(), Refusal>
-    requires { OwnRecord list.now i }
-    ensures { result ≡ step_second_questions list.now i }
-{
-    if byte(list, i, 0) < 24 {
-        return Ok(());
+    // The second qubit of a gate on two.
+    #[tactic(auto, using(pauli::proofs::Asking::by_questions), unfolding(crate::specs::Inside::Reading::two_questions))]
+    fn check_two(&self) -> Result<(), Refusal>
+        ensures { result ≡ two_questions self.now.list.now self.now.i }
+    {
+        self.check_qubit(self.second())?;
+        self.check_different()
     }
-    check_two(list, i)
-}
 
-// The qubits of record i, and then its link.
-#[tactic(auto, using(pauli::proofs::Asking::by_questions), unfolding(crate::specs::Inside::Reading::step_qubits_questions))]
-fn check_qubits(list: &[u8], i: usize) -> Result<(), Refusal>
-    requires { OwnRecord list.now i }
-    ensures { result ≡ step_qubits_questions list.now i }
-{
-    check_qubit(list, i, byte(list, i, 1))?;
-    check_second(list, i)?;
-    check_link(list, i)
-}
+    // The second qubit, where the gate has one.
+    #[tactic(auto, using(crate::proofs::ListAsking::by_tests), unfolding(crate::specs::ListQuestions::step_second_questions, crate::specs::Inside::Reading::two_questions, crate::specs::Inside::Reading::step_different_question))]
+    fn check_second(&self) -> Result<(), Refusal>
+        ensures { result ≡ step_second_questions self.now.list.now self.now.i }
+    {
+        if self.gate() < ONE_QUBIT_GATES {
+            return Ok(());
+        }
+        self.check_two()
+    }
 
-// All of record i, in the order of the questions. A list asks this of each record: no question is worked out after a refusal.
-#[tactic(auto, using(pauli::proofs::Asking::by_questions), unfolding(crate::specs::ListQuestions::record_questions))]
-pub(crate) fn check_record(list: &[u8], i: usize) -> Result<(), Refusal>
-    requires { OwnRecord list.now i }
-    ensures { result ≡ record_questions list.now i }
-{
-    check_zeros(list, i)?;
-    check_gate(list, i)?;
-    check_qubits(list, i)
+    // The qubits of the record, and then its link.
+    #[tactic(auto, using(pauli::proofs::Asking::by_questions), unfolding(crate::specs::Inside::Reading::step_qubits_questions))]
+    fn check_qubits(&self) -> Result<(), Refusal>
+        ensures { result ≡ step_qubits_questions self.now.list.now self.now.i }
+    {
+        self.check_qubit(self.first())?;
+        self.check_second()?;
+        self.check_link()
+    }
+
+    // All of the record, in the order of the questions. A list asks this of each record: no question is worked out after a refusal.
+    #[tactic(auto, using(pauli::proofs::Asking::by_questions), unfolding(crate::specs::ListQuestions::record_questions, crate::specs::Inside::Reading::step_qubits_questions))]
+    pub(crate) fn check(&self) -> Result<(), Refusal>
+        ensures { result ≡ record_questions self.now.list.now self.now.i }
+    {
+        self.check_zeros()?;
+        self.check_gate()?;
+        self.check_qubits()
+    }
 }

@@ -1,7 +1,6 @@
 // The bytes of a list. Only here does code know the layout of a record.
-ghost use Rattle.std.specs.Prelude.{◌≡◌};
-ghost use Rattle.gate_list.specs.Lists.{record_count, byte_of, list_width, next_of};
-ghost use Rattle.gate_list.specs.Inside.Reading.{OwnRecord, OwnByte, ByteSized};
+ghost use Rattle.std.specs.Prelude.{◌≡◌, ◌<◌};
+ghost use Rattle.gate_list.specs.Lists.{record_size, record_count, byte_of, list_width, next_of};
 
 pub(crate) const RECORD_SIZE: usize = 6;
 
@@ -9,12 +8,7 @@ pub(crate) const MOST_RECORDS: usize = 4096;
 
 pub(crate) const LONGEST_LIST: usize = RECORD_SIZE * MOST_RECORDS;
 
-pub(crate) fn wide(x: u8) -> usize
-    ensures { ByteSized x result }
-{
-    x as usize
-}
-
+#[tactic(auto, unfolding(crate::specs::Lists::record_count))]
 pub(crate) fn record_count(list: &[u8]) -> usize
     ensures { result ≡ record_count list.now }
 {
@@ -22,27 +16,64 @@ pub(crate) fn record_count(list: &[u8]) -> usize
 }
 
 // The width that the head names; bytes too few for it are read as width 0.
+#[tactic(auto, unfolding(crate::specs::Lists::list_width, crate::specs::Lists::byte_of))]
 pub(crate) fn width(list: &[u8]) -> usize
-    ensures { ByteSized (list_width list.now) result }
+    ensures { result ≡ list_width list.now }
 {
-    if list.len() < 2 {
-        return 0;
+    match list.get(1) {
+        Some(width) => usize::from(*width),
+        None => 0,
     }
-    wide(list[1])
 }
 
-// Byte k of record i.
-pub(crate) fn byte(list: &[u8], i: usize, k: usize) -> u8
-    requires { OwnByte list.now i k }
-    ensures { result ≡ byte_of list.now i k }
-{
-    list[RECORD_SIZE * i + k]
+// Record i of a list.
+#[derive(Clone, Copy)]
+pub(crate) struct Record<'a> {
+    pub(crate) list: &'a [u8],
+    pub(crate) i: usize,
+    ghost own: { i < record_count list.now },
 }
 
-// The record that record i links to.
-pub(crate) fn next(list: &[u8], i: usize) -> usize
-    requires { OwnRecord list.now i }
-    ensures { result ≡ next_of list.now i }
-{
-    wide(byte(list, i, 4)) + 256 * wide(byte(list, i, 5))
+impl<'a> Record<'a> {
+    #[tactic(auto, unfolding(crate::specs::Lists::record_count, crate::specs::Lists::byte_of))]
+    fn byte(&self, k: usize) -> u8
+        requires { k < record_size }
+        ensures { result ≡ byte_of self.now.list.now self.now.i k }
+    {
+        self.list[RECORD_SIZE * self.i + k]
+    }
+
+    pub(crate) fn gate(&self) -> u8
+        ensures { result ≡ byte_of self.now.list.now self.now.i 0 }
+    {
+        self.byte(0)
+    }
+
+    pub(crate) fn first(&self) -> u8
+        ensures { result ≡ byte_of self.now.list.now self.now.i 1 }
+    {
+        self.byte(1)
+    }
+
+    // 0 for a one-qubit gate.
+    pub(crate) fn second(&self) -> u8
+        ensures { result ≡ byte_of self.now.list.now self.now.i 2 }
+    {
+        self.byte(2)
+    }
+
+    // The byte that is 0 in each record.
+    pub(crate) fn fixed(&self) -> u8
+        ensures { result ≡ byte_of self.now.list.now self.now.i 3 }
+    {
+        self.byte(3)
+    }
+
+    // The record that this one links to.
+    #[tactic(auto, unfolding(crate::specs::Lists::next_of))]
+    pub(crate) fn next(&self) -> usize
+        ensures { result ≡ next_of self.now.list.now self.now.i }
+    {
+        usize::from(u16::from_le_bytes([self.byte(4), self.byte(5)]))
+    }
 }

@@ -1,14 +1,16 @@
 // What is written of a run: its display text, or the text of a refusal.
-ghost use Rattle.std.specs.Prelude.{◌≡◌, length};
+ghost use Rattle.std.specs.Prelude.{◌≡◌, Ok};
 ghost use Rattle.pauli.specs.Inside.TextWriting.{TextWritten};
 ghost use Rattle.clifford.specs.Display.{text_of_tableau};
+ghost use Rattle.gate_list.specs.ListQuestions.{list_questions};
 ghost use Rattle.gate_list.specs.Reports.{refusal_text};
-ghost use Rattle.gate_list.specs.Inside.Reports.{ShowRoom, TextReported};
+ghost use Rattle.gate_list.specs.Inside.Reports.{TextReported};
 ghost use Rattle.gate_list.specs.Runs.{run_record};
 
 use crate::reading::width;
 use crate::running::write_run;
 use clifford::clifford_rep::display;
+use clifford::layout::LONGEST_RECORD;
 use clifford::questions::record_size;
 use pauli::questions::check_room;
 use pauli::refusal::Refusal;
@@ -25,28 +27,20 @@ fn write_refusal(why: Refusal, dst: &mut [u8]) -> usize
     put_text(dst, end, b"\n")
 }
 
-// Its length.
-fn refusal_length(why: Refusal) -> usize
-    ensures { result ≡ length (refusal_text why) }
-{
-    let mut nowhere = [0u8; 0];
-    write_refusal(why, &mut nowhere)
-}
-
 // The text of a refusal, where there is room for it.
 pub(crate) fn report_refusal(why: Refusal, out: &mut [u8]) -> Result<usize, Refusal>
     ensures { TextReported (refusal_text why) out.old out.new result }
 {
-    check_room(refusal_length(why), out.len())?;
+    check_room(write_refusal(why, &mut []), out.len())?;
     Ok(write_refusal(why, out))
 }
 
-// The display text of the run of an admitted list, where there is room for it. The work is room for the run's record.
-pub(crate) fn report_run(list: &[u8], work: &mut [u8], out: &mut [u8]) -> Result<usize, Refusal>
-    requires { ShowRoom list.now work.old }
+// The display text of the run of an admitted list, where there is room for it.
+pub(crate) fn report_run(list: &[u8], out: &mut [u8]) -> Result<usize, Refusal>
+    requires { list_questions list.now ≡ Ok tt }
     ensures { TextReported (text_of_tableau (run_record list.now)) out.old out.new result }
 {
-    write_run(list, work);
-    let length = record_size(width(list));
-    display(&work[0..length], out)
+    let mut work = [0u8; LONGEST_RECORD];
+    write_run(list, &mut work);
+    display(&work[0..record_size(width(list))], out)
 }

@@ -34,8 +34,8 @@ head-asked {l} h =
     sym
     (passed (size_good l h.whole h.some h.few) refl
     (passed (width_narrow h.narrow) refl
-    (passed (head-good l refl h.gate refl h.second refl h.fixed) refl
-    (passed (link-good l 0 refl refl h.link) refl refl))))
+    (passed (head-good l h.gate h.second h.fixed) refl
+    (passed (link-good l 0 h.link) refl refl))))
 
 walk-answered : {l met : List ℕ} {i : ℕ} → RightHead l → Walk l met i → list_questions l ≡ chain_questions l met (left l met) i
 walk-answered h w = head-asked h ∙ walk-asked h w

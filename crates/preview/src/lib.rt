@@ -2,10 +2,11 @@
 // tableau is made. Nothing of it is PECOS's.
 #![tactic(auto)]
 
-ghost use Rattle.std.specs.Prelude.{◌≡◌, ◌≤◌, max};
+ghost use Rattle.std.specs.Prelude.{◌≡◌, ◌≤◌, max, length};
+ghost use Rattle.pauli.specs.Layout.{string_length};
 ghost use Rattle.clifford.specs.Layout.{width_of};
 ghost use Rattle.clifford.specs.Questions.{slot_question};
-ghost use Rattle.preview.specs.Inside.Sending.{letter_record, LetterSent, LetterPreviewed, Sends};
+ghost use Rattle.preview.specs.Inside.Sending.{letter_record, LetterSent};
 ghost use Rattle.preview.specs.Promises.{Previewed};
 
 use clifford::clifford_rep::{Generator, apply};
@@ -23,23 +24,28 @@ fn check_row_qubit(a: &[u8], b: &[u8], qubit: usize) -> Result<(), Refusal>
 }
 
 // The letter on this qubit and I on the others; I alone where a string has no such qubit.
-fn one_letter(letter: u8, qubit: usize) -> [u8; STRING_LENGTH]
-    requires { letter ≤ 3 }
-    ensures { result ≡ letter_record letter qubit }
+#[tactic(auto, using(crate::proofs::Previews::one_letter))]
+fn one_letter<G: Generator>(qubit: usize) -> [u8; STRING_LENGTH]
+    ensures { result ≡ letter_record G.letter qubit }
 {
     let mut s = [0u8; STRING_LENGTH];
     if qubit < QUBITS {
-        s[qubit + 1] = letter;
+        s[qubit + 1] = G::byte();
     }
     s
 }
 
 // The letter sent through b and then a. The strings are right, so that the answers of `apply` are those to the tableaux' questions.
-fn send_letter(a: &[u8], b: &[u8], letter: u8, qubit: usize, dst: &mut [u8]) -> Result<(), Refusal>
-    requires { Sends letter dst.old }
-    ensures { LetterSent a.now b.now letter qubit dst.old dst.new result }
+fn send_letter<G: Generator>(
+    a: &[u8],
+    b: &[u8],
+    qubit: usize,
+    dst: &mut [u8],
+) -> Result<(), Refusal>
+    requires { string_length ≤ length dst.old }
+    ensures { LetterSent G.letter a.now b.now qubit dst.old dst.new result }
 {
-    let s = one_letter(letter, qubit);
+    let s = one_letter::<G>(qubit);
     let mut image = [0u8; STRING_LENGTH];
     let second = apply(b, &s, &mut image);
     match second {
@@ -48,20 +54,8 @@ fn send_letter(a: &[u8], b: &[u8], letter: u8, qubit: usize, dst: &mut [u8]) -> 
     }
 }
 
-// The same, after the questions to the qubit and the destination. A tableau's refusal comes before theirs.
-fn preview(a: &[u8], b: &[u8], letter: u8, qubit: usize, dst: &mut [u8]) -> Result<(), Refusal>
-    requires { letter ≤ 3 }
-    ensures { LetterPreviewed a.now b.now letter qubit dst.old dst.new result }
-{
-    let inside = check_row_qubit(a, b, qubit);
-    let rest = inside.and(check_room(STRING_LENGTH, dst.len()));
-    match rest {
-        Ok(()) => send_letter(a, b, letter, qubit, dst),
-        Err(_) => check_tableaux(a, b).and(rest),
-    }
-}
-
-// The image of X or Z on this qubit under a composed with b: b acts first.
+// The image of X or Z on this qubit under a composed with b: b acts first. A tableau's refusal comes before those of the qubit and the
+// destination.
 pub fn composed_image<G: Generator>(
     a: &[u8],
     b: &[u8],
@@ -70,5 +64,10 @@ pub fn composed_image<G: Generator>(
 ) -> Result<(), Refusal>
     ensures { Previewed G.letter a.now b.now qubit dst.old dst.new result }
 {
-    preview(a, b, G::byte(), qubit, dst)
+    let inside = check_row_qubit(a, b, qubit);
+    let rest = inside.and(check_room(STRING_LENGTH, dst.len()));
+    match rest {
+        Ok(()) => send_letter::<G>(a, b, qubit, dst),
+        Err(_) => check_tableaux(a, b).and(rest),
+    }
 }

@@ -7,9 +7,9 @@ use native.Mathlib.Omega.{arith}
 use lib.ListN.{length, take, drop, length-drop, get_or-append}
 use lib.Seq.{take-append_seam, drop-append_seam, take-append-le, drop-append-le}
 use Rattle.pauli_group.specs.Letter.{I}
-use Rattle.pauli_group.specs.PauliString.{PauliString, qubits, single, Within}
+use Rattle.pauli_group.specs.PauliString.{PauliString, qubits, Within}
 use Rattle.clifford_group.specs.Tableau.{Clifford}
-use Rattle.clifford_group.specs.Conjugation.{Generator, of_x, of_z, generator, row}
+use Rattle.clifford_group.specs.Conjugation.{Generator, of_x, of_z, row}
 use Rattle.clifford_gates.specs.GateNumbers.{gate_tableau}
 use Rattle.pauli.specs.declared.refusal.Refusal.{Refusal}
 use Rattle.pauli.specs.declared.refusal.Refusal.TheVariants.{Room, Slot}
@@ -19,7 +19,6 @@ use Rattle.pauli.specs.Layout.{phase_byte, letter_byte, encode_string, string_le
 use Rattle.pauli.specs.Questions.{◌and_then◌, room_question}
 use Rattle.pauli.proofs.Asking.{and_then_done, done_both, done_first, done_second, done_room, has_room, no_room, room-is, strings_admitted, record-length}
 use Rattle.pauli.proofs.Places.{listed_ext}
-use Rattle.pauli.proofs.Records.{letter-back}
 use Rattle.clifford.specs.Layout.{row_length, row_offset, width_of, row_part, decode_row, tableau_of, record_length, FormedRow, FormedTableau}
 use Rattle.clifford.specs.Questions.{tableau_questions, slot_question, compose_questions, compose_answer}
 use Rattle.clifford.specs.Tableaux.{compose_record, apply_record}
@@ -145,7 +144,6 @@ preview_sent : (g : Generator) (a b : List ℕ) (q : ℕ) → compose_questions 
 unfolding preview_questions sent_through
 preview_sent g a b q e h =
     sym (row-sent g a b q (done_both (compose_questions a b) _ e (sym (slot_in h))))
-    ∙ ap (λ l. apply_record a (apply_record b (string_record (single l q)))) (letter-back (generator g))
 
 -- the gate's own tableau passes its questions, and t is no narrower
 preview_plays : (gate q₀ q₁ : ℕ) (t : List ℕ) (q room : ℕ) → play_questions t gate q₀ q₁ ≡ Ok tt → q < width_of t → string_length ≤ room

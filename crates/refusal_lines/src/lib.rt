@@ -2,95 +2,50 @@
 // Copyright 2024 The PECOS Developers, Apache License, Version 2.0.
 #![tactic(auto)]
 
-ghost use Rattle.std.specs.Prelude.{◌≡◌, length};
+ghost use Rattle.std.specs.Prelude.{◌≡◌};
 ghost use Rattle.pauli.specs.TextWriting.{Stored};
 ghost use Rattle.pauli.specs.Inside.TextWriting.{TextWritten};
-ghost use Rattle.refusal_wording.specs.RefusalLines.{has_detail, detail_text, is_width_error, width_error_text, wording, refusal_line};
-ghost use Rattle.refusal_lines.specs.Inside.Sentences.{sentence_from};
+ghost use Rattle.refusal_wording.specs.RefusalLines.{sentence, has_detail, detail_text, is_width_error, width_error_text, wording, refusal_line};
 ghost use Rattle.refusal_lines.specs.Promises.{LineWritten};
 
 use pauli::questions::check_room;
 use pauli::refusal::Refusal;
 use pauli::text_writer::{put_decimal, put_text};
 
-// The sentences stand in four functions, each with the rest of them behind it: the check of a function grows faster than its text.
-// These are those of later numbers, and a number that has none is unknown.
-fn put_later_sentence(dst: &mut [u8], at: usize, number: u64) -> usize
-    ensures { Stored at (sentence_from 17 number) dst.old dst.new result }
+// The sentence of a number; one that has none is unknown.
+#[tactic(auto, using(crate::proofs::LineWrites::sentence_arms), unfolding(refusal_wording::specs::RefusalLines::sentence, refusal_wording::specs::RefusalLines::sentences, refusal_wording::specs::RefusalLines::sentence_among))]
+fn sentence(number: u64) -> &'static [u8]
+    ensures { result.now ≡ sentence number }
 {
     match number {
-        24 => put_text(dst, at, b"a row weight is false, at offset"),
-        _ => put_text(dst, at, b"unknown"),
-    }
-}
-
-// Those of lists, and then of later numbers.
-fn put_list_sentence(dst: &mut [u8], at: usize, number: u64) -> usize
-    ensures { Stored at (sentence_from 13 number) dst.old dst.new result }
-{
-    match number {
-        16 => put_text(dst, at, b"the list has a wrong length"),
-        17 => put_text(dst, at, b"wrong head or fixed zero, list record"),
-        18 => put_text(dst, at, b"the next index is outside the list, list record"),
-        19 => put_text(
-            dst,
-            at,
-            b"the chain does not end; it comes back to list record",
-        ),
-        _ => put_later_sentence(dst, at, number),
-    }
-}
-
-// Those of text, and then of lists.
-fn put_text_sentence(dst: &mut [u8], at: usize, number: u64) -> usize
-    ensures { Stored at (sentence_from 7 number) dst.old dst.new result }
-{
-    match number {
-        8 => put_text(dst, at, b"not an ASCII byte, at offset"),
-        9 => put_text(dst, at, b"not a known letter, at offset"),
-        10 => put_text(dst, at, b"a letter without an index, at offset"),
-        11 => put_text(dst, at, b"the index is not a number in range, at offset"),
-        12 => put_text(dst, at, b"named more than once, qubit"),
-        13 => put_text(dst, at, b"the qubit of a letter is too high, at offset"),
-        _ => put_list_sentence(dst, at, number),
-    }
-}
-
-// All: those of records and gates, and of room, and then of text.
-fn put_sentence(dst: &mut [u8], at: usize, number: u64) -> usize
-    ensures { Stored at (sentence_from 0 number) dst.old dst.new result }
-{
-    match number {
-        1 => put_text(dst, at, b"the width is not allowed"),
-        2 => put_text(dst, at, b"the length is wrong"),
-        3 => put_text(dst, at, b"not a phase or letter, at offset"),
-        4 => put_text(dst, at, b"no such gate; list record (zero outside a list):"),
-        5 => put_text(
-            dst,
-            at,
-            b"qubit out of range; the qubit (in a list, the record):",
-        ),
-        6 => put_text(
-            dst,
-            at,
-            b"the two qubits are the same; the qubit (in a list, the record):",
-        ),
-        7 => put_text(dst, at, b"the destination is too short"),
-        _ => put_text_sentence(dst, at, number),
+        1 => b"the width is not allowed",
+        2 => b"the length is wrong",
+        3 => b"not a phase or letter, at offset",
+        4 => b"no such gate; list record (zero outside a list):",
+        5 => b"qubit out of range; the qubit (in a list, the record):",
+        6 => b"the two qubits are the same; the qubit (in a list, the record):",
+        7 => b"the destination is too short",
+        8 => b"not an ASCII byte, at offset",
+        9 => b"not a known letter, at offset",
+        10 => b"a letter without an index, at offset",
+        11 => b"the index is not a number in range, at offset",
+        12 => b"named more than once, qubit",
+        13 => b"the qubit of a letter is too high, at offset",
+        16 => b"the list has a wrong length",
+        17 => b"wrong head or fixed zero, list record",
+        18 => b"the next index is outside the list, list record",
+        19 => b"the chain does not end; it comes back to list record",
+        24 => b"a row weight is false, at offset",
+        _ => b"unknown",
     }
 }
 
 // Whether the detail of a number has a meaning.
+#[tactic(auto, using(std::proofs::lemmas::Bool::Decides::nat_tests), unfolding(refusal_wording::specs::RefusalLines::has_detail))]
 fn has_detail(number: u64) -> bool
     ensures { result ≡ has_detail number }
 {
-    match number {
-        3..=6 => true,
-        8..=15 => true,
-        17..=19 => true,
-        24 => true,
-        _ => false,
-    }
+    matches!(number, 3..=6 | 8..=15 | 17..=19 | 24)
 }
 
 // A space and the detail, where it has a meaning.
@@ -133,7 +88,7 @@ fn put_wording(dst: &mut [u8], at: usize, number: u64, detail: u64, width: u64) 
     if is_width_error(number) {
         return put_width_error(dst, at, detail, width);
     }
-    let end = put_sentence(dst, at, number);
+    let end = put_text(dst, at, sentence(number));
     put_detail(dst, end, number, detail)
 }
 
@@ -146,19 +101,11 @@ fn write_line(number: u64, detail: u64, width: u64, dst: &mut [u8]) -> usize
     put_wording(dst, words, number, detail, width)
 }
 
-// Its length.
-fn line_length(number: u64, detail: u64, width: u64) -> usize
-    ensures { result ≡ length (refusal_line number detail width) }
-{
-    let mut nowhere = [0u8; 0];
-    write_line(number, detail, width, &mut nowhere)
-}
-
 // Writes the line of a refusal's number and detail, without a newline; the answer is its length. Any three numbers have a line: a
 // number without a meaning is unknown. The width is looked at for 14 and 15 alone: that of the tableau that was called with.
 pub fn refusal_line(number: u64, detail: u64, width: u64, dst: &mut [u8]) -> Result<usize, Refusal>
     ensures { LineWritten number detail width dst.old dst.new result }
 {
-    check_room(line_length(number, detail, width), dst.len())?;
+    check_room(write_line(number, detail, width, &mut []), dst.len())?;
     Ok(write_line(number, detail, width, dst))
 }

@@ -1,4 +1,4 @@
--- Numbers by the ranges in which a detail has a meaning, and by that of `PauliWidthError`.
+-- Numbers by the ranges in which a detail has a meaning.
 use mathlib.Core.Path.{◌≡◌, refl, sym, ap, ◌∙◌}
 use mathlib.Core.Bool.{Bool, true, false, cond, not, ◌&&◌, ◌||◌, and-false}
 use Prim.Native.Nat.{ℕ, zero, suc, ◌+◌, ◌<◌, ◌≤◌}
@@ -7,7 +7,7 @@ use native.Mathlib.Omega.{arith}
 use lib.Dec.{leb}
 use borrow.Author.Tests.{not-true, lt-leb, ne_eqb}
 use Rattle.pauli_group.proofs.Finite.{and_both}
-use Rattle.refusal_wording.specs.RefusalLines.{between, has_detail, is_width_error}
+use Rattle.refusal_wording.specs.RefusalLines.{between, has_detail}
 
 -- ---- a test that has one answer over a range, by a computed test of its numbers
 unfoldable pub steady : (ℕ → Bool) → Bool → (low count : ℕ) → Bool
@@ -30,33 +30,9 @@ steady_at f {b} low (suc count) {n} h k l =
 
 -- ---- the ranges
 module _ (n : ℕ) where
-  pub detail-low : n < 3 → false ≡ has_detail n
-  unfolding steady has_detail
-  detail-low h = steady_at has_detail 0 3 refl (omega arith) h
-
-  pub detail-first : 3 ≤ n → n < 7 → true ≡ has_detail n
-  unfolding steady has_detail
-  detail-first h k = steady_at has_detail 3 4 refl h k
-
-  pub detail-room : 7 ≤ n → n < 8 → false ≡ has_detail n
-  unfolding steady has_detail
-  detail-room h k = steady_at has_detail 7 1 refl h k
-
   pub detail-second : 8 ≤ n → n < 16 → true ≡ has_detail n
   unfolding steady has_detail
   detail-second h k = steady_at has_detail 8 8 refl h k
-
-  pub detail_list : 16 ≤ n → n < 17 → false ≡ has_detail n
-  unfolding steady has_detail
-  detail_list h k = steady_at has_detail 16 1 refl h k
-
-  pub detail_third : 17 ≤ n → n < 20 → true ≡ has_detail n
-  unfolding steady has_detail
-  detail_third h k = steady_at has_detail 17 3 refl h k
-
-  pub detail_later : n ≡ 24 → true ≡ has_detail n
-  unfolding has_detail
-  detail_later h = ap has_detail (sym h)
 
   above : (low high : ℕ) → suc high ≤ n → between low high n ≡ false
   above low high h = ap (λ x. leb low n && x) (lt-leb n high h) ∙ and-false (leb low n)
@@ -64,14 +40,3 @@ module _ (n : ℕ) where
   pub detail-high : 20 ≤ n → (n ≡ 24 → ⊥) → false ≡ has_detail n
   unfolding has_detail
   detail-high h k = sym (λ i. ((above 3 6 (omega arith) i || above 8 15 (omega arith) i) || above 17 19 h i) || ne_eqb n 24 k i)
-
-  pub error_below : n < 14 → false ≡ is_width_error n
-  unfolding steady
-  error_below h = steady_at is_width_error 0 14 refl (omega arith) h
-
-  pub error_here : 14 ≤ n → n < 16 → true ≡ is_width_error n
-  unfolding steady
-  error_here h k = steady_at is_width_error 14 2 refl h k
-
-  pub error_above : 16 ≤ n → false ≡ is_width_error n
-  error_above h = sym (above 14 15 h)

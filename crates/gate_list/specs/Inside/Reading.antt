@@ -1,39 +1,23 @@
 -- What the functions that read a list may count on, and the parts of its questions that have functions of their own.
-use Rattle.std.specs.Prelude.{ℕ, ◌-◌, ◌<◌, ◌≤◌, ◌≡◌, List, [], Bool, not, ◌&&◌, ◌||◌, eqb, leb, length, get_or}
+use Rattle.std.specs.Prelude.{ℕ, ◌-◌, ◌<◌, ◌≤◌, ◌≡◌, List, [], Bool, false, not, eqb, length, get_or}
 use Rattle.pauli.specs.declared.refusal.Refusal.TheVariants.{StepSameQubit}
 use Rattle.pauli.specs.Questions.{ask, ◌and_then◌}
-use Rattle.gate_list.specs.Lists.{record_size, most_records, record_count, byte_of, next_of}
+use Rattle.gate_list.specs.Lists.{most_records, record_count, byte_of, next_of}
 use Rattle.gate_list.specs.ListQuestions.{step_qubit_question, step_second_questions, link_question, chain_questions}
 use Rattle.pauli.specs.Answers.{Outcome}
 
--- record i of the list, and its byte k
-pub record OwnRecord (l : List ℕ) (i : ℕ) : Type 0 where
-  pub own : i < record_count l
-
-pub record OwnByte (l : List ℕ) (i k : ℕ) : Type 0 where
-  pub own : i < record_count l
-  pub place : k < record_size
-
--- a number that is that of a definition, and a byte
-pub record ByteSized (n r : ℕ) : Type 0 where
-  pub is : r ≡ n
-  pub small : r < 256
-
 -- a mark for each record that a list can have, none of them set
-pub record NoneMet (met : List ℕ) : Type 0 where
+pub record NoneMet (met : List Bool) : Type 0 where
   pub long : length met ≡ most_records
-  pub clear : (k : ℕ) → get_or met k 0 ≡ 0
+  pub clear : (k : ℕ) → get_or met k false ≡ false
 
 -- beside a list of at least one record, and of no more than there are marks
-pub record BeforeChain (l met : List ℕ) : Type 0 where
+pub record BeforeChain (l : List ℕ) (met : List Bool) : Type 0 where
   pub blank : NoneMet met
   pub some : 0 < record_count l
   pub few : record_count l ≤ most_records
 
--- parts of zeros_question, step_second_questions, record_questions and list_questions
-unfoldable pub zeros_right : ℕ → ℕ → ℕ → Bool
-zeros_right gate second fixed = eqb fixed 0 && (leb 24 gate || eqb second 0)
-
+-- parts of step_second_questions, record_questions and list_questions
 unfoldable pub step_different_question : ℕ → ℕ → ℕ → Outcome
 step_different_question i q r = ask (not (eqb q r)) (StepSameQubit i)
 

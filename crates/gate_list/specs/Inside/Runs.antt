@@ -2,27 +2,19 @@
 use Rattle.std.specs.Prelude.{ℕ, ◌≤◌, ◌≡◌, List, length, Ok}
 use Rattle.pauli.specs.Answers.{written}
 use Rattle.clifford.specs.Layout.{record_length}
-use Rattle.clifford.specs.Playing.{played, letter_tables, pair_tables}
+use Rattle.clifford.specs.Playing.{played}
 use Rattle.clifford.specs.Tableaux.{identity_record}
 use Rattle.gate_list.specs.Lists.{byte_of, list_width}
 use Rattle.gate_list.specs.ListQuestions.{list_questions}
 use Rattle.gate_list.specs.Runs.{run_record, step_count}
-use Rattle.gate_list.specs.Inside.Reading.{OwnRecord}
 
--- record i of the list, beside the gates' own tables; and a record t after its gate
-pub record Plays (l : List ℕ) (i : ℕ) (ones twos : List (List (List ℕ))) : Type 0 where
-  pub own : OwnRecord l i
-  pub letters : ones ≡ letter_tables
-  pub pairs : twos ≡ pair_tables
-
+-- a record t after the gate of record i
 unfoldable pub record_played : List ℕ → ℕ → List ℕ → List ℕ
 record_played l i t = played (byte_of l i 0) (byte_of l i 1) (byte_of l i 2) t
 
--- an admitted list, the gates' own tables, and the identity
-pub record Begins (l : List ℕ) (ones twos : List (List (List ℕ))) (t : List ℕ) : Type 0 where
+-- an admitted list, and the identity
+pub record Begins (l t : List ℕ) : Type 0 where
   pub asked : list_questions l ≡ Ok tt
-  pub letters : ones ≡ letter_tables
-  pub pairs : twos ≡ pair_tables
   pub bytes : t ≡ identity_record (list_width l)
 
 pub record Ran (l e : List ℕ) (r : ℕ) : Type 0 where

@@ -1,9 +1,12 @@
 -- `composed_image` meets its contract.
-use Rattle.preview.proofs.Previews.{byte-small, byte-previewed}
+use Rattle.preview.proofs.Previews.{previewing}
 use Rattle.preview.proofs.composed_image.Goals as goal
 
-pub preview-requires : goal.preview-requires
-preview-requires g c = byte-small _ c.byte.ensures
+pub send_letter-requires : goal.send_letter-requires
+send_letter-requires g c = search previewing
 
-pub returns : goal.returns
-returns g c = byte-previewed _ _ _ _ c.byte.ensures c.preview.ensures
+pub returns-in-Ok : goal.returns-in-Ok
+returns-in-Ok g c = search previewing
+
+pub returns-in-Err : goal.returns-in-Err
+returns-in-Err g c = search previewing

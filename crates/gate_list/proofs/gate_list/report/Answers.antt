@@ -1,6 +1,6 @@
--- `gate_list::report_with` meets its contract.
+-- `gate_list::report` meets its contract.
 use Rattle.gate_list.proofs.RunReports.{reports}
-use Rattle.gate_list.proofs.gate_list.report_with.Goals as goal
+use Rattle.gate_list.proofs.gate_list.report.Goals as goal
 
 pub returns-in-Ok : goal.returns-in-Ok
 returns-in-Ok c = search reports
