@@ -2,7 +2,6 @@
 // replay program has. Only `call`, and what it calls, is this program's own.
 #![tactic(auto)]
 
-use std::io;
 use vectors::{Case, Reply};
 
 // Puts `a` at the front of `d`, as much of it as there is room for.
@@ -44,6 +43,6 @@ fn call(case: &mut Case) -> Option<Reply> {
     }
 }
 
-fn main(rt: HostRuntime) -> io::Result<()> {
-    vectors::replay(&rt, call)
+fn main() {
+    vectors::replay(call);
 }

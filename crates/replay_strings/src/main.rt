@@ -4,7 +4,6 @@
 use pauli::refusal::{Refusal, Told};
 use pauli::{algebra, pauli_string, quarter_phase, refusal};
 use refusal_lines::refusal_line;
-use std::io;
 use vectors::{Case, Reply};
 
 // The library's reply, as a case has it.
@@ -47,6 +46,6 @@ fn call(case: &mut Case) -> Option<Reply> {
     }
 }
 
-fn main(rt: HostRuntime) -> io::Result<()> {
-    vectors::replay(&rt, call)
+fn main() {
+    vectors::replay(call);
 }

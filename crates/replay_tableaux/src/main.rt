@@ -7,7 +7,6 @@ use gate_list::gate_list as lists;
 use gate_play::play;
 use pauli::refusal;
 use pauli::refusal::{Refusal, Told};
-use std::io;
 use vectors::{Case, Expected, Reply};
 
 // The library's reply, as a case has it.
@@ -132,6 +131,6 @@ fn call(case: &mut Case) -> Option<Reply> {
     }
 }
 
-fn main(rt: HostRuntime) -> io::Result<()> {
-    vectors::replay(&rt, call)
+fn main() {
+    vectors::replay(call);
 }

@@ -8,7 +8,6 @@ use clifford::layout::{LONGEST_RECORD, width};
 use clifford::{clifford_rep, questions};
 use pauli::refusal::Refusal;
 use pauli::{STRING_LENGTH, refusal};
-use std::io;
 use vectors::{Case, Reply};
 
 // The library's reply, as a case has it.
@@ -171,7 +170,7 @@ impl List {
     }
 }
 
-fn main(rt: HostRuntime) -> io::Result<()> {
+fn main() {
     let mut list = List::new();
-    vectors::replay(&rt, |case| list.call(case))
+    vectors::replay(|case| list.call(case));
 }
