@@ -101,7 +101,7 @@ impl Refusal {
 
 // Number 0 and the answer's value, or a refusal's number and its detail.
 #[repr(C)]
-#[derive(Clone, Copy)]
+#[derive(Clone, Copy, PartialEq, Eq, Debug)]
 pub struct Reply {
     pub number: u64,
     pub value: u64,

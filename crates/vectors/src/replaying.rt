@@ -1,11 +1,11 @@
 // A program that replays vectors, in fixed memory. Of what it reads and writes no contract can say
 // anything.
-ghost use Rattle.std.specs.Prelude.{◌≡◌};
 ghost use Rattle.std.specs.Iterator.{IsFinite};
-ghost use Rattle.vectors.specs.Verdicts.{IsMatch};
+ghost use Rattle.vectors.specs.Replays.{Comes, InputReplayed, Matches, Replayed};
 
-use crate::reading::{Case, Line, Reply, Room};
+use crate::reading::{Case, Line, Room};
 use crate::tally::{Failure, Outcome, Tally};
+use pauli::refusal::Reply;
 use std::fmt;
 use std::fmt::Write;
 
@@ -37,7 +37,7 @@ fn outcome<'a, F: FnMut(&mut Case<'_, '_>) -> Option<Reply>>(
 ) -> Outcome
     requires { F.IsAlwaysCallable call.old }
     ensures callable { F.IsAlwaysCallable call.new }
-    ensures matched { result ≡ Outcome.Match → (x : _) × (p : _) × (y : _) × F.step call.old x p y call.new × IsMatch y.now p }
+    ensures comes { Comes (Matches F.step call.old call.new) line.now result }
 {
     match room.read(line) {
         Line::Blank => Outcome::Blank,
@@ -56,6 +56,7 @@ fn replay_lines<'t, I: Iterator<Item = &'t [u8]>, F: FnMut(&mut Case<'_, '_>) ->
 ) -> Tally
     requires can_next { I.can_next lines × IsFinite (I.remaining lines) }
     requires callable { F.IsAlwaysCallable call.old }
+    ensures { Replayed (Matches F.step) call.old call.new result }
 {
     let mut room = Room::new();
     let mut tally = Tally::default();
@@ -73,6 +74,7 @@ fn replay_lines<'t, I: Iterator<Item = &'t [u8]>, F: FnMut(&mut Case<'_, '_>) ->
 // short: that is a mismatch.
 fn replay_in<F: FnMut(&mut Case<'_, '_>) -> Option<Reply>>(room: &mut [u8], call: &mut F) -> Tally
     requires { F.IsAlwaysCallable call.old }
+    ensures { InputReplayed (Matches F.step) call.old call.new result }
 {
     let n = io::read_full(STDIN_FILENO, room);
     let tally = replay_lines(room[..n].split(|c| *c == b'\n'), call);
@@ -87,10 +89,12 @@ fn replay_in<F: FnMut(&mut Case<'_, '_>) -> Option<Reply>>(room: &mut [u8], call
 }
 
 // Replays the lines of standard input: prints each that fails, with its number, and how many cases
-// there were. `call` calls the function that a case names.
-pub fn replay<F: FnMut(&mut Case<'_, '_>) -> Option<Reply>>(mut call: F)
+// there were. `call` calls the function that a case names. The answer is what was counted.
+pub fn replay<F: FnMut(&mut Case<'_, '_>) -> Option<Reply>>(mut call: F) -> Tally
     requires { F.IsAlwaysCallable call }
+    ensures { (last : F) × InputReplayed (Matches F.step) call last result }
 {
     let tally = replay_in(&mut text_room(), &mut call);
     let _ = writeln!(Output, "{tally}");
+    tally
 }
