@@ -2,14 +2,9 @@
 // replay program has. Only `call`, and what it calls, is this program's own.
 #![tactic(auto)]
 
-use std::io;
-use vectors::{Case, Reply};
-
-// Puts `a` at the front of `d`, as much of it as there is room for.
-fn copy(a: &[u8], d: &mut [u8]) {
-    let n = a.len().min(d.len());
-    d[..n].copy_from_slice(&a[..n]);
-}
+use pauli::refusal::Reply;
+use pauli::rows::copy;
+use vectors::Case;
 
 // Number 0 and the wrapped sum, with `a` at the front of `d`; number 7 where `d` has no room.
 fn sum(case: &mut Case) -> Reply {
@@ -44,6 +39,6 @@ fn call(case: &mut Case) -> Option<Reply> {
     }
 }
 
-fn main(rt: HostRuntime) -> io::Result<()> {
-    vectors::replay(&rt, call)
+fn main() {
+    vectors::replay(call);
 }

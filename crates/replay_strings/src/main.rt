@@ -1,25 +1,10 @@
 // Replays vectors from standard input on the functions of `pauli`, and on the lines of refusals.
 #![tactic(auto)]
 
-use pauli::refusal::{Refusal, Told};
-use pauli::{algebra, pauli_string, quarter_phase, refusal};
+use pauli::refusal::Reply;
+use pauli::{algebra, pauli_string, quarter_phase};
 use refusal_lines::refusal_line;
-use std::io;
-use vectors::{Case, Reply};
-
-// The library's reply, as a case has it.
-fn told<T: Told + Drop>(answer: Result<T, Refusal>) -> Option<Reply> {
-    let r = refusal::Reply::from(answer);
-    Some(Reply {
-        number: r.number,
-        value: r.value,
-    })
-}
-
-// A number as a byte: no function takes a wider one.
-fn byte(n: u64) -> Option<u8> {
-    u8::try_from(n).ok()
-}
+use vectors::{Case, byte, index, told};
 
 // Calls the function that the case names.
 fn call(case: &mut Case) -> Option<Reply> {
@@ -33,7 +18,7 @@ fn call(case: &mut Case) -> Option<Reply> {
         "refusal_line" => told(refusal_line(n1, n2, n3, case.d)),
         "to_sparse_str" => told(pauli_string::to_sparse_str(case.a, case.d)),
         "phase" => told(pauli_string::phase(case.a)),
-        "get" => told(pauli_string::get(case.a, n1 as usize)),
+        "get" => told(pauli_string::get(case.a, index(n1)?)),
         "anticommuting_places" => told(pauli_string::anticommuting_places(case.a, case.b)),
         "mul" => told(algebra::mul(case.a, case.b, case.d)),
         "with_phase_and_paulis" => {
@@ -47,6 +32,6 @@ fn call(case: &mut Case) -> Option<Reply> {
     }
 }
 
-fn main(rt: HostRuntime) -> io::Result<()> {
-    vectors::replay(&rt, call)
+fn main() {
+    vectors::replay(call);
 }

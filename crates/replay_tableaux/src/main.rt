@@ -5,24 +5,8 @@ use clifford::clifford_rep::{Generator, X, Z};
 use clifford::{clifford as gates, clifford_rep};
 use gate_list::gate_list as lists;
 use gate_play::play;
-use pauli::refusal;
-use pauli::refusal::{Refusal, Told};
-use std::io;
-use vectors::{Case, Expected, Reply};
-
-// The library's reply, as a case has it.
-fn told<T: Told + Drop>(answer: Result<T, Refusal>) -> Option<Reply> {
-    let r = refusal::Reply::from(answer);
-    Some(Reply {
-        number: r.number,
-        value: r.value,
-    })
-}
-
-// A number as a byte: no gate has a wider one.
-fn byte(n: u64) -> Option<u8> {
-    u8::try_from(n).ok()
-}
+use pauli::refusal::Reply;
+use vectors::{Case, Expected, byte, index, told};
 
 // Whether the part is the row of the record that starts at this offset.
 fn is_row(t: &[u8], at: usize, part: &[u8]) -> bool {
@@ -39,12 +23,12 @@ fn is_row(t: &[u8], at: usize, part: &[u8]) -> bool {
 fn image<G: Generator>(case: &Case, slot: usize) -> Option<Reply> {
     let part = match clifford_rep::image::<G>(case.a, slot) {
         Ok(part) => part,
-        Err(why) => return told(Err::<(), _>(why)),
+        Err(why) => return Some(Reply::from(why)),
     };
     let Expected::Exactly(Reply { value, .. }) = case.expected else {
         return None;
     };
-    is_row(case.a, value as usize, part).then_some(Reply { number: 0, value })
+    is_row(case.a, index(value)?, part).then_some(Reply { number: 0, value })
 }
 
 // A text that is written starts as every such text does.
@@ -83,8 +67,10 @@ fn compose_one(a: &[u8], number: u8) -> Option<u8> {
 
 // a composed with each record of width 1 in turn. A call that is refused, or that writes no record, is no match.
 fn compose_each(a: &[u8], d: &mut [u8]) -> Option<Reply> {
-    for (i, made) in d.iter_mut().enumerate() {
-        *made = compose_one(a, (i % 256) as u8)?;
+    for row in d.chunks_mut(256) {
+        for (number, made) in (0..=255).zip(row) {
+            *made = compose_one(a, number)?;
+        }
     }
     told(Ok(()))
 }
@@ -92,8 +78,8 @@ fn compose_each(a: &[u8], d: &mut [u8]) -> Option<Reply> {
 // Calls the function of gates or of lists that the case names.
 fn call_gates(case: &mut Case) -> Option<Reply> {
     let n1 = case.n1;
-    let q = case.n2 as usize;
-    let r = case.n3 as usize;
+    let q = index(case.n2)?;
+    let r = index(case.n3)?;
     match case.name {
         "gate_compose" => told(gates::compose(byte(n1)?, byte(case.n2)?)),
         "gate_inverse" => told(gates::inverse(byte(n1)?)),
@@ -101,7 +87,7 @@ fn call_gates(case: &mut Case) -> Option<Reply> {
         "on_qubits" => told(gates::on_qubits(byte(n1)?, q, r, case.d)),
         "play" => told(play(case.d, byte(n1)?, q, r)),
         "from_clifford_rep" => told(gates::from_clifford_rep(case.a)),
-        "single_qubit_clifford" => told(gates::single_qubit_clifford(n1 as usize, q, case.d)),
+        "single_qubit_clifford" => told(gates::single_qubit_clifford(index(n1)?, q, case.d)),
         "run" => told(lists::run(case.a, case.d)),
         "report" => told(lists::report(case.a, case.d)),
         _ => None,
@@ -110,7 +96,7 @@ fn call_gates(case: &mut Case) -> Option<Reply> {
 
 // Calls the function that the case names.
 fn call(case: &mut Case) -> Option<Reply> {
-    let n = case.n1 as usize;
+    let n = index(case.n1)?;
     match case.name {
         "compose" => told(clifford_rep::compose(case.a, case.b, case.d)),
         "compose_each" => compose_each(case.a, case.d),
@@ -132,6 +118,6 @@ fn call(case: &mut Case) -> Option<Reply> {
     }
 }
 
-fn main(rt: HostRuntime) -> io::Result<()> {
-    vectors::replay(&rt, call)
+fn main() {
+    vectors::replay(call);
 }

@@ -6,19 +6,10 @@
 
 use clifford::layout::{LONGEST_RECORD, width};
 use clifford::{clifford_rep, questions};
-use pauli::refusal::Refusal;
-use pauli::{STRING_LENGTH, refusal};
-use std::io;
-use vectors::{Case, Reply};
-
-// The library's reply, as a case has it.
-fn told(answer: Result<(), Refusal>) -> Option<Reply> {
-    let r = refusal::Reply::from(answer);
-    Some(Reply {
-        number: r.number,
-        value: r.value,
-    })
-}
+use pauli::STRING_LENGTH;
+use pauli::refusal::{Refusal, Reply};
+use pauli::rows::copy;
+use vectors::{Case, index, told};
 
 // The record at the front of some bytes; all of them where they are too few.
 fn record_in(t: &[u8]) -> &[u8] {
@@ -82,12 +73,6 @@ fn send_back(now: &[u8], product: &[u8], strings: &[u8], d: &mut [u8]) -> Option
     send(written(answer, &brought)?, strings, d)
 }
 
-// Puts `a` at the front of `d`, as much of it as there is room for.
-fn copy(a: &[u8], d: &mut [u8]) {
-    let n = a.len().min(d.len());
-    d[..n].copy_from_slice(&a[..n]);
-}
-
 // A list of calls: the record to come back to, the record as it stands, and the product of the steps from the one to the other.
 #[derive(Drop)]
 struct List {
@@ -139,14 +124,14 @@ impl List {
         let answer = clifford_rep::compose(a, now, d);
         match answer {
             Ok(()) => self.step(a, d),
-            Err(why) => told(Err(why)),
+            Err(why) => Some(Reply::from(why)),
         }
     }
 
     // Plays the case's call.
     fn play(&mut self, case: &mut Case) -> Option<Reply> {
-        let n1 = case.n1 as usize;
-        let n2 = case.n2 as usize;
+        let n1 = index(case.n1)?;
+        let n2 = index(case.n2)?;
         match case.name {
             "compose" => self.compose(case.a, case.b, case.d),
             "send" => send(case.a, case.b, case.d),
@@ -171,7 +156,7 @@ impl List {
     }
 }
 
-fn main(rt: HostRuntime) -> io::Result<()> {
+fn main() {
     let mut list = List::new();
-    vectors::replay(&rt, |case| list.call(case))
+    vectors::replay(|case| list.call(case));
 }

@@ -2,3 +2,4 @@
 pub mod Lines
 pub mod Verdicts
 pub mod Tallies
+pub mod Replays

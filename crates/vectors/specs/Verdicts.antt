@@ -3,7 +3,7 @@ use Rattle.std.specs.Prelude.{◌≡◌, ◌≤◌, Option, IsSomeAnd}
 use Rattle.vectors.specs.declared.reading.Case.{Case}
 use Rattle.vectors.specs.declared.reading.Expected.{Expected}
 use Rattle.vectors.specs.declared.reading.Expected.TheVariants.{Exactly, BadSyntax}
-use Rattle.vectors.specs.declared.reading.Reply.{Reply}
+use Rattle.pauli.specs.declared.refusal.Reply.{Reply}
 
 -- the reply p is one that x expects: that very one, or for bad syntax a refusal numbered 9, 10 or 11
 abbrev pub Expects : Expected → Reply → Type 0

@@ -24,9 +24,11 @@
 mod decode;
 mod reading;
 mod replaying;
+mod replies;
 mod tally;
 
 pub use decode::{bytes, decimal};
-pub use reading::{Case, Expected, FIELD_ROOM, Line, Reply, Room};
+pub use reading::{Case, Expected, FIELD_ROOM, Line, Room};
 pub use replaying::replay;
+pub use replies::{byte, index, told};
 pub use tally::{Failure, Outcome, Tally};

@@ -1,17 +1,11 @@
 // One line as a case.
-ghost use Rattle.std.specs.Prelude.{◌≡◌, ◌↔◌, IsTrue, IfSome};
+ghost use Rattle.std.specs.Prelude.{◌≡◌, ◌≢◌, ◌↔◌, IsTrue, IfSome};
 ghost use Rattle.vectors.specs.Lines.{CaseFits, IsBlank, IsName, LineFits};
 ghost use Rattle.vectors.specs.Verdicts.{Expects, IsMatch};
 
 use crate::decode::{bytes, decimal};
 use crate::tally::{Failure, Outcome};
-
-// What a function under test answers.
-#[derive(Clone, Copy, PartialEq, Eq, Debug)]
-pub struct Reply {
-    pub number: u64,
-    pub value: u64,
-}
+use pauli::refusal::Reply;
 
 // The reply that a line expects: its number and its value, or, for `!`, a refusal of bad syntax,
 // which is number 9, 10 or 11, whatever its value.
@@ -51,7 +45,8 @@ impl Case<'_, '_> {
     // What comes of the call, once it is made. No reply: no function has the name and takes the
     // arguments. The destination is compared whole, since bytes that should be as before count too.
     pub fn outcome(&self, reply: Option<Reply>) -> Outcome
-        ensures { (result ≡ Outcome.Match) ↔ IsMatch self.now reply }
+        ensures case { result ≢ Outcome.Blank }
+        ensures matched { (result ≡ Outcome.Match) ↔ IsMatch self.now reply }
     {
         let Some(reply) = reply else {
             return Outcome::Failed(Failure::Unknown);

@@ -1,11 +1,33 @@
-// A program that replays vectors.
-ghost use Rattle.std.specs.Prelude.{◌≡◌};
-ghost use Rattle.vectors.specs.Verdicts.{IsMatch};
+// A program that replays vectors, in fixed memory. Of what it reads and writes no contract can say
+// anything.
+ghost use Rattle.std.specs.Iterator.{IsFinite};
+ghost use Rattle.vectors.specs.Replays.{Comes, InputReplayed, Matches, Replayed};
 
-use crate::reading::{Case, Line, Reply, Room};
+use crate::reading::{Case, Line, Room};
 use crate::tally::{Failure, Outcome, Tally};
-use std::io;
-use std::io::{BufRead, BufReader};
+use pauli::refusal::Reply;
+use std::fmt;
+use std::fmt::Write;
+
+const STDIN_FILENO: i32 = 0;
+
+const STDOUT_FILENO: i32 = 1;
+
+// Room for all of a program's input. A contract that gave the length would have the check count it.
+fn text_room() -> [u8; 2097152] {
+    [0; 2097152]
+}
+
+// Standard output. A write that fails is passed over: the lines after it are replayed all the same.
+#[derive(Drop)]
+struct Output;
+
+impl fmt::Write for Output {
+    fn write_str(&mut self, s: &str) -> fmt::Result {
+        io::write_all(STDOUT_FILENO, s.as_bytes());
+        Ok(())
+    }
+}
 
 // What comes of a line. It is a match only where a call of its case came to what the case expects.
 fn outcome<'a, F: FnMut(&mut Case<'_, '_>) -> Option<Reply>>(
@@ -15,7 +37,7 @@ fn outcome<'a, F: FnMut(&mut Case<'_, '_>) -> Option<Reply>>(
 ) -> Outcome
     requires { F.IsAlwaysCallable call.old }
     ensures callable { F.IsAlwaysCallable call.new }
-    ensures matched { result ≡ Outcome.Match → (x : _) × (p : _) × (y : _) × F.step call.old x p y call.new × IsMatch y.now p }
+    ensures comes { Comes (Matches F.step call.old call.new) line.now result }
 {
     match room.read(line) {
         Line::Blank => Outcome::Blank,
@@ -27,22 +49,52 @@ fn outcome<'a, F: FnMut(&mut Case<'_, '_>) -> Option<Reply>>(
     }
 }
 
-// Replays the lines of standard input: prints each that fails, with its number, and how many cases
-// there were. `call` calls the function that a case names.
-pub fn replay<R: Input + Print + Alloc, F: FnMut(&mut Case<'_, '_>) -> Option<Reply>>(
-    rt: &R,
-    mut call: F,
-) -> io::Result<()>
-    requires { F.IsAlwaysCallable call }
+// Replays lines, and prints which of them fail.
+fn replay_lines<'t, I: Iterator<Item = &'t [u8]>, F: FnMut(&mut Case<'_, '_>) -> Option<Reply>>(
+    lines: I,
+    call: &mut F,
+) -> Tally
+    requires can_next { I.can_next lines × IsFinite (I.remaining lines) }
+    requires callable { F.IsAlwaysCallable call.old }
+    ensures { Replayed (Matches F.step) call.old call.new result }
 {
     let mut room = Room::new();
     let mut tally = Tally::default();
-    for line in BufReader::new(rt.alloc(), rt.reader())?.split(rt.alloc(), b'\n') {
-        let outcome = outcome(&line?, &mut room, &mut call);
+    for line in lines {
+        let outcome = outcome(line, &mut room, call);
         tally = tally.with(outcome);
         if let Outcome::Failed(failure) = outcome {
-            println!(rt; "line {}: {failure}", tally.lines)?;
+            let _ = writeln!(Output, "line {}: {failure}", tally.lines);
         }
     }
-    println!(rt; "{tally}")
+    tally
+}
+
+// Replays what standard input says, with room for it. An input that fills the room may be cut
+// short: that is a mismatch.
+fn replay_in<F: FnMut(&mut Case<'_, '_>) -> Option<Reply>>(room: &mut [u8], call: &mut F) -> Tally
+    requires { F.IsAlwaysCallable call.old }
+    ensures { InputReplayed (Matches F.step) call.old call.new result }
+{
+    let n = io::read_full(STDIN_FILENO, room);
+    let tally = replay_lines(room[..n].split(|c| *c == b'\n'), call);
+    if n < room.len() {
+        return tally;
+    }
+    let _ = writeln!(Output, "the input is too long");
+    Tally {
+        mismatches: tally.mismatches.wrapping_add(1),
+        ..tally
+    }
+}
+
+// Replays the lines of standard input: prints each that fails, with its number, and how many cases
+// there were. `call` calls the function that a case names. The answer is what was counted.
+pub fn replay<F: FnMut(&mut Case<'_, '_>) -> Option<Reply>>(mut call: F) -> Tally
+    requires { F.IsAlwaysCallable call }
+    ensures { (last : F) × InputReplayed (Matches F.step) call last result }
+{
+    let tally = replay_in(&mut text_room(), &mut call);
+    let _ = writeln!(Output, "{tally}");
+    tally
 }

@@ -1,0 +1,2 @@
+-- Lemmas of `vectors`.
+pub mod Counting

@@ -1,4 +1,0 @@
-use Rattle.vectors.proofs.replaying.replay.Given as goal
-
-abbrev pub invariant-loop-line : goal.invariant-loop-line
-invariant-loop-line g l = goal.F-IsAlwaysCallable g l.call
