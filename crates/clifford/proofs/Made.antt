@@ -180,7 +180,7 @@ module _ {w n r : ℕ} {s k : List ℕ} (i : RowIndex n r) (o : MakesRow w n s k
       pub row_generator : IsGenerator l
       row_generator = generator-is w r el
 
-      module _ {g p v : ℕ} (i : GateInside g p v w) where
+      module _ {g p v : ℕ} (h : GateInside g p v w) where
         module _ {x : RowImage} (im : RowImageOf (max (gate_width g p v) (suc q)) (image_of (gate_tableau g p v) q (letter_of l)) x) where
           pub gate_puts : PutsImage x k
           gate_puts = record {
