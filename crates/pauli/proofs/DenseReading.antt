@@ -23,14 +23,9 @@ use Rattle.pauli.proofs.SparseReading.{letter-small}
 use Rattle.pauli.proofs.TextBytes.{named_or, named_lacks, named_has}
 
 -- ---- I, i and 1
-pub identity-is : {c : ℕ} (k : ℕ) → c ≡ k → true ≡ is_identity k → true ≡ is_identity c
-identity-is k e h = h ∙ ap is_identity (sym e)
-
 pub identity-not : {c : ℕ} → (c ≡ 73 → ⊥) → (c ≡ 105 → ⊥) → (c ≡ 49 → ⊥) → false ≡ is_identity c
 unfolding is_identity
 identity-not {c} p q r = sym (λ i. (ne_eqb c 73 p i || ne_eqb c 105 q i) || ne_eqb c 49 r i)
-
-pub ruleset identities = (identity-is, identity-not, rules)
 
 -- ---- the trimmed end
 pub end_found : (t : List ℕ) {r k : ℕ} → k ≡ first_of (λ c. not (is_space c)) (reverse t) → r ≡ length t - k → EndRead t r
@@ -155,11 +150,6 @@ module _ (t b : List ℕ) (k : ℕ) (at : DenseAt t b k) where
 
   pub dense-asked : (room : ℕ) {r : Outcome} → r ≡ chain room → r ≡ from_dense_questions t room
   dense-asked room e = e ∙ chain_is room
-
-pub dense-fits : {t b : List ℕ} {k : ℕ} → DenseAt t b k → k + length b < 18446744073709551616
-dense-fits at = at.fits
-
-pub ruleset dense_answers = (dense-asked, in_order, dense-fits, rules)
 
 -- ---- the record
 pub dense-room : (t d : List ℕ) {r : Outcome} → r ≡ from_dense_questions t (length d) → r ≡ Ok tt → RecordFits d

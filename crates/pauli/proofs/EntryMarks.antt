@@ -17,10 +17,6 @@ use Rattle.pauli.proofs.Places.{NoneBefore, none_start, none_more, none_found, n
 use Rattle.pauli.proofs.Records.{letter_there}
 
 -- ---- the questions
-pub entries_odd : (e : List ℕ) → (length e % 2 ≡ 0 → ⊥) → Err Length ≡ even_question e
-unfolding even_question
-entries_odd e h = asked_no Length (ne_eqb (length e % 2) 0 h)
-
 pub entries-even : (e : List ℕ) → length e % 2 ≡ 0 → Ok tt ≡ even_question e
 unfolding even_question
 entries-even e h = asked_yes Length (eq-eqb (length e % 2) 0 h)
@@ -113,24 +109,15 @@ qubits-below p e h j l =
     leb-false 128 (entry_qubit e j) (first-before (entry_count e) (λ k. leb 128 (entry_qubit e k)) j (omega arith))
 
 -- ---- one more mark
-pub marked_first : (m : List ℕ) (q l : ℕ) → get_or m q 0 ≡ 0 → set m q (l + 1) ≡ set m q (mark_more (get_or m q 0) l)
-unfolding mark_more
-marked_first m q l h = ap (set m q) (add-one l ∙ sym (ap (λ (x : ℕ). mark_more x l) h))
-
 mark_again : (x l : ℕ) → (x ≡ 0 → ⊥) → 5 ≡ mark_more x l
 unfolding mark_more
 mark_again zero l h = absurd (h refl)
 mark_again (suc x) l h = refl
 
-pub marked_again : (m : List ℕ) (q l : ℕ) → (get_or m q 0 ≡ 0 → ⊥) → set m q 5 ≡ set m q (mark_more (get_or m q 0) l)
-marked_again m q l h = ap (set m q) (mark_again (get_or m q 0) l h)
-
 pub unmark_is : (m : ℕ) → m - 1 ≡ unmarked m
 unfolding unmarked
 unmark_is zero = omega arith
 unmark_is (suc m) = omega arith
-
-pub ruleset marking = (marked_first, marked_again, rules)
 
 -- ---- the marks after n entries
 pub mark_ext : (n : ℕ) (f g : ℕ → Bool) (a b : ℕ → ℕ) → ((j : ℕ) → j < n → f j ≡ g j) → ((j : ℕ) → j < n → a j ≡ b j) → mark_to f a n ≡ mark_to g b n

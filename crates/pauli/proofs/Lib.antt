@@ -11,7 +11,6 @@ pub mod Looking
 pub mod Multiplying
 pub mod Numerals
 pub mod Places
-pub mod QuarterPhases
 pub mod Records
 pub mod RowProducts
 pub mod SparseReading

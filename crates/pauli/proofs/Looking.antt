@@ -105,24 +105,3 @@ module _ {s t : List ℕ} where
   not-second h = not-strings (λ d. h (string-length t (done_second (string_questions s) (string_questions t) d)))
 
 pub ruleset looks = (seen_none, seen_more, seen_all, not_first, not-second, seen_first, seen_second, rules)
-
--- one more place
-module _ (r : Sight) (x y q : ℕ) {b m : ℕ} (e : b ≡ max x y) (f : m ≡ max r.largest b) where
-  sight_is : {p : ℕ} → p ≡ cond (eqb b 0) r.places (q + 1) → record { largest = m; places = p } ≡ seen_with r x y q
-  unfolding seen_with
-  sight_is g =
-      ap₂ (λ (l : ℕ) (p : ℕ). record { largest = l; places = p }) (f ∙ ap (max r.largest) e) (g ∙ ap (λ (j : ℕ). cond (eqb j 0) r.places (q + 1)) e)
-
-  pub see_I : b ≡ 0 → record { largest = m; places = r.places } ≡ seen_with r x y q
-  see_I z = sight_is (sym (ap (λ c. cond c r.places (q + 1)) (eq-eqb b 0 z)))
-
-  pub see_letter : {p : ℕ} → (b ≡ 0 → ⊥) → p ≡ q + 1 → record { largest = m; places = p } ≡ seen_with r x y q
-  see_letter d g = sight_is (g ∙ sym (ap (λ c. cond c r.places (q + 1)) (ne_eqb b 0 d)))
-
-pub ruleset sees = (see_I, see_letter, rules)
-
--- the questions are put again where a bad byte was seen
-pub seen_clean : (s t : List ℕ) {m : ℕ} → (m < 4 → strings_questions s t ≡ Ok tt) → m < 4 → Ok tt ≡ strings_questions s t
-seen_clean s t h l = sym (h l)
-
-pub ruleset seen_questions = (seen_clean, rules)

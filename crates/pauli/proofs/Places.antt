@@ -1,5 +1,5 @@
 -- Laws of lists by place, of the first place that has a property, and of a destination that is filled from its front.
-use Rattle.std.proofs.Common.{◌≡◌, ℕ, zero, suc, not, inl, inr, ◌⊎◌, Option, Some, None, ◌+◌, ◌-◌, ◌<◌, ◌≤◌, max, min, Bool, true, false, cond, ltb, List, [], ◌∷◌, ◌++◌, length, get_or, take, drop, set, sym, refl, ap, ◌∙◌, subst, ap₂, le_refl, le_of_suc-le-suc, not-suc-le-zero, add-one, arith, length-append, length-drop, length-take, get_or-drop, take_all, ext_get_or, rules, le-ltb, lt-ltb, le-leb}
+use Rattle.std.proofs.Common.{◌≡◌, ℕ, zero, suc, not, inl, inr, ◌⊎◌, Option, Some, None, ◌+◌, ◌-◌, ◌<◌, ◌≤◌, max, Bool, true, false, cond, ltb, List, [], ◌∷◌, ◌++◌, length, get_or, take, drop, set, sym, refl, ap, ◌∙◌, subst, ap₂, le_refl, le_of_suc-le-suc, not-suc-le-zero, add-one, arith, length-append, length-drop, length-take, get_or-drop, take_all, ext_get_or, le-ltb, lt-ltb}
 use Rattle.std.specs.List.{position, position_or_len}
 use Rattle.std.specs.Option.{unwrap_or, SomeIff}
 use Rattle.std.proofs.lemmas.Bool.{cases_lt}
@@ -10,7 +10,7 @@ use lib.ListN.{get_or-append}
 use lib.Seq.{get_or_at, take-length}
 use Rattle.pauli.specs.Places.{listed, first_place}
 use Rattle.pauli.specs.Questions.{first_bad}
-use Rattle.pauli.specs.Rows.{largest_to, copied}
+use Rattle.pauli.specs.Rows.{largest_to}
 
 -- ---- lists by place
 module _ {A : Type 0} where
@@ -182,8 +182,6 @@ none_bad s e h =
     never : length s < length s → ⊥
     never l = omega arith
 
-pub ruleset largest_bytes = (largest_start, largest_step, largest_all, rules)
-
 -- what a scan that keeps the first place p knows before place i; p is n where none is seen yet
 pub record FirstSeen (n : ℕ) (f : ℕ → Bool) (i p : ℕ) : Type 0 where
   pub within : i ≤ n
@@ -295,13 +293,6 @@ filled_room m h = let room = m.room in omega (arith, filled_length m)
 
 pub filled_all : {s d : List ℕ} {n i : ℕ} {e : List ℕ} (k : ℕ) → n ≡ k → Filled s d n i e → n ≤ i → e ≡ take k s ++ drop k d
 filled_all {s} {d} {n} {i} k p m h = let within : i ≤ n = m.within in let e : i ≡ k = omega arith in m.out ∙ ap (fill s d) e
-
-pub ruleset fills = (filled_none, filled_step, filled_length, filled_room, filled_all, rules)
-
--- the first n elements of s copied over those of d
-pub fronts_copied : (s d : List ℕ) {n : ℕ} {f : List ℕ} → n ≡ min (length s) (length d) → f ≡ take n s → f ++ drop n d ≡ copied s d
-unfolding copied
-fronts_copied s d {n} e h = ap (λ l. l ++ drop n d) h ∙ ap (λ (k : ℕ). take k s ++ drop k d) e
 
 -- ---- the part `&s[k..]`
 abbrev pub from : ℕ → List ℕ → List ℕ

@@ -164,12 +164,6 @@ scan_all {s} a h = record { largest = largest_all a.largest h; letters = letters
 
 pub ruleset letter_scans = (scan_start, scan_step, scan_all, rules)
 
-pub scan_more : (r : LetterScan) (x : ℕ) {m t u : ℕ} → m ≡ max r.largest x → t ≡ lettered x → u ≡ (r.letters + t) % 256 → record { largest = m; letters = u } ≡ scanned_with r x
-unfolding scanned_with
-scan_more r x em et eu = ap₂ (λ (l : ℕ) (c : ℕ). record { largest = l; letters = c }) em (eu ∙ ap (λ (k : ℕ). (r.letters + k) % 256) et)
-
-pub ruleset letters_scanned = (scan_more, rules)
-
 -- up to 255 places the count is exact
 count_exact : (n : ℕ) (a b : List ℕ) → n ≤ 255 → places_of n a b % 256 ≡ places_of n a b
 unfolding places_of

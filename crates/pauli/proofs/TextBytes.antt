@@ -1,5 +1,5 @@
 -- Bytes of text: what the tests on them find.
-use Rattle.std.proofs.Common.{◌≡◌, ℕ, zero, suc, ◌+◌, ◌<◌, ◌≤◌, Bool, true, false, cond, not, ◌&&◌, ◌||◌, eqb, leb, ◌⊎◌, List, length, get_or, drop, sym, refl, ap, ◌∙◌, ap₂, inl, inr, add-one, arith, length-drop, rules, ne_eqb, eqb-true, le-leb, Some, None, Ok, Err}
+use Rattle.std.proofs.Common.{◌≡◌, ℕ, zero, suc, ◌+◌, ◌<◌, ◌≤◌, Bool, true, false, cond, ◌&&◌, ◌||◌, leb, ◌⊎◌, List, length, get_or, drop, sym, refl, ap, ◌∙◌, ap₂, inl, inr, add-one, arith, length-drop, ne_eqb, eqb-true, le-leb, Some, None, Ok, Err}
 use Rattle.std.specs.List.{position}
 use Rattle.std.specs.Option.{unwrap_or, is_none}
 use native.Mathlib.Decide.{dec_lt}
@@ -16,21 +16,9 @@ use Rattle.pauli.proofs.Asking.{asked_yes, asked_no}
 use Rattle.pauli.proofs.Places.{from, from_is, position-at, position-none, first_le}
 
 -- ---- white space and digits
-pub space_32 : {c : ℕ} → c ≡ 32 → true ≡ is_space c
-unfolding is_space
-space_32 e = sym (ap is_space e)
-
-pub space-low : {c : ℕ} → (c ≡ 32 → ⊥) → c < 9 → false ≡ is_space c
-unfolding is_space
-space-low {c} d h = sym (ap₂ (λ a b. (a && leb c 13) || b) (lt-leb 9 c h) (ne_eqb c 32 d))
-
 pub space-high : {c : ℕ} → (c ≡ 32 → ⊥) → 9 ≤ c → 13 < c → false ≡ is_space c
 unfolding is_space
 space-high {c} d k h = sym ((λ i. (le-leb 9 c k i && lt-leb c 13 h i) || ne_eqb c 32 d i))
-
-pub space_mid : {c : ℕ} → 9 ≤ c → c ≤ 13 → true ≡ is_space c
-unfolding is_space
-space_mid {c} k h = sym (ap₂ (λ a b. (a && b) || eqb c 32) (le-leb 9 c k) (le-leb c 13 h))
 
 pub digit_low : {c : ℕ} → c < 48 → false ≡ is_digit c
 unfolding is_digit
@@ -39,8 +27,6 @@ digit_low {c} h = sym (ap (λ a. a && leb c 57) (lt-leb 48 c h))
 pub digit_high : {c : ℕ} → 48 ≤ c → 57 < c → false ≡ is_digit c
 unfolding is_digit
 digit_high {c} k h = sym (ap₂ ◌&&◌ (le-leb 48 c k) (lt-leb c 57 h))
-
-pub ruleset byte_tests = (space_32, space-low, space-high, space_mid, rules)
 
 -- what the default arm of the match on letters finds
 pub named_none : {c : ℕ}
@@ -137,8 +123,6 @@ module _ {a b : ℕ} where
     small = omega arith;
   }
 
-pub ruleset prefixes = (plus_i_lem, minus_i, plus, minus, just_i, no_prefix, rules)
-
 -- ---- the head of a text
 -- a prefix of two bytes ends with an i
 prefix-two : (a b : ℕ) → (prefix_length a b ≤ 1) ⊎ ((prefix_length a b ≤ 2) × (b ≡ 105))
@@ -201,8 +185,6 @@ head-some t {k} {b} {p} e h eb r =
       place = omega (arith, long, (head_at t k e).1);
       within = omega (arith, long, prefix-within t k h);
     }
-
-pub ruleset heads = (head-none, head-some, rules)
 
 -- ---- where white space or a word ends
 pub words-within : (t : List ℕ) → leading_word t ≤ length t

@@ -4,12 +4,11 @@ use native.Mathlib.Nat.{zero-min, min-zero, suc-min-suc}
 use native.Mathlib.Decide.{dec_lt}
 use lib.Seq.{set_out}
 use borrow.Rule.Slice.PartMut.{put_mid}
-use Rattle.pauli.specs.Layout.{phase_of, letter_of}
+use Rattle.pauli.specs.Layout.{letter_of}
 use Rattle.pauli.specs.Rows.{copied}
-use Rattle.pauli.specs.SparseText.{decimal, prefix_text, letter_text, entry_word, words_at}
+use Rattle.pauli.specs.SparseText.{decimal, letter_text, entry_word, words_at}
 use Rattle.pauli.specs.TextWriting.{last_place, place_after, stored, Stored}
 use Rattle.pauli.specs.Inside.TextWriting.{TextWritten, added, more_text}
-use Rattle.pauli.proofs.Cases.{three_up}
 use Rattle.pauli.proofs.Decimals.{decimal-one, decimal-more}
 use Rattle.pauli.proofs.Places.{from, from_is}
 
@@ -145,29 +144,6 @@ pub number_more : {d e f : List ℕ} {k m n c r : ℕ} → 10 ≤ n → c ≡ 48
 number_more {n = n} h p a b = stored_as (ap (λ (x : ℕ). decimal (n / 10) ++ (x ∷ [])) p ∙ sym (decimal-more n h)) (stored_join a b)
 
 pub ruleset numbers = (number-one, number_more, stored_same, rules)
-
--- ---- the prefix
-prefix_key : {d e w : List ℕ} {p r : ℕ} (k : ℕ) → p ≡ k → w ≡ prefix_text (phase_of k) → Stored 0 w d e r → Stored 0 (prefix_text (phase_of p)) d e r
-prefix_key k h l a = stored_as (l ∙ ap (λ (x : ℕ). prefix_text (phase_of x)) (sym h)) a
-
-module _ {d e : List ℕ} {p r : ℕ} where
-  pub prefix-plus : p ≡ 0 → Stored 0 (43 ∷ []) d e r → Stored 0 (prefix_text (phase_of p)) d e r
-  unfolding prefix_text phase_of
-  prefix-plus h a = prefix_key 0 h refl a
-
-  pub prefix-minus : p ≡ 1 → Stored 0 (45 ∷ []) d e r → Stored 0 (prefix_text (phase_of p)) d e r
-  unfolding prefix_text phase_of
-  prefix-minus h a = prefix_key 1 h refl a
-
-  pub prefix-plus_i : p ≡ 2 → Stored 0 (43 ∷ 105 ∷ []) d e r → Stored 0 (prefix_text (phase_of p)) d e r
-  unfolding prefix_text phase_of
-  prefix-plus_i h a = prefix_key 2 h refl a
-
-  pub prefix_minus_i : ((Unit {0} × (p ≡ 0 → ⊥)) × (p ≡ 1 → ⊥)) × (p ≡ 2 → ⊥) → Stored 0 (45 ∷ 105 ∷ []) d e r → Stored 0 (prefix_text (phase_of p)) d e r
-  unfolding prefix_text phase_of
-  prefix_minus_i h a = prefix_key (suc (suc (suc (p - 3)))) (three_up h) refl a
-
-pub ruleset prefixes = (prefix-plus, prefix-minus, prefix-plus_i, prefix_minus_i, stored_same, rules)
 
 -- ---- an entry, with the space before it
 pub entry-stored : {d e f : List ℕ} {k m c r : ℕ} (l q : ℕ) → c ≡ letter_text (letter_of l) → Stored k (c ∷ []) d e m → Stored m (decimal q) e f r

@@ -137,13 +137,6 @@ some-lettered {x} d = sym (ap (λ b. cond b 1 0) (some-letter x d))
 pub turns-added : {x y t r : ℕ} (v : ℕ) → LetterTurns x y t → r ≡ (v + t) % 256 → power r ≡ power v · letter_phase (letter_of x) (letter_of y)
 turns-added {t = t} v m e = ap power e ∙ power_sum v t ∙ ap (λ p. power v · p) m.is
 
-pub phase_last : (p : ℕ) → 3 ≤ p → PhaseTurns p 3
-unfolding power turn phase_of
-phase_last zero h = absurd (omega arith)
-phase_last (suc zero) h = absurd (omega arith)
-phase_last (suc (suc zero)) h = absurd (omega arith)
-phase_last (suc (suc (suc p))) h = record { is = refl }
-
 pub turn_key : (t m : ℕ) {r : ℕ} → t % 4 ≡ m → r ≡ phase_byte (power m) → r ≡ phase_byte (power t)
 unfolding power turn
 turn_key t m e h = h ∙ ap (λ (x : ℕ). phase_byte (power x)) (sym e) ∙ ap phase_byte (power_mod t 4 refl)

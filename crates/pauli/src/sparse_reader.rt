@@ -23,11 +23,11 @@ pub(crate) struct Entry {
 fn read_index(bs: &[u8], offset: usize) -> Result<usize, Refusal>
     ensures { result ≡ answer_to (index_questions offset bs.now) (index_value bs.now) }
 {
-    let Some(v) = read_numeral(bs) else {
+    let Some(qubit) = read_numeral(bs) else {
         return Err(Refusal::NotNumeral { offset });
     };
-    if v < QUBITS as u64 {
-        return Ok(v as usize);
+    if qubit < QUBITS {
+        return Ok(qubit);
     }
     Err(Refusal::TextQubit { offset })
 }

@@ -114,7 +114,7 @@ pub(crate) fn any_digit(t: &[u8]) -> bool
 }
 
 // An index: an optional + and then digits, below 2^64, as `parse` reads it.
-pub(crate) fn read_numeral(bs: &[u8]) -> Option<u64>
+pub(crate) fn read_numeral(bs: &[u8]) -> Option<usize>
     ensures { result ≡ index_numeral bs.now }
 {
     str::from_utf8(bs).ok()?.parse().ok()

@@ -6,8 +6,8 @@ use Rattle.pauli.proofs.sparse_reader.read_index.Goals as goal
 pub returns-in_default : goal.returns-in_default
 returns-in_default c = search index_answers
 
-pub returns-then-v : goal.returns-then-v
-returns-then-v c = search index_answers
+pub returns-then-qubit-lt-QUBITS : goal.returns-then-qubit-lt-QUBITS
+returns-then-qubit-lt-QUBITS c = search index_answers
 
 pub returns : goal.returns
 returns c = index_over _ _ c.in-Some.ensures (omega arith)
