@@ -1,6 +1,8 @@
 -- Images set: the questions, and the record with one row replaced.
-use Rattle.std.proofs.Common.{◌≡◌, ℕ, suc, ◌+◌, ◌-◌, ◌*◌, ◌<◌, ◌≤◌, Bool, true, false, cond, ◌&&◌, eqb, leb, List, ◌++◌, length, get_or, take, drop, sym, refl, ap, ◌∙◌, subst, ap₂, append-nil, arith, drop_of_length-le, length-take, get_or-take, w64, Fits, rules, eq-eqb, ne_eqb, le-leb, leb-true, Ok, Err}
+use Rattle.std.proofs.Common.{◌≡◌, ℕ, suc, ◌+◌, ◌-◌, ◌*◌, ◌<◌, ◌≤◌, Bool, true, false, cond, ◌&&◌, eqb, leb, List, ◌++◌, length, get_or, take, drop, sym, refl, ap, ◌∙◌, subst, ap₂, append-nil, arith, drop_of_length-le, length-take, get_or-take, w64, Fits, rules, eq-eqb, ne_eqb, le-leb, leb-true, Ok, Err, not, Option, Some, None}
 use native.Mathlib.Decide.{dec_lt, ℕ_discrete}
+use Rattle.std.specs.List.{range_with_len, find}
+use Rattle.clifford.proofs.Ranges.{found_first, found_none}
 use borrow.Author.Tests.{lt-leb}
 use borrow.Rule.Slice.PartMut.{put_mid}
 use Rattle.pauli_group.specs.Letter.{I, not_i}
@@ -16,7 +18,7 @@ use Rattle.pauli.specs.Layout.{phase_of, letter_of, string_of}
 use Rattle.pauli.specs.Questions.{◌and_then◌, string_questions}
 use Rattle.pauli.proofs.Answers.{written-exit, written-done}
 use Rattle.pauli.proofs.Asking.{asked_yes, asked_no, ask_done, exit_not, first_not, first_done, done_first, done_second, string-formed}
-use Rattle.pauli.proofs.Places.{NoneBefore, none_more, none_found, none_left_lem, first-before, from, length_from}
+use Rattle.pauli.proofs.Places.{first-is, first-before, from, length_from}
 use Rattle.pauli.proofs.Records.{decode_within, decode_letter, decode_phase, letter_of_lem, has_none, has_one}
 use Rattle.clifford.specs.Layout.{row_length, encode_row, row_offset, record_length, row_of, row_part, width_of, tableau_of, tableau_record, generator_row, FormedTableau}
 use Rattle.clifford.specs.Images.{with_x_image, with_z_image}
@@ -33,36 +35,39 @@ use Rattle.clifford.proofs.Records.{length-record, same-record}
 abbrev pub outside : ℕ → List ℕ → ℕ → Bool
 outside w s q = leb w q && has_letter (string_of s) q
 
-pub outside_yes : (w : ℕ) (s : List ℕ) (q : ℕ) → w ≤ q → q < 128 → (get_or s (q + 1) 0 ≡ 0 → ⊥) → outside w s q ≡ true
-outside_yes w s q h l k = ap₂ ◌&&◌ (le-leb w q h) (has_one s q l k)
+-- by its byte
+abbrev pub lettered : List ℕ → ℕ → Bool
+lettered s q = not (eqb (get_or s (q + 1) 0) 0)
 
-pub outside_no : (w : ℕ) (s : List ℕ) (q : ℕ) → w ≤ q → q < 128 → get_or s (q + 1) 0 ≡ 0 → outside w s q ≡ false
-outside_no w s q h l k = ap₂ ◌&&◌ (le-leb w q h) (has_none s q l k)
+lettered-is : (s : List ℕ) (q : ℕ) → q < 128 → has_letter (string_of s) q ≡ lettered s q
+lettered-is s q l = elim (ℕ_discrete (get_or s (q + 1) 0) 0) [
+  | yes z ↦ has_none s q l z ∙ sym (ap (λ (x : ℕ). not (eqb x 0)) z)
+  | no z ↦ has_one s q l z ∙ sym (ap not (ne_eqb (get_or s (q + 1) 0) 0 z))
+]
 
--- a scan from the width on
-pub record OutsideTo (w : ℕ) (s : List ℕ) (q : ℕ) : Type 0 where
-  pub from-width : w ≤ q
-  pub none : NoneBefore 128 (outside w s) q
+outside_no : (s : List ℕ) (w q : ℕ) → q < 128 → (w ≤ q → lettered s q ≡ false) → outside w s q ≡ false
+outside_no s w q l h = elim (dec_lt q w) [
+  | yes k ↦ ap (λ b. b && has_letter (string_of s) q) (lt-leb w q k)
+  | no k ↦ ap₂ ◌&&◌ (le-leb w q (omega arith)) (lettered-is s q l ∙ h (omega arith))
+]
 
-pub outside_start : {s : List ℕ} {w : ℕ} → Beside s w → OutsideTo w s w
-outside_start {s} {w} o = record {
-  from-width = omega arith;
-  none = record { within = o.narrow; none = λ k l. ap (λ b. b && has_letter (string_of s) k) (lt-leb w k l) };
-}
-
-pub outside-more : {w : ℕ} {s : List ℕ} {q : ℕ} → OutsideTo w s q → q < 128 → get_or s (q + 1) 0 ≡ 0 → OutsideTo w s (q + 1)
-outside-more {w} {s} {q} m h k = record { from-width = omega (arith, m.from-width); none = none_more m.none h (outside_no w s q m.from-width h k) }
-
-pub outside_found : {w : ℕ} {s : List ℕ} {q : ℕ} → OutsideTo w s q → q < 128 → (get_or s (q + 1) 0 ≡ 0 → ⊥) → q ≡ lowest_outside w (string_of s)
+pub outside_first : {s : List ℕ} {w q : ℕ} → Beside s w → Some q ≡ find (lettered s) (range_with_len w (128 - w)) → (q < 128) × (q ≡ lowest_outside w (string_of s))
 unfolding lowest_outside qubits
-outside_found {w} {s} {q} m h k = none_found m.none h (outside_yes w s q m.from-width h k)
+outside_first {s} {w} {q} o e =
+    let f = found_first (lettered s) w (128 - w) e in
+    let below : q < 128 = omega (arith, f.1, o.narrow) in (
+      below,
+      first-is 128 (outside w s) q (omega arith) (λ k l. outside_no s w k (omega arith) (λ h. f.3 k h l))
+          (λ l. ap₂ ◌&&◌ (le-leb w q f.0) (lettered-is s q below ∙ f.2)),
+    )
 
-pub outside-left : {w : ℕ} {s : List ℕ} {q : ℕ} → OutsideTo w s q → 128 ≤ q → q ≡ lowest_outside w (string_of s)
+pub outside_none : {s : List ℕ} {w : ℕ} → Beside s w → None ≡ find (lettered s) (range_with_len w (128 - w)) → 128 ≡ lowest_outside w (string_of s)
 unfolding lowest_outside qubits
-outside-left m h = none_left_lem m.none h
-
-pub beside_place : {s : List ℕ} {w : ℕ} (q : ℕ) → Beside s w → q < 128 → q + 1 < length s
-beside_place q o h = omega (arith, o.string.long)
+outside_none {s} {w} o e =
+    first-is 128 (outside w s) 128 (omega arith) (λ k l. outside_no s w k l (λ h. found_none (lettered s) w (128 - w) e k h (omega (arith, o.narrow)))) (λ l. absurd (never l))
+  where
+    never : 128 < 128 → ⊥
+    never l = omega arith
 
 pub inside_no : (w : ℕ) (s : PauliString) {q : ℕ} → q ≡ lowest_outside w s → q < 128 → Err (ImageWidth q w) ≡ inside_question w s
 unfolding inside_question qubits
@@ -271,7 +276,5 @@ module _ {t : List ℕ} {slot : ℕ} {s : List ℕ} (o : Sets t slot s) where
       h ∙ ap (λ (j : ℕ). tableau_record (with_row (tableau_of t) j (string_of s))) (er ∙ ap (λ (j : ℕ). j + slot) en) ∙ whole (set_length (set-row of_z refl refl))
       ∙ ap (λ (l : List ℕ). written (Ok tt) l t)
       (same-record (with_row (tableau_of t) (width_of t + slot) (string_of s)) (with_z_image (tableau_of t) slot (string_of s)) z-same)
-
-pub ruleset insides = (outside_start, outside-more, outside_found, outside-left, beside_place, inside_no, inside_yes, rules)
 
 pub ruleset image_setting = (written-exit, written-done, sets, set-slot, set-row, set-written, rules)

@@ -1,5 +1,5 @@
 -- The support of a tableau, read off the rows of its record.
-use Rattle.std.proofs.Common.{◌≡◌, ℕ, zero, suc, ◌+◌, ◌-◌, ◌<◌, ◌≤◌, Bool, true, false, cond, not, ◌&&◌, ◌||◌, eqb, List, [], ◌∷◌, ◌++◌, length, get_or, drop, set, sym, refl, ap, ◌∙◌, subst, ap₂, append-nil, not-suc-le-zero, add-one, arith, length-append, length-drop, length-set, drop-drop, rules, eq-eqb, ne_eqb, Ok, Err}
+use Rattle.std.proofs.Common.{◌≡◌, ℕ, zero, suc, ◌+◌, ◌-◌, ◌<◌, ◌≤◌, Bool, true, false, cond, not, ◌&&◌, ◌||◌, eqb, List, [], ◌∷◌, ◌++◌, length, get_or, take, drop, set, sym, refl, ap, ◌∙◌, subst, ap₂, append-nil, not-suc-le-zero, add-one, arith, length-append, length-drop, length-set, length-take, take_all, drop-drop, rules, eq-eqb, ne_eqb, Ok, Err, Option, Some, None}
 use native.Mathlib.Decide.{dec_lt}
 use Rattle.pauli_group.specs.Letter.{Letter, I, X, Z, Y, not_i}
 use Rattle.pauli_group.specs.PauliString.{PauliString, has_letter, single}
@@ -18,11 +18,21 @@ use Rattle.clifford.specs.Layout.{row_of, width_of, tableau_of, FormedTableau}
 use Rattle.clifford.specs.Inside.Rows.{letter_bytes}
 use Rattle.clifford.specs.Support.{is_plus_one, alike_at, is_single, changed_qubit, touches_qubit, supports_qubit, some_to, places_with, in_support, support_qubits}
 use Rattle.clifford.proofs.Rows.{row_inside, width_of_lem}
-use Rattle.std.specs.List.{range_with_len, list_all, list_any, filter}
+use Rattle.std.specs.List.{range_with_len, list_all, list_any, filter, enumerate_from}
+use Rattle.std.specs.Iterator.{Yields}
+use Rattle.std.specs.Iterator.Runs.{EachRunFrom, Run}
+use Rattle.std.specs.Iterator.Adapters.{filter_source, filter_callee, filter_steps}
+use Rattle.std.specs.Fn.{CalledAt}
+use denote.Ref.{Bor}
+use denote.Param.Members.{Mut}
+use Rattle.std.proofs.lemmas.Iterator.{YieldsList}
+use Rattle.std.proofs.lemmas.Iterator.Consumers.{YieldsList-from_filter, YieldsList-turn, YieldsList-end}
+use Rattle.std.proofs.lemmas.List.{take_more, get_or_push}
+use Rattle.std.proofs.lemmas.List.FromFn.{length-enumerate_from, get_or-enumerate_from}
 use Rattle.std.proofs.lemmas.List.Elements.{filter-append}
 use Rattle.clifford.proofs.Ranges.{range-more, all-range, any-range}
 use Rattle.pauli.proofs.Places.{length-listed, get_d_listed}
-use lib.ListN.{get_or-eq_default}
+use lib.ListN.{get_or-eq_default, get_or-append}
 
 -- ---- a letter by its byte
 byte-not_i : (s : PauliString) (k x : ℕ) → x ≡ letter_byte (s.letters k) → has_letter s k ≡ not (eqb x 0)
@@ -99,30 +109,19 @@ unfolding in_support
 support-is t k {n} en = any-range n _ ∙ ap (λ (j : ℕ). some_to j (supports_qubit (tableau_of t) k)) (en ∙ sym (width_of_lem t))
 
 -- ---- the places counted and written
-places_yes : (n : ℕ) (f : ℕ → Bool) → f n ≡ true → places_with (n + 1) f ≡ places_with n f ++ (n ∷ [])
-places_yes n f e = ap (λ (j : ℕ). places_with j f) (add-one n) ∙ more
+places-below : (n : ℕ) (f : ℕ → Bool) (i d : ℕ) → i < length (places_with n f) → get_or (places_with n f) i d < n
+unfolding places_with
+places-below zero f i d h = absurd (not-suc-le-zero h)
+places-below (suc n) f i d h = by (places_with n f) (places-below n f i d) (f n) h
   where
-    more : places_with (suc n) f ≡ places_with n f ++ (n ∷ [])
-    more = unfold places_with in ap (λ b. places_with n f ++ cond b (n ∷ []) []) e
-
-places_no : (n : ℕ) (f : ℕ → Bool) → f n ≡ false → places_with (n + 1) f ≡ places_with n f
-places_no n f e = ap (λ (j : ℕ). places_with j f) (add-one n) ∙ more ∙ append-nil (places_with n f)
-  where
-    more : places_with (suc n) f ≡ places_with n f ++ []
-    more = unfold places_with in ap (λ b. places_with n f ++ cond b (n ∷ []) []) e
-
-length_yes : (n : ℕ) (f : ℕ → Bool) → f n ≡ true → length (places_with (n + 1) f) ≡ length (places_with n f) + 1
-length_yes n f e = ap length (places_yes n f e) ∙ length-append (places_with n f) (n ∷ [])
-
--- no more places before a place than up to a later one
-places_le : (n k : ℕ) (f : ℕ → Bool) → length (places_with n f) ≤ length (places_with (n + k) f)
-places_le n zero f = let e : n + 0 ≡ n = omega arith in omega (arith, ap (λ (j : ℕ). length (places_with j f)) e)
-places_le n (suc k) f =
-    let e : n + suc k ≡ suc (n + k) = omega arith in
-    omega (arith, places_le n k f, grows (n + k) f, ap (λ (j : ℕ). length (places_with j f)) e)
-  where
-    grows : (n : ℕ) (f : ℕ → Bool) → length (places_with n f) ≤ length (places_with (suc n) f)
-    grows n f = unfold places_with in omega (arith, length-append (places_with n f) (cond (f n) (n ∷ []) []))
+    by : (p : List ℕ) → (i < length p → get_or p i d < n) → (b : Bool) → i < length (p ++ cond b (n ∷ []) []) → get_or (p ++ cond b (n ∷ []) []) i d < suc n
+    by p k false l =
+        let e : p ++ [] ≡ p = append-nil p in
+        omega (arith, k (omega (arith, ap length e)), ap (λ (x : List ℕ). get_or x i d) e)
+    by p k true l = elim (dec_lt i (length p)) [
+      | yes h ↦ omega (arith, k h, get_or-append p (n ∷ []) d i h)
+      | no h ↦ omega (arith, get_or_push p n d i (omega (arith, length-append p (n ∷ []))))
+    ]
 
 pub filter-range : (n : ℕ) (f : ℕ → Bool) → filter f (range_with_len 0 n) ≡ places_with n f
 unfolding places_with
@@ -143,70 +142,67 @@ set_front [] [] v h = absurd (not-suc-le-zero h)
 set_front [] (x ∷ d) v h = refl
 set_front (y ∷ p) d v h = ap (λ (l : List ℕ). y ∷ l) (set_front p d v h)
 
--- what the loop has written before qubit k: c qubits over the front of d, which has room for all
-pub record WroteTo (t d : List ℕ) (k c : ℕ) (e : List ℕ) : Type 0 where
-  pub is : c ≡ length (places_with k (in_support (tableau_of t)))
-  pub bytes : e ≡ places_with k (in_support (tableau_of t)) ++ drop c d
+pub places-all : (t : List ℕ) {n : ℕ} → n ≡ width_of t → filter (in_support (tableau_of t)) (range_with_len 0 n) ≡ support_qubits (tableau_of t)
+places-all t {n} e = filter-range n (in_support (tableau_of t)) ∙ support_is t e refl
 
-pub wrote_start : (t d : List ℕ) → WroteTo t d 0 0 d
-unfolding places_with
-wrote_start t d = record { is = refl; bytes = refl }
+pub support-small : (t : List ℕ) (i d : ℕ) → width_of t ≤ 128 → i < length (support_qubits (tableau_of t)) → get_or (support_qubits (tableau_of t)) i d ≤ 127
+unfolding support_qubits
+support-small t i d h l = omega (arith, places-below (tableau_of t).width (in_support (tableau_of t)) i d l, width_of_lem t)
 
-module _ {t d : List ℕ} {n k c : ℕ} {e : List ℕ} (room : length (support_qubits (tableau_of t)) ≤ length d) (en : n ≡ width_of t) (m : WroteTo t d k c e) (h : k < n)
-    {b : Bool} (eb : b ≡ in_support (tableau_of t) k) where
-  abbrev f : ℕ → Bool
-  f = in_support (tableau_of t)
+-- e is d with the first c numbers of s over its front
+abbrev pub WroteTo : (s d : List ℕ) (c : ℕ) (e : List ℕ) → Type 0
+WroteTo s d c e = e ≡ take c s ++ drop c d
 
-  -- room for one more where this one is in the support
-  wrote_room : b ≡ true → c < length d
-  wrote_room z =
-      let rest : k + 1 + (n - (k + 1)) ≡ n = omega arith in
-      omega (
-        arith,
-        m.is,
-        room,
-        length_yes k f (sym eb ∙ z),
-        places_le (k + 1) (n - (k + 1)) f,
-        ap (λ (j : ℕ). length (places_with j f)) rest,
-        ap length (support_is t en refl),
-      )
+-- what comes next of the items of an iterator, and that all have come
+pub next_of : {S A B : Type 0} {steps : S → Option A → S → Type 0} {v : A → B} {s : S} {all : List B} (xs : List A) (t : S) → Yields steps s xs t → {r : Option A} (u : S) (x : A)
+    → r ≡ Some x → steps t r u → YieldsList steps v s all → (length xs < length all) × (v x ≡ get_or all (length xs) (v x))
+next_of xs t y u x is p e = YieldsList-turn e xs t y _ _ x is p
 
-  pub wrote_place : b ≡ true → c < length e
-  wrote_place z = omega (arith, wrote_room z, ap length m.bytes, length-append (places_with k f) (drop c d), length-drop c d, m.is)
+pub end_of : {S A B : Type 0} {steps : S → Option A → S → Type 0} {v : A → B} {s : S} {all : List B} (xs : List A) (t : S) → Yields steps s xs t → {r : Option A} (u : S)
+    → r ≡ None → steps t r u → YieldsList steps v s all → length xs ≡ length all
+end_of xs t y u is p e = (YieldsList-end e xs t y _ _ is p).1
 
-  pub wrote_yes : b ≡ true → WroteTo t d (k + 1) (c + 1) (set e c k)
-  wrote_yes z = record {
-    is = omega (arith, m.is, length_yes k f (sym eb ∙ z));
-    bytes = ap₂ (λ (l : List ℕ) (j : ℕ). set l j k) m.bytes m.is ∙ set_front (places_with k f) (drop c d) k (omega (arith, length-drop c d, wrote_room z))
-        ∙ ap₂ ◌++◌ (sym (places_yes k f (sym eb ∙ z))) (drop-drop 1 c d);
-  }
+pub yields_at : {S A B : Type 0} {steps : S → Option A → S → Type 0} {v : A → B} {s t : S} {all : List B} → t ≡ s → YieldsList steps v s all → YieldsList steps v t all
+yields_at {steps = steps} {v = v} {all = all} e y = subst (λ u. YieldsList steps v u all) (sym e) y
 
-  pub wrote_no : b ≡ false → WroteTo t d (k + 1) c e
-  wrote_no z = record {
-    is = m.is ∙ ap length (sym (places_no k f (sym eb ∙ z)));
-    bytes = m.bytes ∙ ap (λ (l : List ℕ). l ++ drop c d) (sym (places_no k f (sym eb ∙ z)));
-  }
+-- what `filter` promises of its runs says which closure it goes by
+pub by_runs : {S A B F : Type 0} {steps : S → Option A → S → Type 0} {v : A → B} {ys : List B} {s : _} {g : Mut F (Bor A × Unit {0}) Bool} {P : Run (filter_steps steps g) → Type 0}
+    (test : B → Bool) {f : F} → EachRunFrom (filter_steps steps g) s P → YieldsList steps v (filter_source s) ys → filter_callee s ≡ f
+    → ((x : A) (b : Bool) (q : F) → CalledAt g f x b q → (q ≡ f) × (b ≡ test (v x))) → YieldsList (filter_steps steps g) v s (filter test ys)
+by_runs {g = g} test r e a k = YieldsList-from_filter g test e a k
 
--- no more places than numbers
-places-few : (n : ℕ) (f : ℕ → Bool) → length (places_with n f) ≤ n
-unfolding places_with
-places-few zero f = omega arith
-places-few (suc n) f = omega (arith, places-few n f, length-append (places_with n f) (cond (f n) (n ∷ []) []), one (f n))
-  where
-    one : (b : Bool) → length (cond b (n ∷ []) []) ≤ 1
-    one true = omega arith
-    one false = omega arith
+-- after c of them k comes, under the number p
+pub record Comes (s : List ℕ) (c p k : ℕ) : Type 0 where
+  pub there : c < length s
+  pub number : p ≡ c
+  pub is : k ≡ get_or s c k
 
-pub wrote-few : {t d : List ℕ} {k c : ℕ} {e : List ℕ} → WroteTo t d k c e → c ≤ k
-wrote-few {t} {k = k} m = omega (arith, m.is, places-few k (in_support (tableau_of t)))
+pub comes : {s u : List ℕ} {c p k : ℕ} → u ≡ s → (c < length (enumerate_from 0 u)) × ((p, k) ≡ get_or (enumerate_from 0 u) c (p, k)) → Comes s c p k
+comes {s} {u} {c} {p} {k} e h =
+    let there : c < length u = omega (arith, length-enumerate_from 0 u, h.0) in
+    let pair = h.1 ∙ get_or-enumerate_from 0 u c (p, k) there in
+    record {
+      there = omega (arith, there, ap length e);
+      number = omega (arith, ap (λ (x : ℕ × ℕ). x.0) pair);
+      is = ap (λ (x : ℕ × ℕ). x.1) pair ∙ ap (λ (l : List ℕ). get_or l c k) e;
+    }
 
-pub wrote_all : {t d : List ℕ} {n k c : ℕ} {e : List ℕ} → n ≡ width_of t → k ≤ n → n ≤ k → WroteTo t d k c e → e ≡ written (Ok tt) (support_qubits (tableau_of t)) d
+module _ (s d : List ℕ) {c p k : ℕ} {e : List ℕ} (room : length s ≤ length d) (m : WroteTo s d c e) (h : Comes s c p k) where
+  front : length (take c s) ≡ c
+  front = omega (arith, length-take c s, h.there)
+
+  pub wrote_place : p < length e
+  wrote_place = omega (arith, h.number, h.there, ap length m, length-append (take c s) (drop c d), length-drop c d, front)
+
+  pub wrote_more : WroteTo s d (c + 1) (set e p k)
+  wrote_more =
+      ap₂ (λ (l : List ℕ) (j : ℕ). set l j k) m (h.number ∙ sym front)
+      ∙ set_front (take c s) (drop c d) k (omega (arith, length-drop c d, h.there))
+      ∙ ap₂ ◌++◌ (ap (λ (j : ℕ). take c s ++ j ∷ []) h.is ∙ sym (take_more s c k h.there)) (drop-drop 1 c d)
+
+pub wrote_all : (s d : List ℕ) {c : ℕ} {e : List ℕ} → c ≡ length s → WroteTo s d c e → e ≡ written (Ok tt) s d
 unfolding written
-wrote_all {t} {d} {n} {k} en h l m =
-    let all = support_is t {k = k} en (omega arith) in
-    m.bytes ∙ ap₂ (λ (l : List ℕ) (j : ℕ). l ++ drop j d) all (m.is ∙ ap length all)
-
-pub ruleset support_writing = (wrote_start, wrote_place, wrote_yes, wrote_no, wrote-few, wrote_all, rules)
+wrote_all s d {c} h m = m ∙ ap₂ (λ (l : List ℕ) (j : ℕ). l ++ drop j d) (take_all c s (omega arith)) h
 
 -- ---- the answer
 pub support_room : (t : List ℕ) (room : ℕ) {q : Outcome} {c : ℕ} {u : List ℕ} → Ok tt ≡ tableau_questions t → u ≡ t → c ≡ length (support_qubits (tableau_of u))

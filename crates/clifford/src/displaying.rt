@@ -17,6 +17,7 @@ fn write_header(dst: &mut [u8], width: usize) -> usize
     ensures { Stored 0 (header_text width) dst.old dst.new result }
 {
     let number = put_text(dst, 0, b"CliffordRep(");
+    // No From leads from usize to u64, and by TryFrom there would be a failure to answer, which never comes.
     let rest = put_decimal(dst, number, width as u64);
     put_text(dst, rest, b" qubits):")
 }

@@ -50,6 +50,7 @@ impl InverseRow<'_> {
         ensures { body.new ≡ encode_string self.now.row.width (body_of (tableau_of self.now.t.now) self.now.row.r) }
     {
         body[0] = 0;
+        // The letter is asked for by its qubit: an iterator over body[1..] would have to be numbered as well.
         for c in 0..self.row.width {
             body[c + 1] = self.body_letter(c);
         }

@@ -23,7 +23,8 @@ pub(crate) fn span(s: &[u8]) -> usize
     1
 }
 
-// The sign of X or Z next to the letter a: -1 where the two anticommute.
+// The sign of X or Z next to the letter a: -1 where the two anticommute. The letter is a byte here: which of the two it is, the place of
+// the row tells, so a type for each would have to be chosen by that byte.
 #[tactic(auto, using(crate::proofs::PauliTableau::sign_bytes))]
 fn sign_byte(a: u8, letter: u8) -> u8
     requires { IsGenerator letter }

@@ -16,12 +16,10 @@ pub(crate) fn check_inside(s: &[u8], width: usize) -> Result<(), Refusal>
     requires { Beside s.now width }
     ensures { result ≡ inside_question width (string_of s.now) }
 {
-    for qubit in width..QUBITS {
-        if s[qubit + 1] != 0 {
-            return Err(Refusal::ImageWidth { qubit, width });
-        }
+    match (width..QUBITS).find(|qubit| s[*qubit + 1] != 0) {
+        Some(qubit) => Err(Refusal::ImageWidth { qubit, width }),
+        None => Ok(()),
     }
-    Ok(())
 }
 
 // Row r replaced by the string s.

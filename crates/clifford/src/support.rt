@@ -85,13 +85,10 @@ impl TableauRecord<'_> {
         requires { length (support_qubits (tableau_of self.now)) ≤ length dst.old }
         ensures { dst.new ≡ written (Ok tt) (support_qubits (tableau_of self.now)) dst.old }
     {
-        let n = self.width();
-        let mut place = 0;
-        for k in 0..n {
-            if self.in_support(k) {
-                dst[place] = k as u8;
-                place += 1;
-            }
+        let qubits = (0..self.width()).filter(|k| self.in_support(*k));
+        'writing: for (place, k) in qubits.enumerate() {
+            // A qubit is below 128: by TryFrom there would be a failure to answer, which never comes.
+            dst[place] = k as u8;
         }
     }
 }

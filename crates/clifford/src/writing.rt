@@ -25,6 +25,7 @@ pub(crate) trait RowMaker {
 
     ghost made: { Self → Tableau };
 
+    // A trait has no fields, so each maker hands out its width by a method of its own.
     fn width(&self) -> usize
         ensures { result ≡ wide self.now };
 
@@ -163,12 +164,13 @@ fn apply_to_row<M: RowMaker>(made: &M, row: RowPlace, dst: &mut [u8])
     write_row(work, dst);
 }
 
-// All rows, each at its own offset.
+// All rows, each at its own offset. No chunks of dst, which may go on after the record: they would have to be counted off by the rows.
 fn write_rows<M: RowMaker>(made: &M, dst: &mut [u8])
     requires { WritesAll (M.wide made.now) (M.made made.now) dst.old }
     ensures { dst.new ≡ written (Ok tt) (tableau_record (M.made made.now)) dst.old }
 {
     let width = made.width();
+    // A width is at most 128: by TryFrom there would be a failure to answer, which never comes.
     dst[0] = width as u8;
     for r in 0..2 * width {
         let at = row_offset(width, r);
