@@ -48,57 +48,67 @@ fn has_detail(number: u64) -> bool
     matches!(number, 3..=6 | 8..=15 | 17..=19 | 24)
 }
 
-// A space and the detail, where it has a meaning.
-fn put_detail(dst: &mut [u8], at: usize, number: u64, detail: u64) -> usize
-    ensures { Stored at (detail_text number detail) dst.old dst.new result }
-{
-    if !has_detail(number) {
-        return at;
-    }
-    let next = put_text(dst, at, b" ");
-    put_decimal(dst, next, detail)
-}
-
-// The wording of 14 and 15.
-fn put_width_error(dst: &mut [u8], at: usize, detail: u64, width: u64) -> usize
-    ensures { Stored at (width_error_text detail width) dst.old dst.new result }
-{
-    let qubit = put_text(dst, at, b"qubit ");
-    let outside = put_decimal(dst, qubit, detail);
-    let num_qubits = put_text(dst, outside, b" is outside num_qubits ");
-    let advice = put_decimal(dst, num_qubits, width);
-    put_text(
-        dst,
-        advice,
-        b"; pass a width greater than the maximum qubit index (max qubit + 1)",
-    )
-}
-
-// Whether a number has that wording.
+// Whether a number has the wording of `PauliWidthError`.
 fn is_width_error(number: u64) -> bool
     ensures { result ≡ is_width_error number }
 {
     matches!(number, 14 | 15)
 }
 
-// What follows the number.
-fn put_wording(dst: &mut [u8], at: usize, number: u64, detail: u64, width: u64) -> usize
-    ensures { Stored at (wording number detail width) dst.old dst.new result }
-{
-    if is_width_error(number) {
-        return put_width_error(dst, at, detail, width);
-    }
-    let end = put_text(dst, at, sentence(number));
-    put_detail(dst, end, number, detail)
+// A refusal's number and detail, and the width that 14 and 15 look at.
+#[derive(Clone, Copy)]
+struct Line {
+    number: u64,
+    detail: u64,
+    width: u64,
 }
 
-// The whole line; the answer is its length.
-fn write_line(number: u64, detail: u64, width: u64, dst: &mut [u8]) -> usize
-    ensures { TextWritten (refusal_line number detail width) dst.old dst.new result }
-{
-    let colon = put_decimal(dst, 0, number);
-    let words = put_text(dst, colon, b": ");
-    put_wording(dst, words, number, detail, width)
+impl Line {
+    // A space and the detail, where it has a meaning.
+    fn put_detail(self, dst: &mut [u8], at: usize) -> usize
+        ensures { Stored at (detail_text self.number self.detail) dst.old dst.new result }
+    {
+        if !has_detail(self.number) {
+            return at;
+        }
+        let next = put_text(dst, at, b" ");
+        put_decimal(dst, next, self.detail)
+    }
+
+    // The wording of 14 and 15.
+    fn put_width_error(self, dst: &mut [u8], at: usize) -> usize
+        ensures { Stored at (width_error_text self.detail self.width) dst.old dst.new result }
+    {
+        let qubit = put_text(dst, at, b"qubit ");
+        let outside = put_decimal(dst, qubit, self.detail);
+        let num_qubits = put_text(dst, outside, b" is outside num_qubits ");
+        let advice = put_decimal(dst, num_qubits, self.width);
+        put_text(
+            dst,
+            advice,
+            b"; pass a width greater than the maximum qubit index (max qubit + 1)",
+        )
+    }
+
+    // What follows the number.
+    fn put_wording(self, dst: &mut [u8], at: usize) -> usize
+        ensures { Stored at (wording self.number self.detail self.width) dst.old dst.new result }
+    {
+        if is_width_error(self.number) {
+            return self.put_width_error(dst, at);
+        }
+        let end = put_text(dst, at, sentence(self.number));
+        self.put_detail(dst, end)
+    }
+
+    // The whole line; the answer is its length.
+    fn write(self, dst: &mut [u8]) -> usize
+        ensures { TextWritten (refusal_line self.number self.detail self.width) dst.old dst.new result }
+    {
+        let colon = put_decimal(dst, 0, self.number);
+        let words = put_text(dst, colon, b": ");
+        self.put_wording(dst, words)
+    }
 }
 
 // Writes the line of a refusal's number and detail, without a newline; the answer is its length. Any three numbers have a line: a
@@ -106,6 +116,11 @@ fn write_line(number: u64, detail: u64, width: u64, dst: &mut [u8]) -> usize
 pub fn refusal_line(number: u64, detail: u64, width: u64, dst: &mut [u8]) -> Result<usize, Refusal>
     ensures { LineWritten number detail width dst.old dst.new result }
 {
-    check_room(write_line(number, detail, width, &mut []), dst.len())?;
-    Ok(write_line(number, detail, width, dst))
+    let line = Line {
+        number,
+        detail,
+        width,
+    };
+    check_room(line.write(&mut []), dst.len())?;
+    Ok(line.write(dst))
 }

@@ -1,6 +1,6 @@
--- `put_wording` meets its contract.
+-- `Line::put_wording` meets its contract.
 use Rattle.refusal_lines.proofs.LineWrites.{wordings}
-use Rattle.refusal_lines.proofs.put_wording.Goals as goal
+use Rattle.refusal_lines.proofs.Line.put_wording.Goals as goal
 
 pub returns-then-is_width_error : goal.returns-then-is_width_error
 returns-then-is_width_error c = search wordings

@@ -1,6 +1,0 @@
--- `put_width_error` meets its contract.
-use Rattle.refusal_lines.proofs.LineWrites.{errors}
-use Rattle.refusal_lines.proofs.put_width_error.Goals as goal
-
-pub returns : goal.returns
-returns c = search errors
