@@ -1,2 +1,3 @@
 -- Lemmas of `vectors`.
 pub mod Counting
+pub mod Numerals

@@ -1,5 +1,5 @@
 -- What a replay counts. Assumes nothing.
-use denote.Ref.{MutBor}
+use denote.Ref.{Bor, MutBor}
 use Rattle.std.specs.Prelude.{◌≡◌, ◌↔◌, ◌⊎◌, ℕ, List, Option}
 use Rattle.std.specs.List.{FoldsTo}
 use Rattle.pauli.specs.declared.refusal.Reply.{Reply}
@@ -20,20 +20,21 @@ pub record Comes (Matched : Type 0) (line : List ℕ) (o : Outcome) : Type 0 whe
   pub blank : (o ≡ Blank) ↔ IsBlank line
   pub matched : o ≡ Match → Matched
 
--- one line more, from what calls and the counts so far to those after it
-abbrev pub Counted : {F : Type 0} → (F → F → Type 0) → F × Tally → List ℕ → F × Tally → Type 0
-Counted Matched p line q = (o : Outcome) × Comes (Matched p.0 q.0) line o × Tallied o p.1 q.1
-
 abbrev pub none : Tally
 none = record { lines = 0; cases = 0; mismatches = 0 }
 
--- t counts some lines, by calls that take f to g
-abbrev pub Replayed : {F : Type 0} → (F → F → Type 0) → F → F → Tally → Type 0
-Replayed Matched f g t = (lines : List (List ℕ)) × FoldsTo (Counted Matched) (f, none) lines (g, t)
+-- one line more, from what calls and the counts so far to those after it
+abbrev pub Counted : {F : Type 0} → (F → F → Type 0) → F × Tally → Bor (List ℕ) → F × Tally → Type 0
+Counted Matched p line q = (o : Outcome) × Comes (Matched p.0 q.0) line.now o × Tallied o p.1 q.1
 
--- the same where the last line may be cut short, which is one mismatch more
+-- t counts these lines, by calls that take f to g
+abbrev pub Counts : {F : Type 0} → (F → F → Type 0) → List (Bor (List ℕ)) → F → F → Tally → Type 0
+Counts Matched lines f g t = FoldsTo (Counted Matched) (f, none) lines (g, t)
+
+-- one mismatch more, for a last line that may be cut short
 abbrev pub cut : Tally → Tally
 cut t = record { lines = t.lines; cases = t.cases; mismatches = next t.mismatches }
 
+-- t counts the lines of an input, of which no more is known
 abbrev pub InputReplayed : {F : Type 0} → (F → F → Type 0) → F → F → Tally → Type 0
-InputReplayed Matched f g t = (s : Tally) × Replayed Matched f g s × ((t ≡ s) ⊎ (t ≡ cut s))
+InputReplayed Matched f g t = (lines : List (Bor (List ℕ))) × (s : Tally) × Counts Matched lines f g s × ((t ≡ s) ⊎ (t ≡ cut s))

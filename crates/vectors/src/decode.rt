@@ -11,6 +11,7 @@ fn is_digits(s: &[u8]) -> bool
 }
 
 // What a decimal numeral says: some digits and nothing else, below 2^64.
+#[tactic(auto, using(crate::proofs::Numerals::digits_of_numeral, crate::proofs::Numerals::utf8_from_digits))]
 pub fn decimal(s: &[u8]) -> Option<u64>
     ensures { SomeIff result (IsNumeral 10 s.now × (digits_value 10 s.now < 2 ^ 64)) (digits_value 10 s.now) }
 {

@@ -70,6 +70,7 @@ pub enum Line<'a, 'd> {
 pub const FIELD_ROOM: usize = 65536;
 
 // Room for the bytes of a line: the two arguments, and the destination before and after the call.
+// What it holds is seen only in a case that is read.
 #[derive(Drop)]
 pub struct Room {
     a: [u8; FIELD_ROOM],

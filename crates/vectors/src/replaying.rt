@@ -1,7 +1,9 @@
 // A program that replays vectors, in fixed memory. Of what it reads and writes no contract can say
 // anything.
-ghost use Rattle.std.specs.Iterator.{IsFinite};
-ghost use Rattle.vectors.specs.Replays.{Comes, InputReplayed, Matches, Replayed};
+ghost use denote.Ref.{Bor};
+ghost use Rattle.std.specs.Prelude.{ℕ, List};
+ghost use Rattle.std.specs.Iterator.{Drains, IsFinite};
+ghost use Rattle.vectors.specs.Replays.{Comes, Counts, InputReplayed, Matches};
 
 use crate::reading::{Case, Line, Room};
 use crate::tally::{Failure, Outcome, Tally};
@@ -50,13 +52,14 @@ fn outcome<'a, F: FnMut(&mut Case<'_, '_>) -> Option<Reply>>(
 }
 
 // Replays lines, and prints which of them fail.
+#[tactic(auto, using(crate::proofs::Counting::with_line))]
 fn replay_lines<'t, I: Iterator<Item = &'t [u8]>, F: FnMut(&mut Case<'_, '_>) -> Option<Reply>>(
     lines: I,
     call: &mut F,
 ) -> Tally
     requires can_next { I.can_next lines × IsFinite (I.remaining lines) }
     requires callable { F.IsAlwaysCallable call.old }
-    ensures { Replayed (Matches F.step) call.old call.new result }
+    ensures { (items : List (Bor (List ℕ))) × Drains I.next_gives lines items × Counts (Matches F.step) items call.old call.new result }
 {
     let mut room = Room::new();
     let mut tally = Tally::default();
