@@ -136,10 +136,9 @@ fn letters_anticommute(a: u8, b: u8) -> u8
 pub fn count_anticommuting(a: &[u8], b: &[u8]) -> u8
     ensures { result ≡ places_of (shorter a.now b.now) a.now b.now % 256 }
 {
-    let n = a.len().min(b.len());
     let mut count: u8 = 0;
-    for i in 0..n {
-        count = count.wrapping_add(letters_anticommute(a[i], b[i]));
+    for (x, y) in a.iter().zip(b) {
+        count = count.wrapping_add(letters_anticommute(*x, *y));
     }
     count
 }

@@ -65,8 +65,8 @@ pub(crate) fn write_sparse(phase: u8, letters: &[u8], dst: &mut [u8]) -> usize
     let n = letters.len().min(QUBITS);
     let first = write_prefix(dst, phase);
     let mut at = first;
-    for q in 0..n {
-        at = write_place(dst, first, at, letters[q], q);
+    for (q, letter) in letters[..n].iter().enumerate() {
+        at = write_place(dst, first, at, *letter, q);
     }
     if at == first {
         return put(dst, at, b'I');
