@@ -217,7 +217,7 @@ pub fn first_bad(s: &[u8]) -> Option<usize>
     s.iter().position(|x| 3 < *x)
 }
 
-// src copied to the front of dst, as far as both reach.
+// src copied to the front of dst, as far as both reach: `copy_from_slice` takes equal lengths only.
 #[tactic(auto, using(crate::proofs::Asking::by_tests, crate::proofs::Asking::by_questions), unfolding(crate::specs::Rows::copied))]
 pub fn copy(src: &[u8], dst: &mut [u8])
     ensures { dst.new ≡ copied src.now dst.old }

@@ -39,6 +39,7 @@ fn write_entry(dst: &mut [u8], at: usize, letter: u8, qubit: usize) -> usize
     ensures { Stored at (entry_word (letter_of letter) qubit) dst.old dst.new result }
 {
     let next = put(dst, at, letter_text(letter));
+    // A usize has no From into u64; `as` is proved to keep the value.
     put_decimal(dst, next, qubit as u64)
 }
 
