@@ -1,5 +1,5 @@
 -- The text of a row: word by word, its length, and the loop that writes it.
-use Rattle.std.proofs.Common.{◌≡◌, ℕ, zero, suc, ◌+◌, ◌-◌, ◌<◌, ◌≤◌, min, Bool, true, false, cond, eqb, List, [], ◌∷◌, ◌++◌, length, get_or, sym, refl, ap, ◌∙◌, append_assoc, append-nil, add-one, arith, length-append, rules, eq-eqb, ne_eqb}
+use Rattle.std.proofs.Common.{◌≡◌, ℕ, zero, suc, ◌+◌, ◌-◌, ◌<◌, ◌≤◌, min, Bool, true, false, cond, eqb, List, [], ◌∷◌, ◌++◌, length, get_or, take, sym, refl, ap, ◌∙◌, append_assoc, append-nil, add-one, arith, length-append, length-take, get_or-take, rules, eq-eqb, ne_eqb}
 use native.Mathlib.Decide.{ℕ_discrete}
 use borrow.Author.Tests.{eqb-false}
 use Rattle.pauli_group.specs.Phase.{Phase, PlusOne, MinusOne, PlusI, MinusI}
@@ -175,20 +175,20 @@ wording-none p h s = record {
   text = stored-none (record { fits = omega (arith, s.place) });
 }
 
-pub wording-place : {a d e : List ℕ} {n first q k : ℕ} → Wording a d n first q k e → q < n → q < length a
-wording-place m h = omega (arith, m.row)
-
-pub wording-step : {a d e f : List ℕ} {n first q k r : ℕ} → Wording a d n first q k e → q < n
-    → Stored k (more_text (eqb k first) (letter_of (get_or a q 0)) q) e f r → Wording a d n first (q + 1) r f
+pub wording-step : {a d e f : List ℕ} {n first q k r : ℕ} → Wording a d n first q k e → q < length (take n a)
+    → Stored k (more_text (eqb k first) (letter_of (get_or (take n a) q 0)) q) e f r → Wording a d n first (q + 1) r f
 unfolding entry_words letter_at
 wording-step {a} {d} {e} {f} {n} {first} {q} {k} {r} m h s = record {
-  within = omega arith;
+  within = omega (arith, h, length-take n a);
   row = m.row;
   most = m.most;
   start = m.start;
-  text = stored_as more (stored_join m.text s);
+  text = stored_as more (stored_join m.text (stored_as here s));
 }
   where
+    here : more_text (eqb k first) (letter_of (get_or (take n a) q 0)) q ≡ more_text (eqb k first) (letter_of (get_or a q 0)) q
+    here = ap (λ (c : ℕ). more_text (eqb k first) (letter_of c) q) (get_or-take n a q 0 (omega (arith, h, length-take n a)))
+
     more : words_text (entry_words q (letter_at a)) ++ more_text (eqb k first) (letter_of (get_or a q 0)) q ≡ words_text (entry_words (q + 1) (letter_at a))
     more =
         ap (λ b. words_text (entry_words q (letter_at a)) ++ more_text b (letter_of (get_or a q 0)) q) (none_is m)
@@ -212,8 +212,11 @@ wording_all {a} {d} {e} {f} {g} {n} {first} {q} {k} {r} p h l s m t =
     (omega (arith, row_text-length p a))
     (stored_as (ap (λ (x : List ℕ). prefix_text (phase_of p) ++ x) ends) (stored_join s (stored_join m.text t)))
 
-module _ {a d e f : List ℕ} {n first q k : ℕ} (p : ℕ) (h : n ≡ min (length a) 128) (l : n ≤ q) (s : Stored 0 (prefix_text (phase_of p)) d e first)
+module _ {a d e f : List ℕ} {n first q k : ℕ} (p : ℕ) (h : n ≡ min (length a) 128) (end : length (take n a) ≤ q) (s : Stored 0 (prefix_text (phase_of p)) d e first)
     (m : Wording a e n first q k f) where
+  l : n ≤ q
+  l = omega (arith, end, m.row, length-take n a)
+
   pub wording_empty : {g : List ℕ} {r : ℕ} → k ≡ first → Stored k (73 ∷ []) f g r → TextWritten (row_text p a) d g r
   unfolding letter_text
   wording_empty z t = wording_all p h l s m (stored_as (sym (ap end_text (eq-eqb k first z))) t)
@@ -221,4 +224,4 @@ module _ {a d e f : List ℕ} {n first q k : ℕ} (p : ℕ) (h : n ≡ min (leng
   pub wording-some : (k ≡ first → ⊥) → TextWritten (row_text p a) d f k
   wording-some z = wording_all p h l s m (stored_as (sym (ap end_text (ne_eqb k first z))) (stored-none (record { fits = omega (arith, m.text.place) })))
 
-pub ruleset wordings = (wording-none, wording-place, wording-step, wording-same, wording_end, wording_empty, wording-some, rules)
+pub ruleset wordings = (wording-none, wording-step, wording-same, wording_end, wording_empty, wording-some, rules)

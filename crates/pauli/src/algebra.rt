@@ -82,13 +82,14 @@ fn see(sight: Sight, x: u8, y: u8, q: usize) -> Sight
     let places = if letter == 0 {
         sight.places
     } else {
+        // A usize has no From into u8; `as` is proved to keep the value.
         (q + 1) as u8
     };
     Sight { largest, places }
 }
 
 // Looks through two string records at once. What is not two string records is seen as bad, so that the questions are then put one by
-// one.
+// one. No Option: `mul` would need places for a None too, though `check_seen` has refused it. The place q is told, so the loop counts it.
 fn look(s: &[u8], t: &[u8]) -> Sight
     ensures { Looked s.now t.now result }
 {
@@ -128,7 +129,8 @@ fn add_turns(turns: u8, x: u8, y: u8) -> u8
     turns.wrapping_add(letter_turns(x, y))
 }
 
-// The product's letters at the 32 places from `at` on, taken together; the answer is the turns of their phases.
+// The product's letters at the 32 places from `at` on, taken together; the answer is the turns of their phases. By index: a zip of three
+// parts, each cut at its own place, is no plainer.
 fn multiply_step(s: &[u8], t: &[u8], at: usize, row: &mut [u8]) -> u8
     requires { Stepping s.now t.now at row.old }
     ensures { Stepped s.now t.now at row.new result }

@@ -64,8 +64,8 @@ pub(crate) fn check_entries(phase: u8, entries: &[u8]) -> Result<(), Refusal>
 // The mark of a qubit that more entries than one name.
 const TWICE: u8 = 5;
 
-// A mark for each qubit: 0 where no entry names it, 1 + its letter where one does, TWICE where more do. Bytes, and no enum: so the
-// letters are written sixteen at a time.
+// A mark for each qubit: 0 where no entry names it, 1 + its letter where one does, TWICE where more do. Bytes, and no enum: the letters
+// of all are then written in a tenth of the instructions.
 #[derive(Clone, Copy)]
 pub(crate) struct Marks([u8; QUBITS]);
 

@@ -95,6 +95,7 @@ impl Refusal {
             | Refusal::Link { record }
             | Refusal::Loop { record } => record,
         };
+        // A usize has no From into u64; `as` is proved to keep the value.
         detail as u64
     }
 }

@@ -136,10 +136,9 @@ fn letters_anticommute(a: u8, b: u8) -> u8
 pub fn count_anticommuting(a: &[u8], b: &[u8]) -> u8
     ensures { result ≡ places_of (shorter a.now b.now) a.now b.now % 256 }
 {
-    let n = a.len().min(b.len());
     let mut count: u8 = 0;
-    for i in 0..n {
-        count = count.wrapping_add(letters_anticommute(a[i], b[i]));
+    for (x, y) in a.iter().zip(b) {
+        count = count.wrapping_add(letters_anticommute(*x, *y));
     }
     count
 }
@@ -218,7 +217,7 @@ pub fn first_bad(s: &[u8]) -> Option<usize>
     s.iter().position(|x| 3 < *x)
 }
 
-// src copied to the front of dst, as far as both reach.
+// src copied to the front of dst, as far as both reach: `copy_from_slice` takes equal lengths only.
 #[tactic(auto, using(crate::proofs::Asking::by_tests, crate::proofs::Asking::by_questions), unfolding(crate::specs::Rows::copied))]
 pub fn copy(src: &[u8], dst: &mut [u8])
     ensures { dst.new ≡ copied src.now dst.old }

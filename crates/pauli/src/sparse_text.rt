@@ -39,6 +39,7 @@ fn write_entry(dst: &mut [u8], at: usize, letter: u8, qubit: usize) -> usize
     ensures { Stored at (entry_word (letter_of letter) qubit) dst.old dst.new result }
 {
     let next = put(dst, at, letter_text(letter));
+    // A usize has no From into u64; `as` is proved to keep the value.
     put_decimal(dst, next, qubit as u64)
 }
 
@@ -65,8 +66,8 @@ pub(crate) fn write_sparse(phase: u8, letters: &[u8], dst: &mut [u8]) -> usize
     let n = letters.len().min(QUBITS);
     let first = write_prefix(dst, phase);
     let mut at = first;
-    for q in 0..n {
-        at = write_place(dst, first, at, letters[q], q);
+    for (q, letter) in letters[..n].iter().enumerate() {
+        at = write_place(dst, first, at, *letter, q);
     }
     if at == first {
         return put(dst, at, b'I');

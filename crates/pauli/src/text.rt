@@ -63,6 +63,7 @@ pub(crate) fn byte_at(t: &[u8], k: usize) -> u8
     t.get(k).copied().unwrap_or(0)
 }
 
+// Not a `Head`: a prefix has a length and no place.
 #[derive(Clone, Copy)]
 pub(crate) struct Prefix {
     pub phase: u8,

@@ -29,7 +29,8 @@ pub fn put_text(dst: &mut [u8], at: usize, text: &[u8]) -> usize
     at.saturating_add(text.len())
 }
 
-// The decimal numeral of a number: that of its tenth, and its last digit.
+// The decimal numeral of a number: that of its tenth, and its last digit. By hand: `write!` fails where the buffer ends, and the length
+// is answered in full. A u64 has no From into u8; `as` is proved to keep the value.
 pub fn put_decimal(dst: &mut [u8], at: usize, n: u64) -> usize
     ensures { Stored at (decimal n) dst.old dst.new result }
 {
