@@ -11,11 +11,11 @@ use Rattle.clifford_group.specs.Tableau.{Tableau, Same}
 use Rattle.clifford_group.specs.Conjugation.{Generator, of_x, of_z}
 use Rattle.pauli.specs.declared.refusal.Refusal.{Refusal}
 use Rattle.pauli.specs.declared.refusal.Refusal.TheVariants.{ImageWidth}
-use Rattle.pauli.specs.Answers.{written, Outcome}
+use Rattle.pauli.specs.Answers.{written}
 use Rattle.pauli.specs.Layout.{phase_of, letter_of, string_of}
 use Rattle.pauli.specs.Questions.{◌and_then◌, string_questions}
 use Rattle.pauli.proofs.Answers.{written-exit, written-done}
-use Rattle.pauli.proofs.Asking.{asked_yes, asked_no, ask_done, exit_not, first_not, first_done, done_first, done_second, string-formed}
+use Rattle.pauli.proofs.Asking.{asked_yes, asked_no, ask_done, first_not, done_first, done_second, string-formed}
 use Rattle.pauli.proofs.Places.{NoneBefore, none_more, none_found, none_left_lem, first-before, from, length_from}
 use Rattle.pauli.proofs.Records.{decode_within, decode_letter, decode_phase, letter_of_lem, has_none, has_one}
 use Rattle.clifford.specs.Layout.{row_length, encode_row, row_offset, record_length, row_of, row_part, width_of, tableau_of, tableau_record, generator_row, FormedTableau}

@@ -1,5 +1,5 @@
 -- `clifford::on_width` meets its contract.
-use Rattle.clifford.proofs.GateAsking.{width-inside, width_answers}
+use Rattle.clifford.proofs.GateAsking.{width_answers}
 use Rattle.clifford.proofs.clifford.on_width.Goals as goal
 
 pub returns-in_err-check_width : goal.returns-in_err-check_width
