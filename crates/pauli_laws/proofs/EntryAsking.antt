@@ -21,7 +21,7 @@ use Rattle.pauli.proofs.EntryMarks.{entries-even, letters-good, qubits-good, let
 use Rattle.pauli.proofs.Places.{none_left_lem, first-before}
 use Rattle.pauli.proofs.Records.{letter-back, letter_there, letter-small}
 use Rattle.pauli_laws.specs.EntryLists.{Entry, entry_bytes, Unnamed, NamedOnce, EntriesGiven, letter_for, named_string}
-use Rattle.std.specs.Prelude.{Ok, None}
+use Rattle.std.specs.Prelude.{Ok}
 
 -- ---- one entry in front
 module _ (x y : ℕ) (b : List ℕ) where
