@@ -3,10 +3,10 @@ use Rattle.clifford.proofs.WorkRows.{work_as, turned-work, times-work, times_bot
 use Rattle.clifford.proofs.applying.multiply_both.Goals as goal
 
 pub multiply_by-requires : goal.multiply_by-requires
-multiply_by-requires c = work_as c.x_row.ensures.bytes (turned-work 2 c.requires c.phase_times.ensures)
+multiply_by-requires c = work_as c.x_row.ensures.bytes (turned-work _ c.requires c.phase_times.ensures)
 
 pub multiply_by-requires-2 : goal.multiply_by-requires-2
-multiply_by-requires-2 c = work_as c.z_row.ensures.bytes (times-work _ (turned-work 2 c.requires c.phase_times.ensures) c.multiply_by.ensures)
+multiply_by-requires-2 c = work_as c.z_row.ensures.bytes (times-work _ (turned-work _ c.requires c.phase_times.ensures) c.multiply_by.ensures)
 
 pub returns : goal.returns
 returns c =
