@@ -1,7 +1,7 @@
 -- What validity amounts to, on bytes: a record is valid exactly where it sends products to products, and two records send strings alike
 -- exactly where they are widened to the same bytes.
 use mathlib.Core.Path.{◌≡◌, refl, sym, ap, ap₂, ◌∙◌, subst}
-use mathlib.Core.Bool.{Bool, true, false}
+use mathlib.Core.Bool.{Bool, true}
 use mathlib.Core.List.{List}
 use mathlib.Core.Logic.{◌↔◌}
 use Prim.Native.Nat.{ℕ, max, ◌≤◌, ◌<◌}
