@@ -93,18 +93,16 @@ pub(crate) fn turned_phase(a: u8, b: u8, turns: u8) -> u8
 }
 
 // The row acc multiplied by the row b on the right, as far as both reach; the answer is phase times the places' phases.
-// The turns are summed in a byte: it wraps at 256, a multiple of 4. By index: of what is written through a zip of `iter_mut` a proof
-// knows the length alone.
+// The turns are summed in a byte: it wraps at 256, a multiple of 4. No zip: of what is written through a zip of `iter_mut` a proof knows
+// the length alone.
 pub fn multiply_letters(acc: &mut [u8], b: &[u8], phase: u8) -> u8
     ensures { RowTimes acc.old b.now phase acc.new result }
 {
     let n = acc.len().min(b.len());
     let mut turns = phase_turns(phase);
-    for i in 0..n {
-        let x = acc[i];
-        let y = b[i];
-        turns = turns.wrapping_add(times_turns(x, y));
-        acc[i] = times_letter(x, y);
+    for (i, x) in acc[..n].iter_mut().enumerate() {
+        turns = turns.wrapping_add(times_turns(*x, b[i]));
+        *x = times_letter(*x, b[i]);
     }
     turns_phase(turns)
 }

@@ -15,7 +15,7 @@ const STDIN_FILENO: i32 = 0;
 
 const STDOUT_FILENO: i32 = 1;
 
-// Room for all of a program's input. A contract that gave the length would have the check count it.
+// Room for all of a program's input. A function of its own, with no contract: where the length is known, the check counts to it.
 fn text_room() -> [u8; 2097152] {
     [0; 2097152]
 }
