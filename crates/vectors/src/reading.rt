@@ -107,10 +107,7 @@ impl Room {
     {
         match line {
             [] | [b'#', ..] => Line::Blank,
-            _ => match self.read_case(line) {
-                Some(case) => Line::Case(case),
-                None => Line::Malformed,
-            },
+            _ => self.read_case(line).map_or(Line::Malformed, Line::Case),
         }
     }
 
