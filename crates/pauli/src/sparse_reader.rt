@@ -71,7 +71,8 @@ fn read_entry(t: &[u8], at: usize) -> Result<Entry, Refusal>
     })
 }
 
-// All tokens from an offset on, up to one that is refused: each entry is marked.
+// All tokens from an offset on, up to one that is refused: each entry is marked. No `for`: where a token ends is known only when it is
+// read.
 pub(crate) fn read_tokens(t: &[u8], start: usize, marks: &mut Marks) -> Result<(), Refusal>
     requires { BodyAt t.now start marks.old.0 }
     ensures { TokensRead (tokens start (drop start t.now)) marks.new.0 result }
