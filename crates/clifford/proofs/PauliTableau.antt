@@ -1,5 +1,5 @@
 -- The tableau of a Pauli string: its width, its signs and its rows.
-use Rattle.std.proofs.Common.{◌≡◌, ℕ, zero, suc, ◌+◌, ◌-◌, ◌*◌, ◌<◌, ◌≤◌, Bool, true, false, cond, ltb, List, length, get_or, sym, refl, ap, ◌∙◌, not-suc-le-zero, add-one, arith, w64, Fits, rules}
+use Rattle.std.proofs.Common.{◌≡◌, ℕ, zero, suc, ◌+◌, ◌-◌, ◌*◌, ◌<◌, ◌≤◌, Bool, true, false, cond, ltb, List, length, get_or, sym, refl, ap, ◌∙◌, ap₂, not-suc-le-zero, add-one, arith, w64, Fits, rules}
 use Rattle.pauli_group.specs.Phase.{sign}
 use Rattle.pauli_group.specs.Letter.{X, Z, anticommute}
 use Rattle.pauli_group.specs.PauliString.{PauliString, qubits, last_to, has_letter, mul, scale, identity_string, single, commutation_sign}
@@ -9,9 +9,9 @@ use Rattle.pauli.specs.Layout.{phase_byte, phase_of, letter_byte, letter_of, enc
 use Rattle.pauli.proofs.Records.{phase-back, phase-small, letter_of_lem, has_none, has_one}
 use Rattle.clifford.specs.Layout.{row_of, row_qubit, row_letter}
 use Rattle.clifford.specs.Images.{pauli_width, pauli_tableau}
-use Rattle.clifford.specs.Inside.Rows.{ClearRow, WorkPlace, row_times, cleared_row, sign_byte, letters_in}
-use Rattle.clifford.specs.Inside.Writing.{Span, IsGenerator, PauliRow, conjugated}
-use Rattle.clifford.proofs.RowWriting.{row_made}
+use Rattle.clifford.specs.Inside.Rows.{RowIndex, ClearRow, WorkPlace, row_times, cleared_row, sign_byte, letters_in}
+use Rattle.clifford.specs.Inside.Writing.{Span, conjugated}
+use Rattle.clifford.proofs.RowWriting.{IsGenerator, generator-is, letter_of-row, row_made}
 use Rattle.clifford_group.specs.Tableau.{Proper}
 use Rattle.clifford.proofs.Apply.{length_cleared, cleared_formed, decoded_clear}
 
@@ -58,11 +58,6 @@ pub sign-none : {a : ℕ} (l : ℕ) → a ≡ 0 → 0 ≡ sign_byte a l
 unfolding sign_byte letter_of anticommute sign phase_byte
 sign-none {a} l e = sym (ap (λ (x : ℕ). phase_byte (sign (anticommute (letter_of x) (letter_of l)))) e)
 
-pub sign_same : {a l : ℕ} → a ≡ l → 0 ≡ sign_byte a l
-unfolding sign_byte sign phase_byte
-sign_same {a} {l} e =
-    sym (ap (λ (x : ℕ). phase_byte (sign (anticommute (letter_of x) (letter_of l)))) e ∙ ap (λ b. phase_byte (sign b)) (anticommute_self (letter_of l)))
-
 differ : (a l : ℕ) → (a ≡ 0 → ⊥) → (a ≡ l → ⊥) → 0 < l → l < 3 → anticommute (letter_of a) (letter_of l) ≡ true
 unfolding anticommute letter_of
 differ zero l h k p q = absurd (h refl)
@@ -86,57 +81,61 @@ differ (suc (suc (suc a))) (suc (suc (suc l))) h k p q = absurd (high l q)
     high : (l : ℕ) → suc (suc (suc l)) < 3 → ⊥
     high l q = omega arith
 
-pub sign-minus : {a l : ℕ} → IsGenerator l → (a ≡ 0 → ⊥) → (a ≡ l → ⊥) → 1 ≡ sign_byte a l
-unfolding sign_byte sign phase_byte
-sign-minus {a} {l} g h k = sym (ap (λ b. phase_byte (sign b)) (differ a l h k g.some g.small))
+module _ {w r : ℕ} (i : RowIndex w r) {a l : ℕ} (el : l ≡ letter_byte (row_letter w r)) where
+  pub sign_same : a ≡ l → 0 ≡ sign_byte a (letter_byte (row_letter w r))
+  unfolding sign_byte sign phase_byte
+  sign_same e =
+      let byte : ℕ = letter_byte (row_letter w r) in
+      sym (ap (λ (x : ℕ). phase_byte (sign (anticommute (letter_of x) (letter_of byte)))) (e ∙ el)
+      ∙ ap (λ b. phase_byte (sign b)) (anticommute_self (letter_of byte)))
+
+  pub sign-minus : (a ≡ 0 → ⊥) → (a ≡ l → ⊥) → 1 ≡ sign_byte a (letter_byte (row_letter w r))
+  unfolding sign_byte sign phase_byte
+  sign-minus h k =
+      let g : IsGenerator l = generator-is w r el in
+      sym (ap (λ (x : ℕ). phase_byte (sign (anticommute (letter_of a) (letter_of x)))) (sym el) ∙ ap (λ b. phase_byte (sign b)) (differ a l h k g.some g.small))
 
 pub ruleset sign_bytes = (sign-none, sign_same, sign-minus, rules)
 
-generator_of : (b : Bool) {l : ℕ} → l ≡ letter_byte (cond b X Z) → IsGenerator l
-unfolding letter_byte
-generator_of true e = record { some = omega arith; small = omega arith }
-generator_of false e = record { some = omega arith; small = omega arith }
-
-pub generator-is : (w r : ℕ) {l : ℕ} → l ≡ letter_byte (row_letter w r) → IsGenerator l
-unfolding row_letter
-generator-is w r e = generator_of (ltb r w) e
-
 -- ---- one row
-module _ {s : List ℕ} {q l : ℕ} {k : List ℕ} (o : PauliRow s q l k) where
-  abbrev S : PauliString
-  S = string_of s
+module _ {w r : ℕ} (i : RowIndex w r) (k : List ℕ) (ok : length k ≡ w + 1) where
+  some : 0 < length k
+  some = omega (arith, ok)
 
-  pub sign_clear : (a c : ℕ) {p : ℕ} → p ≡ sign_byte a c → ClearRow k p
+  pub sign_clear : (a l : ℕ) {p : ℕ} → p ≡ sign_byte a l → ClearRow k p
   unfolding sign_byte
-  sign_clear a c e = record { some = omega (arith, o.place); phase = omega (arith, phase-small (sign (anticommute (letter_of a) (letter_of c)))) }
+  sign_clear a l e = record { some = some; phase = omega (arith, phase-small (sign (anticommute (letter_of a) (letter_of l)))) }
 
-  abbrev one : PauliString
-  one = single (letter_of l) q
-
-  module _ {p : ℕ} (ep : p ≡ sign_byte (get_or s (q + 1) 0) l) {k₁ : List ℕ} (ek : k₁ ≡ cleared_row (length k) p) where
-    some : 0 < length k
-    some = omega (arith, o.place)
-
+  module _ (p : ℕ) {k₁ : List ℕ} (ek : k₁ ≡ cleared_row (length k) p) {q : ℕ} (below : q < w) where
     long : length k₁ ≡ length k
     long = length_cleared p some ek
 
     pub sign-work : WorkPlace k₁ q
-    sign-work = record { row = cleared_formed p some ek; place = omega (arith, long, o.place); narrow = omega (arith, long, o.narrow) }
+    sign-work = record { row = cleared_formed p some ek; place = omega (arith, long, ok); narrow = omega (arith, long, ok, i.narrow) }
 
-    sign_of : phase_of p ≡ commutation_sign S one
-    unfolding sign_byte qubits
-    sign_of =
-        ap phase_of ep ∙ phase-back _
-        ∙ sym (sign-single S (letter_of l) q (omega (arith, o.place, o.narrow))
-        ∙ ap (λ a. sign (anticommute a (letter_of l))) (letter_of_lem s q (omega (arith, o.place, o.narrow)) ∙ ap (λ (j : ℕ). letter_of (get_or s j 0)) (sym (add-one q))))
+    module _ (s : List ℕ) (ep : p ≡ sign_byte (get_or s (q + 1) 0) (letter_byte (row_letter w r))) {l : ℕ} (el : l ≡ letter_byte (row_letter w r)) (eq : q ≡ row_qubit w r) where
+      abbrev S : PauliString
+      S = string_of s
 
-    pub sign_made : {k₂ : List ℕ} → k₂ ≡ row_times k₁ one → k₂ ≡ encode_string (letters_in k) (conjugated S one)
-    unfolding row_times conjugated
-    sign_made e =
-        let same : letters_in k₁ ≡ letters_in k = ap (λ (j : ℕ). j - 1) long in
-        e ∙ ap (λ (j : ℕ). encode_string j (mul (decode_string j k₁) one)) same
-        ∙ ap (λ x. encode_string (letters_in k) (mul x one)) (decoded_clear k₁ (length k) p ek)
-        ∙ ap (encode_string (letters_in k)) (scale-mul (phase_of p) identity_string one ∙ ap (scale (phase_of p)) (identity-mul one) ∙ ap (λ x. scale x one) sign_of)
+      abbrev one : PauliString
+      one = single (letter_of l) q
+
+      sign_of : phase_of p ≡ commutation_sign S one
+      unfolding sign_byte qubits
+      sign_of =
+          ap phase_of (ep ∙ ap (sign_byte (get_or s (q + 1) 0)) (sym el)) ∙ phase-back _
+          ∙ sym (sign-single S (letter_of l) q (omega (arith, i.narrow))
+          ∙ ap (λ a. sign (anticommute a (letter_of l))) (letter_of_lem s q (omega (arith, i.narrow)) ∙ ap (λ (j : ℕ). letter_of (get_or s j 0)) (sym (add-one q))))
+
+      pub sign_made : {k₂ : List ℕ} → k₂ ≡ row_times k₁ one → k₂ ≡ encode_string w (conjugated S (single (row_letter w r) (row_qubit w r)))
+      unfolding row_times conjugated
+      sign_made e =
+          let same : letters_in k₁ ≡ w = omega (arith, long, ok) in
+          let before : length k - 1 ≡ w = omega (arith, ok) in
+          e ∙ ap (λ (j : ℕ). encode_string j (mul (decode_string j k₁) one)) same
+          ∙ ap (λ x. encode_string w (mul x one)) (ap (λ (j : ℕ). decode_string j k₁) (sym before) ∙ decoded_clear k₁ (length k) p ek)
+          ∙ ap (encode_string w) (scale-mul (phase_of p) identity_string one ∙ ap (scale (phase_of p)) (identity-mul one) ∙ ap (λ x. scale x one) sign_of)
+          ∙ ap (λ x. encode_string w (scale (commutation_sign S x) x)) (ap₂ single (letter_of-row w r el) eq)
 
 pub ruleset pauli_rows = (sign_clear, sign-work, sign_made, rules)
 
