@@ -12,17 +12,14 @@ use crate::layout::RowPlace;
 use pauli::QUBITS;
 
 // The width: 1 + the highest qubit that has a letter, and 1 where none has.
-#[tactic(auto, using(crate::proofs::PauliTableau::spans))]
 pub(crate) fn span(s: &[u8]) -> usize
     requires { WellFormed 128 s.now }
     ensures { Span s.now result }
 {
-    for q in (0..QUBITS).rev() {
-        if s[q + 1] != 0 {
-            return q + 1;
-        }
+    match s[1..].iter().rev().position(|letter| *letter != 0) {
+        Some(after) => QUBITS - after,
+        None => 1,
     }
-    1
 }
 
 // The sign of the row's letter next to the letter a: -1 where the two anticommute.
