@@ -21,7 +21,7 @@ impl Expected {
     {
         match self {
             Expected::Exactly(due) => reply == due,
-            Expected::BadSyntax => 9 <= reply.number && reply.number <= 11,
+            Expected::BadSyntax => matches!(reply.number, 9..=11),
         }
     }
 }
