@@ -2,17 +2,14 @@
 // replay program has. Only `call`, and what it calls, is this program's own.
 #![tactic(auto)]
 
-use pauli::refusal::Reply;
+use pauli::refusal::{Refusal, Reply};
 use pauli::rows::copy;
 use vectors::Case;
 
-// Number 0 and the wrapped sum, with `a` at the front of `d`; number 7 where `d` has no room.
+// Number 0 and the wrapped sum, with `a` at the front of `d`; refused where `d` has no room.
 fn sum(case: &mut Case) -> Reply {
     if case.d.len() < case.a.len() {
-        return Reply {
-            number: 7,
-            value: 0,
-        };
+        return Reply::from(Refusal::Room);
     }
     copy(case.a, case.d);
     Reply {

@@ -11,29 +11,44 @@ use pauli::refusal::{Refusal, Reply};
 use pauli::rows::copy;
 use vectors::{Case, index, told};
 
-// The record at the front of some bytes; all of them where they are too few.
-fn record_in(t: &[u8]) -> &[u8] {
-    t.get(..questions::record_size(width(t))).unwrap_or(t)
+// Room for the longest record; a record stands at its front.
+#[derive(Clone, Copy)]
+struct Record {
+    room: [u8; LONGEST_RECORD],
 }
 
-// The record that a call wrote to `out`, where it was accepted.
-fn written(answer: Result<(), Refusal>, out: &[u8]) -> Option<&[u8]> {
-    answer.ok()?;
-    Some(record_in(out))
+impl Record {
+    fn new() -> Record {
+        Record {
+            room: [0; LONGEST_RECORD],
+        }
+    }
+
+    // The record's own bytes.
+    fn bytes(&self) -> &[u8] {
+        let room = &self.room;
+        &room[..questions::record_size(width(room))]
+    }
+
+    // The bytes that a call wrote, where it was accepted.
+    fn written(&self, answer: Result<(), Refusal>) -> Option<&[u8]> {
+        answer.ok()?;
+        Some(self.bytes())
+    }
 }
 
 // Whether a composed with b is this record.
 fn is_composed(a: &[u8], b: &[u8], record: &[u8]) -> bool {
-    let mut out = [0; LONGEST_RECORD];
-    let answer = clifford_rep::compose(a, b, &mut out);
-    written(answer, &out) == Some(record)
+    let mut out = Record::new();
+    let answer = clifford_rep::compose(a, b, &mut out.room);
+    out.written(answer) == Some(record)
 }
 
 // Whether the inverse undoes the product on both sides, to the identity of the product's width.
 fn is_two_sided(back: &[u8], product: &[u8]) -> bool {
-    let mut one = [0; LONGEST_RECORD];
-    let answer = clifford_rep::identity(width(product), &mut one);
-    let Some(one) = written(answer, &one) else {
+    let mut one = Record::new();
+    let answer = clifford_rep::identity(width(product), &mut one.room);
+    let Some(one) = one.written(answer) else {
         return false;
     };
     is_composed(back, product, one) && is_composed(product, back, one)
@@ -41,9 +56,9 @@ fn is_two_sided(back: &[u8], product: &[u8]) -> bool {
 
 // Whether the inverse of the product brings the record now back to the record then.
 fn is_back(then: &[u8], now: &[u8], product: &[u8]) -> bool {
-    let mut out = [0; LONGEST_RECORD];
-    let answer = clifford_rep::inverse(product, &mut out);
-    let Some(back) = written(answer, &out) else {
+    let mut back = Record::new();
+    let answer = clifford_rep::inverse(product, &mut back.room);
+    let Some(back) = back.written(answer) else {
         return false;
     };
     is_composed(back, now, then)
@@ -65,59 +80,57 @@ fn send(t: &[u8], strings: &[u8], d: &mut [u8]) -> Option<Reply> {
 
 // Sends each string through the record that the inverse of the product brings back.
 fn send_back(now: &[u8], product: &[u8], strings: &[u8], d: &mut [u8]) -> Option<Reply> {
-    let mut back = [0; LONGEST_RECORD];
-    let answer = clifford_rep::inverse(product, &mut back);
-    let back = written(answer, &back)?;
-    let mut brought = [0; LONGEST_RECORD];
-    let answer = clifford_rep::compose(back, now, &mut brought);
-    send(written(answer, &brought)?, strings, d)
+    let mut back = Record::new();
+    let answer = clifford_rep::inverse(product, &mut back.room);
+    let back = back.written(answer)?;
+    let mut brought = Record::new();
+    let answer = clifford_rep::compose(back, now, &mut brought.room);
+    send(brought.written(answer)?, strings, d)
 }
 
 // A list of calls: the record to come back to, the record as it stands, and the product of the steps from the one to the other.
 #[derive(Drop)]
 struct List {
-    then: [u8; LONGEST_RECORD],
-    now: [u8; LONGEST_RECORD],
-    product: [u8; LONGEST_RECORD],
+    then: Record,
+    now: Record,
+    product: Record,
 }
 
 impl List {
     fn new() -> List {
         List {
-            then: [0; LONGEST_RECORD],
-            now: [0; LONGEST_RECORD],
-            product: [0; LONGEST_RECORD],
+            then: Record::new(),
+            now: Record::new(),
+            product: Record::new(),
         }
     }
 
     // The record as it stands is the one to come back to; no step has been made from it.
     fn mark(&mut self, w: usize) -> Option<Reply> {
-        let now = self.now;
-        self.then = now;
-        told(clifford_rep::identity(w, &mut self.product))
+        self.then = self.now;
+        told(clifford_rep::identity(w, &mut self.product.room))
     }
 
     // The record of a list at its start.
     fn start(&mut self, n: usize, w: usize, d: &mut [u8]) -> Option<Reply> {
         let answer = clifford_rep::identity(n, d);
-        copy(d, &mut self.now);
+        copy(d, &mut self.now.room);
         self.mark(w);
         told(answer)
     }
 
     // What the call wrote is the record now, and the product has one more step on its left.
     fn step(&mut self, a: &[u8], wrote: &[u8]) -> Option<Reply> {
-        copy(wrote, &mut self.now);
-        let mut out = [0; LONGEST_RECORD];
-        let answer = clifford_rep::compose(a, record_in(&self.product), &mut out);
-        answer.ok()?;
+        copy(wrote, &mut self.now.room);
+        let mut out = Record::new();
+        clifford_rep::compose(a, self.product.bytes(), &mut out.room).ok()?;
         self.product = out;
         told(Ok(()))
     }
 
     // A call on the record: a step where it is accepted.
     fn compose(&mut self, a: &[u8], b: &[u8], d: &mut [u8]) -> Option<Reply> {
-        let now = record_in(&self.now);
+        let now = self.now.bytes();
         if b != now {
             return None;
         }
@@ -135,12 +148,7 @@ impl List {
         match case.name {
             "compose" => self.compose(case.a, case.b, case.d),
             "send" => send(case.a, case.b, case.d),
-            "back" => send_back(
-                record_in(&self.now),
-                record_in(&self.product),
-                case.b,
-                case.d,
-            ),
+            "back" => send_back(self.now.bytes(), self.product.bytes(), case.b, case.d),
             "mark" => self.mark(n2),
             "identity" => self.start(n1, n2, case.d),
             _ => None,
@@ -150,9 +158,8 @@ impl List {
     // The reply of the case's call, where the way back holds after it.
     fn call(&mut self, case: &mut Case) -> Option<Reply> {
         let reply = self.play(case)?;
-        let then = record_in(&self.then);
-        let now = record_in(&self.now);
-        is_back(then, now, record_in(&self.product)).then_some(reply)
+        let List { then, now, product } = self;
+        is_back(then.bytes(), now.bytes(), product.bytes()).then_some(reply)
     }
 }
 

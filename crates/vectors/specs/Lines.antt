@@ -1,5 +1,7 @@
 -- What a line is. Assumes nothing.
-use Rattle.std.specs.Prelude.{◌≡◌, ℕ, ◌<◌, ◌≤◌, ◌⊎◌, List, length, slice_index, EachIndex}
+use Rattle.std.specs.Prelude.{◌≡◌, ℕ, ◌<◌, ◌≤◌, ◌⊎◌, List, [], length, get_or, eqb, slice_index, EachIndex}
+use Rattle.std.specs.List.{slice_split}
+use Rattle.std.specs.Str.Parse.{IsNumeral, digits_value}
 use Rattle.std.specs.Char.{IsAsciiDigit, IsAsciiLowercase}
 use Rattle.vectors.specs.declared.reading.TheConstants.{FIELD_ROOM}
 use Rattle.vectors.specs.declared.reading.Case.{Case}
@@ -31,6 +33,27 @@ abbrev pub LineFits : Line → Type 0
 LineFits (lines.Case k) = CaseFits k
 LineFits lines.Blank = Unit {0}
 LineFits lines.Malformed = Unit {0}
+
+-- a line's field of this number from 0, cut at the spaces
+abbrev pub field : List ℕ → ℕ → List ℕ
+field s k = get_or (slice_split (λ b. eqb b 32) s) k []
+
+-- s is a decimal numeral of n
+abbrev pub Says : List ℕ → ℕ → Type 0
+Says s n = IsNumeral 10 s × (digits_value 10 s ≡ n)
+
+-- the case's name and its numbers are those that the line s has in their fields
+pub record CaseOf (s : List ℕ) (k : Case) : Type 0 where
+  pub name : field s 0 ≡ k.name.now
+  pub n1 : Says (field s 3) k.n1
+  pub n2 : Says (field s 4) k.n2
+  pub n3 : Says (field s 5) k.n3
+
+-- the same of a line that is a case
+abbrev pub LineSays : List ℕ → Line → Type 0
+LineSays s (lines.Case k) = CaseOf s k
+LineSays s lines.Blank = Unit {0}
+LineSays s lines.Malformed = Unit {0}
 
 abbrev pub IsZeros : List ℕ → Type 0
 IsZeros s = EachIndex s (λ k. slice_index s k ≡ 0)

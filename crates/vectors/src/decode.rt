@@ -22,7 +22,7 @@ pub fn decimal(s: &[u8]) -> Option<u64>
     str::from_utf8(s).ok()?.parse().ok()
 }
 
-// A lowercase hex digit's value.
+// A lowercase hex digit's value: `to_digit` takes capitals too.
 fn hex_digit(c: u8) -> Option<u8>
     ensures { IfSome result (λ d. d < 16) }
 {

@@ -1,6 +1,6 @@
 // One line as a case.
 ghost use Rattle.std.specs.Prelude.{◌≡◌, ◌≢◌, ◌↔◌, IsTrue, IfSome};
-ghost use Rattle.vectors.specs.Lines.{CaseFits, Empty, IsBlank, IsName, LineFits};
+ghost use Rattle.vectors.specs.Lines.{CaseFits, CaseOf, Empty, IsBlank, IsName, LineFits, LineSays};
 ghost use Rattle.vectors.specs.Verdicts.{Expects, IsMatch};
 
 use crate::decode::{bytes, decimal};
@@ -21,7 +21,7 @@ impl Expected {
     {
         match self {
             Expected::Exactly(due) => reply == due,
-            Expected::BadSyntax => 9 <= reply.number && reply.number <= 11,
+            Expected::BadSyntax => matches!(reply.number, 9..=11),
         }
     }
 }
@@ -100,10 +100,12 @@ impl Room {
         }
     }
 
-    // Reads a line. A case's bytes are then in this room.
+    // Reads a line. A case's bytes are then in this room. What bytes a field spells, and so which
+    // lines are malformed, is tested and not promised.
     pub fn read<'a>(&'a mut self, line: &'a [u8]) -> Line<'a, 'a>
         ensures blank { (result ≡ Line.Blank) ↔ IsBlank line.now }
-        ensures case { LineFits result }
+        ensures fits { LineFits result }
+        ensures says { LineSays line.now result }
     {
         match line {
             [] | [b'#', ..] => Line::Blank,
@@ -112,7 +114,8 @@ impl Room {
     }
 
     fn read_case<'a>(&'a mut self, line: &'a [u8]) -> Option<Case<'a, 'a>>
-        ensures { IfSome result (λ k. CaseFits k) }
+        ensures fits { IfSome result (λ k. CaseFits k) }
+        ensures says { IfSome result (λ k. CaseOf line.now k) }
     {
         let Room { a, b, d, after } = self;
         let mut fields = line.split(|c| *c == b' ');

@@ -5,7 +5,8 @@ ghost use Rattle.pauli.specs.Answers.{reply_of};
 
 use pauli::refusal::{Refusal, Reply, Told};
 
-// What a function of the library answers, as a case has it.
+// What a function of the library answers, as a case has it. `Some` stands here once, and not in
+// each arm of a replay's `match`: an arm may have no reply.
 pub fn told<T: Told + Drop>(answer: Result<T, Refusal>) -> Option<Reply>
     ensures { result ≡ Some (reply_of T.value answer) }
 {
