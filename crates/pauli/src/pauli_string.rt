@@ -5,13 +5,13 @@ ghost use Rattle.pauli.specs.SparseText.{to_sparse_questions};
 ghost use Rattle.pauli.specs.Promises.{PhaseOfString, LetterOfString, PlacesCounted, FromEntries, FromSparseText, FromDenseText, FromText, SparseTextWritten};
 
 use crate::dense_reader::dense_string;
-use crate::entries::{Marks, read_entries};
+use crate::entries::{Marks, check_entries};
 use crate::questions::{check_qubit, check_room, check_string, check_strings};
 use crate::refusal::Refusal;
 use crate::rows::count_anticommuting;
-use crate::sparse_reader::sparse_string;
+use crate::sparse_reader::read_tokens;
 use crate::sparse_text::{sparse_length, write_sparse};
-use crate::text::any_digit;
+use crate::text::{any_digit, check_ascii, read_head};
 
 // The phase of a string record.
 pub fn phase(s: &[u8]) -> Result<u8, Refusal>
@@ -43,8 +43,9 @@ pub fn anticommuting_places(s: &[u8], t: &[u8]) -> Result<usize, Refusal>
 pub fn with_phase_and_paulis(phase: u8, entries: &[u8], dst: &mut [u8]) -> Result<(), Refusal>
     ensures { FromEntries phase entries.now dst.old dst.new result }
 {
-    let mut marks = Marks::new();
-    read_entries(phase, entries, &mut marks, dst.len())?;
+    check_entries(phase, entries)?;
+    let marks = Marks::of(entries);
+    marks.check(dst.len())?;
     marks.write(phase, dst);
     Ok(())
 }
@@ -53,7 +54,12 @@ pub fn with_phase_and_paulis(phase: u8, entries: &[u8], dst: &mut [u8]) -> Resul
 pub fn from_sparse_str(t: &[u8], dst: &mut [u8]) -> Result<(), Refusal>
     ensures { FromSparseText t.now dst.old dst.new result }
 {
-    sparse_string(t, dst)
+    check_ascii(t)?;
+    let head = read_head(t);
+    let marks = read_tokens(t, head.at)?;
+    marks.check(dst.len())?;
+    marks.write(head.phase, dst);
+    Ok(())
 }
 
 // The string that a dense text names.
