@@ -1,5 +1,6 @@
 -- Rows multiplied and compared place by place: what a loop has done before a place, and what a caller reads off the contracts.
-use Rattle.std.proofs.Common.{◌≡◌, ℕ, zero, suc, ◌+◌, ◌%◌, ◌<◌, ◌≤◌, max, Bool, cond, List, ◌++◌, length, get_or, drop, set, sym, refl, ap, ◌∙◌, ap₂, zero-le, add-one, arith, rules}
+use Rattle.std.proofs.Common.{◌≡◌, ℕ, zero, suc, ◌+◌, ◌%◌, ◌<◌, ◌≤◌, max, Bool, cond, List, ◌++◌, length, get_or, take, drop, set, sym, refl, ap, ◌∙◌, ap₂, append-nil, zero-le, add-one, arith, drop_of_length-le, length-take, rules}
+use Rattle.std.proofs.lemmas.List.{get_or-take}
 use lib.ListN.{get_or-append}
 use Rattle.pauli_group.specs.Phase.{◌·◌}
 use Rattle.pauli_group.specs.Letter.{letter_phase, letter_mul, anticommute, not_i}
@@ -11,7 +12,7 @@ use Rattle.pauli.specs.Layout.{phase_byte, phase_of, letter_byte, letter_of}
 use Rattle.pauli.specs.Rows.{product_phase_byte, product_letter_byte, letter_bytes_product, letter_at, product_letters, product_phase, places_of, letter_count, Scanned, shorter, RowTimes}
 use Rattle.pauli.specs.Inside.Turns.{LetterTurns, PhaseTurns, anticommuting, lettered, scanned_with}
 use Rattle.pauli.specs.declared.rows.LetterScan.{LetterScan}
-use Rattle.pauli.proofs.Places.{length-listed, get_d_listed, LargestTo, largest_start, largest_step, largest_all, fill, fill_more, fill_all, length_fill, fill_at}
+use Rattle.pauli.proofs.Places.{length-listed, get_d_listed, LargestTo, largest_start, largest_step, largest_all, fill, fill_more, fill_all, fill_at}
 use Rattle.pauli.proofs.Records.{phase-back}
 use Rattle.pauli.proofs.Turns.{power_sum}
 
@@ -27,59 +28,45 @@ phase-more : (a b : List ℕ) (i : ℕ) → product_phase (i + 1) a b ≡ produc
 unfolding product_phase product_to
 phase-more a b i = rw (add-one i)
 
--- ---- the row a, multiplied by b as far as place i of n, and the turns so far
+-- ---- the first n places of the row a, multiplied by b as far as place i, and the turns so far
 pub record Before (a b : List ℕ) (p n i : ℕ) (e : List ℕ) (s : ℕ) : Type 0 where
-  pub within : i ≤ n
-  pub out : e ≡ fill (product_letters n a b) a i
+  pub out : e ≡ fill (product_letters n a b) (take n a) i
   pub turns : power s ≡ phase_of p · product_phase i a b
 
-pub before-none : {a b : List ℕ} {p n s : ℕ} → PhaseTurns p s → Before a b p n 0 a s
+pub before-none : {a b : List ℕ} {p n s : ℕ} → PhaseTurns p s → Before a b p n 0 (take n a) s
 unfolding product_phase product_to
-before-none {a} {b} {p} h = record { within = zero-le; out = refl; turns = h.is ∙ sym (·-one (phase_of p)) }
+before-none {a} {b} {p} h = record { out = refl; turns = h.is ∙ sym (·-one (phase_of p)) }
 
-still : {a b : List ℕ} {p n i : ℕ} {e : List ℕ} {s : ℕ} → n ≡ shorter a b → i < n → Before a b p n i e s → get_or e i 0 ≡ get_or a i 0
-still {a} {b} {p} {n} {i} {e} h k m =
-    ap (λ (l : List ℕ). get_or l i 0) m.out ∙ fill_at i (product_letters n a b) a (omega (arith, length-letters n a b)) (omega arith)
-
-pub before-step : {a b : List ℕ} {p n i : ℕ} {e : List ℕ} {s : ℕ} → n ≡ shorter a b → i < n → Before a b p n i e s
+pub before-step : {a b : List ℕ} {p n i : ℕ} {e : List ℕ} {s : ℕ} → n ≡ shorter a b → i < length (take n a) → Before a b p n i e s
     → {t u x : ℕ} → LetterTurns (get_or e i 0) (get_or b i 0) t → u ≡ (s + t) % 256
     → x ≡ letter_byte (letter_mul (letter_of (get_or e i 0)) (letter_of (get_or b i 0)))
     → Before a b p n (i + 1) (set e i x) u
 unfolding letter_at
 before-step {a} {b} {p} {n} {i} {e} {s} h k m {t} {u} {x} et eu ex =
-    let l : length (product_letters n a b) ≡ n = length-letters n a b in
-    let here : get_or e i 0 ≡ get_or a i 0 = still h k m in
+    let row = product_letters n a b in
+    let l : length row ≡ n = length-letters n a b in
+    let below : i < n = omega (arith, length-take n a) in
+    let here : get_or e i 0 ≡ get_or a i 0 =
+    ap (λ (l : List ℕ). get_or l i 0) m.out ∙ fill_at i row (take n a) (omega arith) k ∙ get_or-take n a i 0 below in
     record {
-      within = omega arith;
-      out = ap (λ (z : List ℕ). set z i x) m.out
-          ∙ fill_more (product_letters n a b) a i x (omega arith) (omega arith) (rw here at ex ∙ letter_here_lem n a b i k);
+      out = ap (λ (z : List ℕ). set z i x) m.out ∙ fill_more row (take n a) i x (omega arith) k (rw here at ex ∙ letter_here_lem n a b i below);
       turns = ap power eu ∙ power_sum s t ∙ ap₂ ◌·◌ m.turns (rw here at et.is)
           ∙ ·_assoc (phase_of p) (product_phase i a b) _ ∙ ap (λ y. phase_of p · y) (sym (phase-more a b i));
     }
 
-pub before_all : {a b : List ℕ} {p n i : ℕ} {e : List ℕ} {s r : ℕ} → n ≡ shorter a b → n ≤ i → Before a b p n i e s
-    → r ≡ phase_byte (power s) → RowTimes a b p e r
-before_all {a} {b} {p} {n} {i} {e} {s} h k m er =
-    let l : length (product_letters n a b) ≡ n = length-letters n a b in
-    let within : i ≤ n = m.within in
-    let i_n : i ≡ n = omega arith in
-    let i_is : i ≡ length (product_letters n a b) = omega arith in
-    let whole : e ≡ product_letters n a b ++ drop n a =
-    m.out ∙ ap (fill (product_letters n a b) a) i_is ∙ fill_all (product_letters n a b) a ∙ ap (λ (j : ℕ). product_letters n a b ++ drop j a) l in
+pub before_all : {a b : List ℕ} {p n i : ℕ} {e : List ℕ} {s r : ℕ} → n ≡ shorter a b → length (take n a) ≤ i → i ≤ length (take n a) → Before a b p n i e s
+    → r ≡ phase_byte (power s) → RowTimes a b p (e ++ drop n a) r
+before_all {a} {b} {p} {n} {i} {e} {s} h k w m er =
+    let row = product_letters n a b in
+    let l : length row ≡ n = length-letters n a b in
+    let i_n : i ≡ n = omega (arith, length-take n a) in
+    let whole : e ≡ row =
+    m.out ∙ ap (fill row (take n a)) (i_n ∙ sym l) ∙ fill_all row (take n a)
+    ∙ ap (λ (d : List ℕ). row ++ d) (drop_of_length-le (take n a) (omega arith)) ∙ append-nil row in
     record {
-      letters = rw h at whole;
+      letters = ap (λ (d : List ℕ). d ++ drop n a) whole ∙ ap (λ (j : ℕ). product_letters j a b ++ drop j a) h;
       total = er ∙ ap phase_byte m.turns ∙ ap (λ (j : ℕ). phase_byte (phase_of p · product_phase j a b)) (i_n ∙ h);
     }
-
-pub before-length : {a b : List ℕ} {p n i : ℕ} {e : List ℕ} {s : ℕ} → n ≡ shorter a b → Before a b p n i e s → length e ≡ length a
-before-length {a} {b} {p} {n} {i} h m =
-    let within : i ≤ n = m.within in
-    ap length m.out ∙ length_fill (product_letters n a b) a i (omega (arith, length-letters n a b)) (omega arith)
-
-pub room : {a b : List ℕ} {p n i : ℕ} {e : List ℕ} {s : ℕ} → n ≡ shorter a b → Before a b p n i e s → i < n → i < length e
-room h m k = omega (arith, before-length h m)
-
-pub ruleset rows = (before-none, before-step, before_all, before-length, room, rules)
 
 -- ---- what a caller reads off `RowTimes`, place by place
 pub row_made : {a b : List ℕ} {p : ℕ} {e : List ℕ} {r : ℕ} → RowTimes a b p e r → (i : ℕ) → i < shorter a b

@@ -89,7 +89,8 @@ fn see(sight: Sight, x: u8, y: u8, q: usize) -> Sight
 }
 
 // Looks through two string records at once. What is not two string records is seen as bad, so that the questions are then put one by
-// one. No Option: `mul` would need places for a None too, though `check_seen` has refused it. The place q is told, so the loop counts it.
+// one. No Option: `mul` would need places for a None too, though `check_seen` has refused it. By index: a zip would need `enumerate`
+// besides, for the place q.
 fn look(s: &[u8], t: &[u8]) -> Sight
     ensures { Looked s.now t.now result }
 {
@@ -129,8 +130,8 @@ fn add_turns(turns: u8, x: u8, y: u8) -> u8
     turns.wrapping_add(letter_turns(x, y))
 }
 
-// The product's letters at the 32 places from `at` on, taken together; the answer is the turns of their phases. By index: a zip of three
-// parts, each cut at its own place, is no plainer.
+// The product's letters at the 32 places from `at` on, taken together; the answer is the turns of their phases. By index: of what is
+// written through a zip of `iter_mut` a proof knows the length alone, and `enumerate` leaves two of three rows to the index.
 fn multiply_step(s: &[u8], t: &[u8], at: usize, row: &mut [u8]) -> u8
     requires { Stepping s.now t.now at row.old }
     ensures { Stepped s.now t.now at row.new result }

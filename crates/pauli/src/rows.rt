@@ -1,4 +1,6 @@
 // Kernels on rows of letter bytes. They stop at the shortest row and read a byte above 3 as 3, so they ask nothing of a caller.
+#![tactic(auto, using(crate::proofs::Turns::places))]
+
 ghost use Rattle.std.specs.Prelude.{◌≡◌, ◌%◌, ◌<◌, ◌≤◌, length};
 ghost use Rattle.std.specs.Option.{SomeIff};
 ghost use Rattle.pauli_group.specs.Phase.{◌·◌};
@@ -10,7 +12,6 @@ ghost use Rattle.pauli.specs.Rows.{phase_bytes_product, places_of, letter_count,
 ghost use Rattle.pauli.specs.Inside.Turns.{LetterByte, LetterBytes, ForY, LetterTurns, PhaseTurns, anticommuting, lettered, scanned_with};
 
 // A letter byte; a byte above 3 is read as 3.
-#[tactic(auto, using(crate::proofs::Turns::places))]
 fn letter_byte(x: u8) -> u8
     ensures { LetterByte x result }
 {
@@ -18,7 +19,6 @@ fn letter_byte(x: u8) -> u8
 }
 
 // k for the byte of Y, else 0.
-#[tactic(auto, using(crate::proofs::Turns::places))]
 fn for_y(x: u8, k: u8) -> u8
     requires { x ≤ 3 }
     ensures { ForY k x result }
@@ -27,7 +27,6 @@ fn for_y(x: u8, k: u8) -> u8
 }
 
 // The letter of a product of two letters: the bits of X and of Z are added.
-#[tactic(auto, using(crate::proofs::Turns::places))]
 fn times_letter(a: u8, b: u8) -> u8
     ensures { result ≡ letter_byte (letter_mul (letter_of a) (letter_of b)) }
 {
@@ -44,7 +43,6 @@ pub(crate) fn letter_turns(x: u8, y: u8) -> u8
 }
 
 // The same of any two bytes.
-#[tactic(auto, using(crate::proofs::Turns::places))]
 fn times_turns(a: u8, b: u8) -> u8
     ensures { LetterTurns a b result }
 {
@@ -76,7 +74,6 @@ fn turns_phase(t: u8) -> u8
 }
 
 // The product of two phases.
-#[tactic(auto, using(crate::proofs::Turns::places))]
 pub fn phase_times(a: u8, b: u8) -> u8
     ensures { result ≡ phase_bytes_product a b }
 {
@@ -84,7 +81,6 @@ pub fn phase_times(a: u8, b: u8) -> u8
 }
 
 // The product of two phases and of quarter turns.
-#[tactic(auto, using(crate::proofs::Turns::places))]
 pub(crate) fn turned_phase(a: u8, b: u8, turns: u8) -> u8
     ensures { result ≡ phase_byte (phase_of a · phase_of b · power turns) }
 {
@@ -93,18 +89,16 @@ pub(crate) fn turned_phase(a: u8, b: u8, turns: u8) -> u8
 }
 
 // The row acc multiplied by the row b on the right, as far as both reach; the answer is phase times the places' phases.
-// The turns are summed in a byte: it wraps at 256, a multiple of 4. By index: of what is written through a zip of `iter_mut` a proof
-// knows the length alone.
+// The turns are summed in a byte: it wraps at 256, a multiple of 4. No zip: of what is written through a zip of `iter_mut` a proof knows
+// the length alone.
 pub fn multiply_letters(acc: &mut [u8], b: &[u8], phase: u8) -> u8
     ensures { RowTimes acc.old b.now phase acc.new result }
 {
     let n = acc.len().min(b.len());
     let mut turns = phase_turns(phase);
-    for i in 0..n {
-        let x = acc[i];
-        let y = b[i];
-        turns = turns.wrapping_add(times_turns(x, y));
-        acc[i] = times_letter(x, y);
+    for (i, x) in acc[..n].iter_mut().enumerate() {
+        turns = turns.wrapping_add(times_turns(*x, b[i]));
+        *x = times_letter(*x, b[i]);
     }
     turns_phase(turns)
 }
@@ -123,7 +117,6 @@ pub fn multiply_row(row: &mut [u8], t: &[u8])
 }
 
 // 1 where two letters anticommute, else 0.
-#[tactic(auto, using(crate::proofs::Turns::places))]
 fn letters_anticommute(a: u8, b: u8) -> u8
     ensures { result ≡ anticommuting a b }
 {

@@ -70,7 +70,7 @@ fn read_entry(t: &[u8], at: usize) -> Result<Entry, Refusal>
     })
 }
 
-// The marks of all tokens from an offset on.
+// The marks of all tokens from an offset on. No `for`: where a token ends is known only when it is read.
 pub(crate) fn read_tokens(t: &[u8], start: usize) -> Result<Marks, Refusal>
     requires { start ≤ length t.now }
     ensures { result ≡ tokens_read (tokens start (drop start t.now)) }

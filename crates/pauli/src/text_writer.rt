@@ -1,7 +1,6 @@
-// Text, written into a destination from a place on. It is written as far as the destination reaches, and the answer is the place
-// after it, so that the same code counts and writes, and asks nothing of a caller. The last number stands for every place from there on.
-// The destination and the place are two parameters and no struct: the public functions have them so, and each write is one line,
-// `at = f(dst, at, ..)`.
+// Text, written into a destination from a place on, as far as the destination reaches. The answer is the place after it, also where
+// the destination ends before: the same code counts and writes, and asks nothing of a caller. The largest place stands for all beyond.
+// No struct of destination and place: the public functions take the two, and each write is one line, `at = f(dst, at, ..)`.
 ghost use Rattle.std.specs.Prelude.{◌≡◌, [], ◌∷◌};
 ghost use Rattle.pauli.specs.SparseText.{decimal};
 ghost use Rattle.pauli.specs.TextWriting.{Stored};
@@ -29,8 +28,8 @@ pub fn put_text(dst: &mut [u8], at: usize, text: &[u8]) -> usize
     at.saturating_add(text.len())
 }
 
-// The decimal numeral of a number: that of its tenth, and its last digit. By hand: `write!` fails where the buffer ends, and the length
-// is answered in full. A u64 has no From into u8; `as` is proved to keep the value.
+// The decimal numeral of a number: that of its tenth, and its last digit. By hand: `write!` into a slice fails where the slice ends, and
+// here the place after it is answered all the same. A u64 has no From into u8; `as` is proved to keep the value.
 pub fn put_decimal(dst: &mut [u8], at: usize, n: u64) -> usize
     ensures { Stored at (decimal n) dst.old dst.new result }
 {

@@ -1,3 +1,4 @@
 -- Lemmas of `vectors`.
 pub mod Counting
 pub mod Numerals
+pub mod Rooms

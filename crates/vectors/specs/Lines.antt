@@ -4,6 +4,7 @@ use Rattle.std.specs.Char.{IsAsciiDigit, IsAsciiLowercase}
 use Rattle.vectors.specs.declared.reading.TheConstants.{FIELD_ROOM}
 use Rattle.vectors.specs.declared.reading.Case.{Case}
 use Rattle.vectors.specs.declared.reading.Line.{Line}
+use Rattle.vectors.specs.declared.reading.Room.{Room}
 use Rattle.vectors.specs.declared.reading.Line.TheVariants as lines
 
 -- empty, or a comment: it starts with `#`
@@ -30,3 +31,13 @@ abbrev pub LineFits : Line → Type 0
 LineFits (lines.Case k) = CaseFits k
 LineFits lines.Blank = Unit {0}
 LineFits lines.Malformed = Unit {0}
+
+abbrev pub IsZeros : List ℕ → Type 0
+IsZeros s = EachIndex s (λ k. slice_index s k ≡ 0)
+
+-- no line is read into the room yet
+pub record Empty (r : Room) : Type 0 where
+  pub a : IsZeros r.a
+  pub b : IsZeros r.b
+  pub d : IsZeros r.d
+  pub after : IsZeros r.after

@@ -76,6 +76,7 @@ pub fn bytes<'a>(s: &[u8], buf: &'a mut [u8]) -> Option<&'a mut [u8]>
     }
     let mut n = 0;
     let mut rest = s;
+    // No `for`: where a run ends is known only when it is read.
     while !rest.is_empty() {
         let (run, after) = first_run(rest)?;
         let part = buf[n..].get_mut(..run.times)?;

@@ -1,6 +1,6 @@
 // One line as a case.
 ghost use Rattle.std.specs.Prelude.{◌≡◌, ◌≢◌, ◌↔◌, IsTrue, IfSome};
-ghost use Rattle.vectors.specs.Lines.{CaseFits, IsBlank, IsName, LineFits};
+ghost use Rattle.vectors.specs.Lines.{CaseFits, Empty, IsBlank, IsName, LineFits};
 ghost use Rattle.vectors.specs.Verdicts.{Expects, IsMatch};
 
 use crate::decode::{bytes, decimal};
@@ -88,7 +88,10 @@ fn is_name(s: &str) -> bool
 }
 
 impl Room {
-    pub fn new() -> Room {
+    #[tactic(auto, using(crate::proofs::Rooms::empty_zeros))]
+    pub fn new() -> Room
+        ensures { Empty result }
+    {
         Room {
             a: [0; FIELD_ROOM],
             b: [0; FIELD_ROOM],
@@ -104,10 +107,7 @@ impl Room {
     {
         match line {
             [] | [b'#', ..] => Line::Blank,
-            _ => match self.read_case(line) {
-                Some(case) => Line::Case(case),
-                None => Line::Malformed,
-            },
+            _ => self.read_case(line).map_or(Line::Malformed, Line::Case),
         }
     }
 

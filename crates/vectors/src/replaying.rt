@@ -15,7 +15,7 @@ const STDIN_FILENO: i32 = 0;
 
 const STDOUT_FILENO: i32 = 1;
 
-// Room for all of a program's input. A contract that gave the length would have the check count it.
+// Room for all of a program's input. A function of its own, with no contract: where the length is known, the check counts to it.
 fn text_room() -> [u8; 2097152] {
     [0; 2097152]
 }
@@ -32,7 +32,7 @@ impl fmt::Write for Output {
 }
 
 // What comes of a line. It is a match only where a call of its case came to what the case expects.
-fn outcome<'a, F: FnMut(&mut Case<'_, '_>) -> Option<Reply>>(
+fn replay_line<'a, F: FnMut(&mut Case<'_, '_>) -> Option<Reply>>(
     line: &'a [u8],
     room: &'a mut Room,
     call: &mut F,
@@ -64,7 +64,7 @@ fn replay_lines<'t, I: Iterator<Item = &'t [u8]>, F: FnMut(&mut Case<'_, '_>) ->
     let mut room = Room::new();
     let mut tally = Tally::default();
     for line in lines {
-        let outcome = outcome(line, &mut room, call);
+        let outcome = replay_line(line, &mut room, call);
         tally = tally.with(outcome);
         if let Outcome::Failed(failure) = outcome {
             let _ = writeln!(Output, "line {}: {failure}", tally.lines);
