@@ -4,7 +4,8 @@ ghost use Rattle.std.specs.Prelude.{◌≡◌};
 ghost use Rattle.pauli.specs.SparseText.{to_sparse_questions};
 ghost use Rattle.pauli.specs.Promises.{PhaseOfString, LetterOfString, PlacesCounted, FromEntries, FromSparseText, FromDenseText, FromText, SparseTextWritten};
 
-use crate::dense_reader::dense_string;
+use crate::STRING_LENGTH;
+use crate::dense_reader::{check_letters, text_end, write_dense};
 use crate::entries::{Marks, check_entries};
 use crate::questions::{check_qubit, check_room, check_string, check_strings};
 use crate::refusal::Refusal;
@@ -66,7 +67,14 @@ pub fn from_sparse_str(t: &[u8], dst: &mut [u8]) -> Result<(), Refusal>
 pub fn from_dense_str(t: &[u8], dst: &mut [u8]) -> Result<(), Refusal>
     ensures { FromDenseText t.now dst.old dst.new result }
 {
-    dense_string(t, dst)
+    check_ascii(t)?;
+    let head = read_head(t);
+    let end = text_end(t).max(head.at);
+    let body = &t[head.at..end];
+    check_letters(body, head.at)?;
+    check_room(STRING_LENGTH, dst.len())?;
+    write_dense(head.phase, body, dst);
+    Ok(())
 }
 
 // The string that a text names: sparse where it holds a digit, otherwise dense.
