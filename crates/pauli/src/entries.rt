@@ -63,8 +63,8 @@ pub(crate) fn check_entries(phase: u8, entries: &[u8]) -> Result<(), Refusal>
 // The mark of a qubit that more entries than one name.
 const TWICE: u8 = 5;
 
-// A mark for each qubit: 0 where no entry names it, 1 + its letter where one does, TWICE where more do. Bytes, and no enum: the letters
-// of all are then written in a tenth of the instructions.
+// A mark for each qubit: 0 where no entry names it, 1 + its letter where one does, TWICE where more do. Bytes, and no enum: to mark three
+// entries, look for a mark of two and write the letters took 565 instructions, with an enum 999.
 #[derive(Clone, Copy)]
 pub(crate) struct Marks([u8; QUBITS]);
 

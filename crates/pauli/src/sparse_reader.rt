@@ -58,7 +58,7 @@ fn read_entry(t: &[u8], at: usize) -> Result<Entry, Refusal>
         return Err(Refusal::NotLetter { offset: at });
     };
     let from = at + 1;
-    let next = skip_word(t, at);
+    let next = skip_word(t, from);
     if next <= from {
         return read_apart(t, at, letter);
     }
