@@ -89,7 +89,7 @@ pub fn from_str(t: &[u8], dst: &mut [u8]) -> Result<(), Refusal>
 
 // The questions of `to_sparse_str`, in their order: the room is asked for this very text.
 #[tactic(auto, using(crate::proofs::StringTexts::string_texts))]
-fn to_sparse_answer(s: &[u8], room: usize) -> Result<(), Refusal>
+fn check_to_sparse(s: &[u8], room: usize) -> Result<(), Refusal>
     ensures { result ≡ to_sparse_questions s.now room }
 {
     check_string(s)?;
@@ -100,6 +100,6 @@ fn to_sparse_answer(s: &[u8], room: usize) -> Result<(), Refusal>
 pub fn to_sparse_str(s: &[u8], dst: &mut [u8]) -> Result<usize, Refusal>
     ensures { SparseTextWritten s.now dst.old dst.new result }
 {
-    to_sparse_answer(s, dst.len())?;
+    check_to_sparse(s, dst.len())?;
     Ok(write_sparse(s[0], &s[1..], dst))
 }
