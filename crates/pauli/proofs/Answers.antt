@@ -31,16 +31,22 @@ answer-err (Ok tt) x e = cc
 answer-err {T} (Err s) {r} x e = let same : s ≡ r = cc in ap {B = Outcome} Err same
 
 -- ---- the two ways in which a function that answers a value ends
+pub answer-done : {T : Type 0} {q : Outcome} {x y : T} → Ok tt ≡ q → y ≡ x → Ok y ≡ answer_to q x
+unfolding answer_to
+answer-done {T} {x = x} h e = ap {B = Answer T} Ok e ∙ ap (λ z. answer_to z x) h
+
+pub answer-exit : {T : Type 0} {q : Outcome} {r : Answer T} {x : Refusal} (y : T) → Err x ≡ q → IsErrAnd r (λ e. e ≡ x) → r ≡ answer_to q y
+unfolding answer_to
+answer-exit {r = r} y h e = exit-is r e ∙ ap (λ z. answer_to z y) h
+
 pub answered : {T : Type 0} {value : T → ℕ} {q : Outcome} {x : T} {r : Answer T} → r ≡ answer_to q x → Answered value q x r
 answered {value = value} {q} {x} e = record { answer = e; told = ap (reply_of value) e ∙ answer-told value q x }
 
 pub answered-done : {T : Type 0} {value : T → ℕ} {q : Outcome} {x y : T} → Ok tt ≡ q → y ≡ x → Answered value q x (Ok y)
-unfolding answer_to
-answered-done {T} {q = q} {x} h e = answered (ap {B = Answer T} Ok e ∙ ap (λ z. answer_to z x) h)
+answered-done h e = answered (answer-done h e)
 
 pub answered-exit : {T : Type 0} {value : T → ℕ} {q : Outcome} {r : Answer T} {x : Refusal} (y : T) → Err x ≡ q → IsErrAnd r (λ e. e ≡ x) → Answered value q y r
-unfolding answer_to
-answered-exit {r = r} y h e = answered (exit-is r e ∙ ap (λ z. answer_to z y) h)
+answered-exit y h e = answered (answer-exit y h e)
 
 pub answered-not : {T : Type 0} {value : T → ℕ} {q : Outcome} {r : Refusal} (x : T) → Err r ≡ q → Answered value q x (Err r)
 unfolding answer_to

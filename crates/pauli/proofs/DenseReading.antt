@@ -1,6 +1,6 @@
 -- Dense text: its end, its letters, and the record that is written from them.
 use Rattle.std.proofs.Common.{◌≡◌, ℕ, suc, ◌+◌, ◌-◌, ◌<◌, ◌≤◌, max, Bool, true, false, Option, not, reverse, ◌||◌, ltb, List, ◌∷◌, ◌++◌, length, get_or, take, drop, set, sym, refl, ap, ◌∙◌, ap₂, append-nil, add-one, arith, length-drop, drop_of_length-le, length-take, take_all, drop-cons, rules, le-ltb, lt-ltb, ne_eqb, Ok, Err}
-use Rattle.std.specs.Option.{unwrap_or, is_none}
+use Rattle.std.specs.Option.{is_none}
 use Rattle.std.proofs.lemmas.List.{get_or-reverse, length-reverse}
 use borrow.Rule.Slice.PartMut.{put_mid}
 use Rattle.pauli_group.specs.PauliString.{qubits}
@@ -14,13 +14,13 @@ use Rattle.pauli.specs.Questions.{◌and_then◌, room_question}
 use Rattle.pauli.specs.Inside.Reading.{EndRead, HeadRead, letter_if, letters_named, DenseAt}
 use Rattle.pauli.specs.Inside.Marks.{RecordFits}
 use Rattle.pauli.specs.Text.{is_space, is_identity, letter_named, text_end, text_phase, body_start, ascii_question, dense_body, dense_letter, letter_questions, dense_questions, dense_string, from_dense_questions, dense_record}
-use Rattle.pauli.proofs.Answers.{answers, written-done}
-use Rattle.pauli.proofs.Asking.{own_done, own_not, first_done, first_not, in_order, and_then_assoc, asked_yes, asked_no, refused, passed, done_second, room-is, record-bytes}
+use Rattle.pauli.proofs.Answers.{written-done}
+use Rattle.pauli.proofs.Asking.{own_done, own_not, first_done, first_not, and_then_assoc, asked_yes, asked_no, refused, passed, room-is, record-bytes}
 use Rattle.pauli.proofs.EntryStrings.{put_record}
 use Rattle.pauli.proofs.Places.{first_of, first_ext, length-listed, get_d_listed, listed_ext, Filled, filled_none, filled_step, filled_length, filled_room, filled_all}
 use Rattle.pauli.proofs.Records.{letter_there}
 use Rattle.pauli.proofs.SparseReading.{letter-small}
-use Rattle.pauli.proofs.TextBytes.{named_or, named_lacks, named_has}
+use Rattle.pauli.proofs.TextBytes.{named_lacks, named_has}
 
 -- ---- I, i and 1
 pub identity-not : {c : ℕ} → (c ≡ 73 → ⊥) → (c ≡ 105 → ⊥) → (c ≡ 49 → ⊥) → false ≡ is_identity c
@@ -112,10 +112,9 @@ length-named : (n : ℕ) (b : List ℕ) → length (letters_named n b) ≡ n
 unfolding letters_named
 length-named n b = length-listed n _
 
-pub named-at : (n : ℕ) (b : List ℕ) (i : ℕ) {c x : ℕ} {r : Option ℕ} → c ≡ get_or b i 0 → r ≡ letter_if (letter_named c) → x ≡ unwrap_or r 0 → i < n
-    → x ≡ get_or (letters_named n b) i 0
+pub named-at : (n : ℕ) (b : List ℕ) (i : ℕ) {x : ℕ} → x ≡ letter_named (get_or b i 0) → i < n → x ≡ get_or (letters_named n b) i 0
 unfolding letters_named
-named-at n b i {c} ec er ex h = ex ∙ ap (λ o. unwrap_or o 0) er ∙ named_or (letter_named c) ∙ ap letter_named ec ∙ sym (get_d_listed n _ i 0 h)
+named-at n b i ex h = ex ∙ sym (get_d_listed n _ i 0 h)
 
 pub named_none : (b d : List ℕ) → Filled (letters_named (length d) b) d (length d) 0 d
 named_none b d = filled_none (omega (arith, length-named (length d) b)) (omega arith)
@@ -151,10 +150,13 @@ module _ (t b : List ℕ) (k : ℕ) (at : DenseAt t b k) where
   pub dense-asked : (room : ℕ) {r : Outcome} → r ≡ chain room → r ≡ from_dense_questions t room
   dense-asked room e = e ∙ chain_is room
 
+pub dense_not_ascii : (t : List ℕ) (room : ℕ) {x : Refusal} → Err x ≡ ascii_question t → Err x ≡ from_dense_questions t room
+unfolding from_dense_questions dense_questions
+dense_not_ascii t room h = first_not _ (first_not _ h)
+
 -- ---- the record
-pub dense-room : (t d : List ℕ) {r : Outcome} → r ≡ from_dense_questions t (length d) → r ≡ Ok tt → RecordFits d
-unfolding from_dense_questions
-dense-room t d e h = record { room = room-is 129 (length d) (done_second (dense_questions t) _ (sym e ∙ h)) }
+pub dense-room : {d : List ℕ} → Ok tt ≡ room_question 129 (length d) → RecordFits d
+dense-room {d} h = record { room = room-is 129 (length d) (sym h) }
 
 named-record : (t b : List ℕ) (k p : ℕ) → DenseAt t b k → p ≡ phase_byte (text_phase t) → p ∷ letters_named 128 b ≡ dense_record t
 unfolding dense_record string_record encode_string dense_string letters_named qubits
@@ -167,12 +169,11 @@ dense-record : (t d : List ℕ) → dense_record t ++ drop 129 d ≡ written (Ok
 unfolding dense_record
 dense-record t d = record-bytes (dense_string t) d
 
-pub dense-bytes : (t b d : List ℕ) (k p : ℕ) {r : Outcome} {e : List ℕ} → DenseAt t b k → p ≡ phase_byte (text_phase t)
-    → r ≡ from_dense_questions t (length d) → r ≡ Ok tt
+pub dense-bytes : (t b d : List ℕ) (k p : ℕ) {e : List ℕ} → DenseAt t b k → p ≡ phase_byte (text_phase t) → Ok tt ≡ from_dense_questions t (length d)
     → e ≡ p ∷ letters_named 128 b ++ drop 129 d → Written (from_dense_questions t (length d)) (dense_record t) d e (Ok tt)
-dense-bytes t b d k p at ep h done w = written-done (own_done h done) (w ∙ ap (λ (l : List ℕ). l ++ drop 129 d) (named-record t b k p at ep) ∙ dense-record t d)
+dense-bytes t b d k p at ep h w = written-done h (w ∙ ap (λ (l : List ℕ). l ++ drop 129 d) (named-record t b k p at ep) ∙ dense-record t d)
 
-pub ruleset dense_strings = (dense_written, dense-room, dense-bytes, answers, in_order, rules)
+pub ruleset dense_strings = (dense_written, rules)
 
 -- the body, from the prefix to the trimmed end
 pub dense-at : {t : List ℕ} {h : Head} {k e : ℕ} → HeadRead t h → EndRead t k → e ≡ max k h.at → length t < 18446744073709551616
@@ -186,8 +187,3 @@ dense-at {t} {h} {k} {e} head end m big =
       body = ap (λ (n : ℕ). take n (drop h.at t)) count ∙ ap (λ (j : ℕ). take (text_end t - j) (drop j t)) head.place;
       fits = omega (arith, head.within);
     }
-
-pub dense-phase : {t : List ℕ} {h : Head} → HeadRead t h → h.phase ≡ phase_byte (text_phase t)
-dense-phase head = head.phase
-
-pub ruleset dense_bodies = (dense-at, dense-phase, rules)

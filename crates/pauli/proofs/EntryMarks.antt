@@ -10,7 +10,8 @@ use Rattle.pauli.specs.declared.refusal.Refusal.TheVariants.{Length, BadByte, Qu
 use Rattle.pauli.specs.Places.{first_place}
 use Rattle.pauli.specs.Layout.{letter_of, letter_byte}
 use Rattle.pauli.specs.Entries.{entry_count, entry_letter, entry_qubit, occurrences, entry_of, entries_string}
-use Rattle.pauli.specs.Inside.Marks.{mark_more, mark_to, marks_to, first_twice, unmarked, MarkFits, Unmarked, Paired}
+use Rattle.pauli.specs.declared.entries.Marks.{Marks}
+use Rattle.pauli.specs.Inside.Marks.{mark_more, mark_to, marks_to, first_twice, unmarked, MarkFits, EntriesFit, marks_of, Paired}
 use Rattle.pauli.specs.Questions.{byte_question, even_question, first_bad_entry, entry_letters_question, first_high_entry, entry_qubits_question, entry_questions, smallest_duplicate}
 use Rattle.pauli.proofs.Asking.{asked_yes, asked_no, ask_done, done_first, done_second}
 use Rattle.pauli.proofs.Places.{NoneBefore, none_start, none_more, none_found, none_left_lem, length-listed, get_d_listed, first_le, first-is, first-before, first_has}
@@ -184,8 +185,8 @@ no_marks e = ext_get_or 0 _ (marks_to e 0) (length-replicate {A = ℕ} 128 0 ∙
     zeros : (k : ℕ) → k < 128 → get_or (replicate 128 0) k 0 ≡ get_or (marks_to e 0) k 0
     zeros k b = get_or-replicate 128 k 0 0 b ∙ sym (mark_at e 0 k b)
 
-pub marking_none : {e m : List ℕ} → Unmarked e m → Marking e 0 m
-marking_none u = record { within = omega arith; marks = u.none; letters = u.letters; places = u.places }
+pub marking_none : {e m : List ℕ} → EntriesFit e → m ≡ replicate 128 0 → Marking e 0 m
+marking_none {e} f z = record { within = omega arith; marks = z ∙ no_marks e; letters = f.letters; places = f.places }
 
 module _ {e : List ℕ} {p : List (List ℕ)} (pairs : Paired e p) {m : List ℕ} {j : ℕ} (k : Marking e j m) where
   pub marking_fits : {q : ℕ} → j < length p → q ≡ get_or (get_or p j []) 1 0 → MarkFits (get_or (get_or p j []) 0 0) q
@@ -204,11 +205,15 @@ module _ {e : List ℕ} {p : List (List ℕ)} (pairs : Paired e p) {m : List ℕ
     places = k.places;
   }
 
-  pub marking_all : length p ≤ j → m ≡ marks_to e (entry_count e)
-  marking_all l = let within : j ≤ entry_count e = k.within in let whole : j ≡ entry_count e = omega (arith, pairs.count) in k.marks ∙ ap (marks_to e) whole
+  pub marking_all : length p ≤ j → ◌≡◌ {A = Marks} (record { 0 = m }) (marks_of e)
+  marking_all l =
+      let within : j ≤ entry_count e = k.within in
+      let whole : j ≡ entry_count e = omega (arith, pairs.count) in
+      let all : m ≡ marks_to e (entry_count e) = k.marks ∙ ap (marks_to e) whole in
+      λ i. record { 0 = all i }
 
-pub marking_length : {e m d : List ℕ} {j : ℕ} → Marking e j d → Unmarked e m → length d ≡ length m
-marking_length {e} {m} {d} {j} k u = ap length k.marks ∙ length-marks e j ∙ sym (ap length u.none ∙ length-marks e 0)
+pub marking_length : {e d : List ℕ} {j : ℕ} → Marking e j d → length d ≡ 128
+marking_length {e} {j = j} k = ap length k.marks ∙ length-marks e j
 
 pub ruleset marks = (marking_none, marking_fits, marking_step, marking_length, marking_all, rules)
 

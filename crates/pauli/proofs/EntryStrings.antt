@@ -1,21 +1,22 @@
 -- Strings made from entries: the questions in their order, and the record that is written from the marks.
-use Rattle.std.proofs.Common.{◌≡◌, ℕ, ◌-◌, ◌<◌, ◌≤◌, leb, List, [], ◌∷◌, ◌++◌, length, get_or, take, drop, set, replicate, sym, refl, ap, ◌∙◌, ap₂, append-nil, not-suc-le-zero, arith, length-drop, drop_of_length-le, length-take, take_all, eqb, rules, le-leb, leb-true, Some, None, Ok, Err, true}
+use Rattle.std.proofs.Common.{◌≡◌, ℕ, ◌-◌, ◌<◌, ◌≤◌, leb, List, [], ◌∷◌, ◌++◌, length, get_or, take, drop, set, sym, refl, ap, ◌∙◌, ap₂, append-nil, not-suc-le-zero, arith, length-drop, drop_of_length-le, length-take, take_all, eqb, rules, le-leb, leb-true, Some, None, Ok, Err, true}
 use Rattle.std.specs.List.{position}
 use borrow.Author.Tests.{lt-leb}
 use borrow.Rule.Slice.PartMut.{put_mid}
 use Rattle.pauli_group.specs.PauliString.{qubits}
 use Rattle.pauli.specs.declared.refusal.Refusal.{Refusal}
 use Rattle.pauli.specs.declared.refusal.Refusal.TheVariants.{Duplicate}
+use Rattle.pauli.specs.declared.entries.Marks.{Marks}
 use Rattle.pauli.specs.Answers.{written, Written, Outcome}
 use Rattle.pauli.specs.Places.{listed}
 use Rattle.pauli.specs.Layout.{letter_byte, encode_string, string_record}
 use Rattle.pauli.specs.Entries.{entry_count, entry_letter, entries_string}
-use Rattle.pauli.specs.Inside.Marks.{marks_to, first_twice, unmarked, Unmarked, marks_question, Blank, EntriesRead, letters_marked, RecordFits}
+use Rattle.pauli.specs.Inside.Marks.{marks_to, first_twice, unmarked, EntriesFit, marks_of, marks_question, letters_marked, RecordFits}
 use Rattle.pauli.specs.Questions.{ask, ◌and_then◌, byte_question, entry_questions, smallest_duplicate, duplicate_question, room_question, with_phase_questions}
 use Rattle.pauli.specs.Strings.{entries_record}
 use Rattle.pauli.proofs.Answers.{answers, written-done}
-use Rattle.pauli.proofs.Asking.{never_done, own_done, first_done, first_not, in_order, asked_yes, asked_no, ask_done, done_first, done_second, byte_small, room-is, record-bytes}
-use Rattle.pauli.proofs.EntryMarks.{no_marks, unmark_is, letters-small, qubits-below, first_duplicate, letter-byte}
+use Rattle.pauli.proofs.Asking.{first_done, first_not, in_order, asked_yes, asked_no, ask_done, done_first, done_second, byte_small, room-is, record-bytes}
+use Rattle.pauli.proofs.EntryMarks.{unmark_is, letters-small, qubits-below, first_duplicate, letter-byte}
 use Rattle.pauli.proofs.Places.{position-at, position-none, length-listed, get_d_listed, listed_ext, Filled, filled_none, filled_step, filled_length, filled_room, filled_all}
 use Rattle.pauli.proofs.Records.{phase_there}
 
@@ -39,22 +40,18 @@ unfolding marks_question duplicate_question
 marks_question_lem e small = ap (λ (k : ℕ). ask (leb qubits k) (Duplicate k)) (first_duplicate e small)
 
 -- ---- the questions in their order
-pub read_refused : {p : ℕ} {e : List ℕ} {room : ℕ} (m : List ℕ) {x : Refusal} → Err x ≡ entry_questions p e → EntriesRead p e room m (Err x)
+pub read_refused : (p : ℕ) (e : List ℕ) (room : ℕ) {x : Refusal} → Err x ≡ entry_questions p e → Err x ≡ with_phase_questions p e room
 unfolding with_phase_questions
-read_refused m h = record { answer = first_not _ h; marks = λ d. absurd (never_done d) }
+read_refused p e room h = first_not _ h
 
-pub read_unmarked : (p : ℕ) {e m : List ℕ} → Ok tt ≡ entry_questions p e → Blank m → Unmarked e m
-read_unmarked p {e} h b = record { letters = letters-small p e (sym h); places = qubits-below p e (sym h); none = b.none e }
+pub read_fit : (p : ℕ) (e : List ℕ) → Ok tt ≡ entry_questions p e → EntriesFit e
+read_fit p e h = record { letters = letters-small p e (sym h); places = qubits-below p e (sym h) }
 
-pub read_done : (p : ℕ) (e : List ℕ) {m : List ℕ} {room : ℕ} {s : Outcome} → Ok tt ≡ entry_questions p e → m ≡ marks_to e (entry_count e)
-    → s ≡ marks_question m and_then room_question 129 room → EntriesRead p e room m s
+pub read_asked : (p : ℕ) (e : List ℕ) {m : Marks} (room : ℕ) {s : Outcome} → Ok tt ≡ entry_questions p e → m ≡ marks_of e
+    → s ≡ marks_question m.0 and_then room_question 129 room → s ≡ with_phase_questions p e room
 unfolding with_phase_questions
-read_done p e {m} {room} h em hs = record {
-  answer = first_done h (hs ∙ ap (λ q. q and_then room_question 129 room) (ap marks_question em ∙ marks_question_lem e (letters-small p e (sym h))));
-  marks = λ d. em;
-}
-
-pub ruleset entry_reads = (read_refused, read_unmarked, read_done, in_order, rules)
+read_asked p e room h em hs =
+    first_done h (hs ∙ ap (λ q. q and_then room_question 129 room) (ap (λ (m : Marks). marks_question m.0) em ∙ marks_question_lem e (letters-small p e (sym h))))
 
 -- ---- the letters written from the marks
 pub letter_marked : (n : ℕ) (m : List ℕ) (i : ℕ) {x : ℕ} → x ≡ get_or m i 0 - 1 → i < n → x ≡ get_or (letters_marked n m) i 0
@@ -110,10 +107,13 @@ module _ (p : ℕ) (e m : List ℕ) (small : p ≤ 3) (letters : (j : ℕ) → j
   marked_fit d h = record { room = h }
 
 -- ---- the record of entries
-module _ {p : ℕ} {e : List ℕ} {m : List ℕ} {r : Outcome} (d : List ℕ) (read : EntriesRead p e (length d) m r) (h : r ≡ Ok tt) where
+module _ (p : ℕ) (e : List ℕ) {m : Marks} (d : List ℕ) (all : Ok tt ≡ with_phase_questions p e (length d)) (marks : m ≡ marks_of e) where
   asked : entry_questions p e and_then duplicate_question e and_then room_question 129 (length d) ≡ Ok tt
   unfolding with_phase_questions
-  asked = sym read.answer ∙ h
+  asked = sym all
+
+  marks-are : m.0 ≡ marks_to e (entry_count e)
+  marks-are = ap (λ (x : Marks). x.0) marks
 
   entries-asked : entry_questions p e ≡ Ok tt
   entries-asked = done_first (entry_questions p e) _ asked
@@ -129,15 +129,11 @@ module _ {p : ℕ} {e : List ℕ} {m : List ℕ} {r : Outcome} (d : List ℕ) (r
   room-asked = done_second (duplicate_question e) _ (done_second (entry_questions p e) _ asked)
 
   pub marks_fit : RecordFits d
-  marks_fit = marked_fit p e m (byte_small p phase-asked) (letters-small p e entries-asked) named-asked (read.marks h) d (room-is 129 (length d) room-asked)
+  marks_fit = marked_fit p e m.0 (byte_small p phase-asked) (letters-small p e entries-asked) named-asked marks-are d (room-is 129 (length d) room-asked)
 
-  pub entries_written : {out : List ℕ} → out ≡ p ∷ letters_marked 128 m ++ drop 129 d → Written (with_phase_questions p e (length d)) (entries_record p e) d out (Ok tt)
+  pub entries_written : {out : List ℕ} → out ≡ p ∷ letters_marked 128 m.0 ++ drop 129 d → Written (with_phase_questions p e (length d)) (entries_record p e) d out (Ok tt)
   unfolding entries_record
   entries_written w =
-      written-done (own_done read.answer h) (marked_bytes p e m (byte_small p phase-asked) (letters-small p e entries-asked) named-asked (read.marks h) d w)
+      written-done all (marked_bytes p e m.0 (byte_small p phase-asked) (letters-small p e entries-asked) named-asked marks-are d w)
 
--- a fresh array of 128 zeros
-pub blank_zeros : Blank (replicate 128 0)
-blank_zeros = record { none = no_marks }
-
-pub ruleset entry_strings = (marked_written, row_fits, marks_fit, entries_written, answers, in_order, rules)
+pub ruleset entry_strings = (read_refused, read_fit, read_asked, marked_written, row_fits, marks_fit, entries_written, answers, in_order, rules)

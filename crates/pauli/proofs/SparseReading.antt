@@ -137,6 +137,16 @@ module _ (t : List ℕ) (k : ℕ) (at : WordAt t k) where
   some : 1 ≤ word-length
   some = omega (arith, ap leading_word here ∙ word_here (get_or t k 0) (drop (suc k) t) at.byte)
 
+  -- the word goes on after its first byte
+  word_from : {e : ℕ} → Skipped leading_word t (k + 1) e → Skipped leading_word t k e
+  word_from {e} s =
+      let rest : leading_word (drop (k + 1) t) ≡ leading_word (drop (suc k) t) = ap (λ (j : ℕ). leading_word (drop j t)) (add-one k) in
+      record {
+        is = omega (arith, s.is, rest, ap leading_word here ∙ word_here (get_or t k 0) (drop (suc k) t) at.byte);
+        onward = omega (arith, s.onward);
+        within = s.within;
+      }
+
   first-token : tokens k (drop k t) ≡ first ∷ tokens (k + word-length) (drop (k + word-length) t)
   first-token =
       ap (tokens k) here ∙ tokens-word k (get_or t k 0) (drop (suc k) t) at.byte
@@ -160,7 +170,10 @@ module _ (t : List ℕ) (k : ℕ) (at : WordAt t k) where
       entry-refused (ap token_questions first-token ∙ not-letter first _ (ap letter_named first_byte ∙ named_not _ e))
 
   -- a letter with its index attached
-  module _ {l e : ℕ} (named : Some l ≡ letter_if (letter_named (get_or t k 0))) (end : Skipped leading_word t k e) (long : k + 1 < e) where
+  module _ {l e : ℕ} (named : Some l ≡ letter_if (letter_named (get_or t k 0))) (after : Skipped leading_word t (k + 1) e) (long : k + 1 < e) where
+    end : Skipped leading_word t k e
+    end = word_from after
+
     el : l ≡ letter_named (get_or t k 0)
     el = (named_some _ named).0
 
@@ -178,7 +191,7 @@ module _ (t : List ℕ) (k : ℕ) (at : WordAt t k) where
 
     has : has_index first ≡ true
     unfolding has_index
-    has = lt-ltb 1 (length first.bytes) (omega (arith, first-length (omega (arith, end.within, length-drop k t)), ends))
+    has = lt-ltb 1 (length first.bytes) (omega (arith, first-length (omega (arith, ends, end.within, length-drop k t)), ends))
 
     questions_are : token_questions (tokens k (drop k t)) ≡ index_questions (k + 1) (take (e - (k + 1)) (drop (k + 1) t)) and_then token_questions (tokens e (drop e t))
     unfolding attached_questions
@@ -205,10 +218,10 @@ module _ (t : List ℕ) (k : ℕ) (at : WordAt t k) where
         → EntryRead (tokens k (drop k t)) t k r
     attached-not = entry_not (tokens k (drop k t)) t k l e (k + 1) index (omega (arith, el, letter-small (get_or t k 0))) (omega arith) end.within questions_are entries_are
 
-  pub alone : {l e : ℕ} → Some l ≡ letter_if (letter_named (get_or t k 0)) → Skipped leading_word t k e → e ≤ k + 1 → LetterAt t k l
-  alone named end h =
+  pub alone : {l e : ℕ} → Some l ≡ letter_if (letter_named (get_or t k 0)) → Skipped leading_word t (k + 1) e → e ≤ k + 1 → LetterAt t k l
+  alone named after h =
       let is = named_some _ named in
-      record { begins = at; letter = is.0; known = omega (arith, is.1); alone = omega (arith, some, end.is) }
+      record { begins = at; letter = is.0; known = omega (arith, is.1); alone = omega (arith, some, (word_from after).is) }
 
 -- ---- a letter that stands alone
 module _ (t : List ℕ) (k l f : ℕ) (at : LetterAt t k l) (skip : Skipped leading_spaces t (k + 1) f) where

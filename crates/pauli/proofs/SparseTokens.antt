@@ -1,21 +1,20 @@
 -- All tokens of a sparse text: what has been read and marked before a place.
-use Rattle.std.proofs.Common.{◌≡◌, ℕ, suc, ◌+◌, ◌-◌, ◌*◌, ◌<◌, ◌≤◌, false, eqb, List, [], ◌∷◌, ◌++◌, length, get_or, drop, set, sym, refl, ap, ◌∙◌, subst, append_assoc, append-nil, not-suc-le-zero, arith, length-append, drop_of_length-le, drop-drop, get_or-append-add, rules, Ok, Err, IsErrAnd}
-use native.Mathlib.Decide.{ℕ_discrete}
+use Rattle.std.proofs.Common.{◌≡◌, ℕ, zero, suc, ◌+◌, ◌-◌, ◌*◌, ◌<◌, ◌≤◌, Bool, true, false, cond, eqb, List, [], ◌∷◌, ◌++◌, length, get_or, drop, set, replicate, sym, refl, ap, ◌∙◌, subst, append_assoc, append-nil, not-suc-le-zero, arith, length-append, drop_of_length-le, drop-drop, get_or-append-add, rules, Ok, Err, IsErrAnd}
 use lib.ListN.{get_or-append}
 use Rattle.pauli.specs.declared.refusal.Refusal.{Refusal}
 use Rattle.pauli.specs.declared.sparse_reader.Entry.{Entry}
-use Rattle.pauli.specs.Answers.{Outcome}
+use Rattle.pauli.specs.Answers.{Answer}
+use Rattle.pauli.specs.declared.entries.Marks.{Marks}
 use Rattle.pauli_group.specs.PauliString.{qubits}
 use Rattle.pauli.specs.Entries.{entry_count, entry_letter, entry_qubit}
 use Rattle.pauli.specs.Inside.Marks.{mark_more, marks_to, MarkFits}
-use Rattle.pauli.specs.Inside.Reading.{Skipped, WordAt, OneEntry, EntryRead, BodyAt, GoodEntries, TokensRead}
-use Rattle.pauli.specs.Text.{is_space, leading_spaces, Token, tokens, token_questions, token_entries}
-use Rattle.pauli.proofs.EntryMarks.{mark_ext, length-marks, mark_step}
+use Rattle.pauli.specs.Inside.Reading.{Skipped, WordAt, OneEntry, EntryRead, tokens_read}
+use Rattle.pauli.specs.Text.{is_space, leading_spaces, Token, tokens, token_questions, token_entries, attached_entry, apart_entry, has_index}
+use Rattle.pauli.proofs.EntryMarks.{no_marks, mark_ext, length-marks, mark_step}
 use Rattle.pauli.proofs.Places.{listed_ext}
-use Rattle.pauli.proofs.SparseReading.{space-ends, no_more}
+use Rattle.pauli.proofs.SparseReading.{space-ends, no_more, letter-small}
 use Rattle.pauli.proofs.Tokens.{tokens_skip}
-use Rattle.pauli.proofs.Answers.{exit-is}
-use Rattle.pauli.proofs.Asking.{never_done}
+use Rattle.pauli.proofs.Answers.{answer-done, answer-exit}
 
 -- ---- one entry more at the end of a list of entries
 module _ (e : List ℕ) (l q : ℕ) (even : length e ≡ entry_count e + entry_count e) where
@@ -64,28 +63,22 @@ marks-more e l q even h =
     ∙ mark_step (more e l q even) (entry_count e) l q (sym (letter_new e l q even)) (sym (qubit_new e l q even)) h
     ∙ ap (marks_to (more e l q even)) (sym (count-more e l q even))
 
-good_more : (e : List ℕ) (l q : ℕ) → GoodEntries e → l ≤ 3 → q < 128 → GoodEntries (e ++ (l ∷ q ∷ []))
-good_more e l q g hl hq = record {
-  even = even-more e l q g.even;
-  letters = λ j h. letter j (omega (arith, count-more e l q g.even));
-  places = λ j h. place j (omega (arith, count-more e l q g.even));
-}
+-- ---- the letters of entries that tokens name
+letters-cons : (l q : ℕ) (e : List ℕ) → l ≤ 3 → ((j : ℕ) → entry_letter e j ≤ 3) → (j : ℕ) → entry_letter (l ∷ q ∷ e) j ≤ 3
+unfolding entry_letter
+letters-cons l q e h k zero = h
+letters-cons l q e h k (suc j) = let place : 2 * suc j ≡ suc (suc (2 * j)) = omega arith in omega (arith, ap (λ (i : ℕ). get_or (l ∷ q ∷ e) i 0) place, k j)
+
+pub token_letters : (ws : List Token) (j : ℕ) → entry_letter (token_entries ws) j ≤ 3
+unfolding token_entries attached_entry apart_entry entry_letter
+token_letters [] j = omega arith
+token_letters (w ∷ []) j = letters-cons _ _ [] (letter-small (get_or w.bytes 0 0)) (λ i. omega arith) j
+token_letters (w ∷ x ∷ ws) j = go (has_index w) (token_letters (x ∷ ws)) (token_letters ws)
   where
-    letter : (j : ℕ) → j < suc (entry_count e) → entry_letter (e ++ (l ∷ q ∷ [])) j ≤ 3
-    letter j h = elim (ℕ_discrete j (entry_count e)) [
-      | yes d ↦ omega (arith, ap (entry_letter (e ++ (l ∷ q ∷ []))) d, letter_new e l q g.even)
-      | no d ↦ let b : j < entry_count e = omega arith in omega (arith, letter_kept e l q g.even j b, g.letters j b)
-    ]
-
-    place : (j : ℕ) → j < suc (entry_count e) → entry_qubit (e ++ (l ∷ q ∷ [])) j < 128
-    place j h = elim (ℕ_discrete j (entry_count e)) [
-      | yes d ↦ omega (arith, ap (entry_qubit (e ++ (l ∷ q ∷ []))) d, qubit_new e l q g.even)
-      | no d ↦ let b : j < entry_count e = omega arith in omega (arith, qubit_kept e l q g.even j b, g.places j b)
-    ]
-
-good_none : GoodEntries []
-unfolding entry_count
-good_none = record { even = refl; letters = λ j h. absurd (not-suc-le-zero h); places = λ j h. absurd (not-suc-le-zero h) }
+    go : (b : Bool) → ((i : ℕ) → entry_letter (token_entries (x ∷ ws)) i ≤ 3) → ((i : ℕ) → entry_letter (token_entries ws) i ≤ 3)
+        → entry_letter (cond b (attached_entry w ++ token_entries (x ∷ ws)) (apart_entry w x ++ token_entries ws)) j ≤ 3
+    go true h k = letters-cons _ _ (token_entries (x ∷ ws)) (letter-small (get_or w.bytes 0 0)) h j
+    go false h k = letters-cons _ _ (token_entries ws) (letter-small (get_or w.bytes 0 0)) k j
 
 -- ---- the tokens ws of t, read up to place k
 pub record Reading (ws : List Token) (t : List ℕ) (k : ℕ) (m : List ℕ) : Type 0 where
@@ -93,7 +86,7 @@ pub record Reading (ws : List Token) (t : List ℕ) (k : ℕ) (m : List ℕ) : T
   pub within : k ≤ length t
   pub begins : k < length t → is_space (get_or t k 0) ≡ false
   pub marks : m ≡ marks_to seen (entry_count seen)
-  pub good : GoodEntries seen
+  pub even : length seen ≡ entry_count seen + entry_count seen
   pub questions : token_questions ws ≡ token_questions (tokens k (drop k t))
   pub entries : token_entries ws ≡ seen ++ token_entries (tokens k (drop k t))
 
@@ -101,20 +94,17 @@ skip_tokens : (t : List ℕ) (n k : ℕ) → Skipped leading_spaces t n k → to
 skip_tokens t n k s =
     tokens_skip n (drop n t) ∙ ap (tokens (n + leading_spaces (drop n t))) (drop-drop (leading_spaces (drop n t)) n t) ∙ ap (λ (j : ℕ). tokens j (drop j t)) (sym s.is)
 
-pub reading-none : {t m : List ℕ} {s k : ℕ} → BodyAt t s m → Skipped leading_spaces t s k → Reading (tokens s (drop s t)) t k m
+pub reading-none : {t m : List ℕ} {s k : ℕ} → m ≡ replicate 128 0 → Skipped leading_spaces t s k → Reading (tokens s (drop s t)) t k m
 unfolding entry_count
-reading-none {t} {m} {s} {k} b h = record {
+reading-none {t} {m} {s} {k} z h = record {
   seen = [];
   within = h.within;
   begins = space-ends t s k h;
-  marks = b.blank.none [];
-  good = good_none;
+  marks = z ∙ no_marks [];
+  even = refl;
   questions = ap token_questions (skip_tokens t s k h);
   entries = ap token_entries (skip_tokens t s k h);
 }
-
-pub reading_start : {t m : List ℕ} {s : ℕ} → BodyAt t s m → s ≤ length t
-reading_start b = b.within
 
 pub reading-word : {ws : List Token} {t m : List ℕ} {k : ℕ} → Reading ws t k m → k < length t → WordAt t k
 reading-word r l = record { within = l; byte = r.begins l }
@@ -138,45 +128,35 @@ module _ {ws : List Token} {t m : List ℕ} {k : ℕ} {e : Entry} (r : Reading w
     seen = r.seen ++ (e.letter ∷ e.qubit ∷ []);
     within = s.within;
     begins = space-ends t e.next j s;
-    marks = ed ∙ ap (λ (x : List ℕ). set x e.qubit (mark_more (get_or x e.qubit 0) e.letter)) r.marks ∙ marks-more r.seen e.letter e.qubit r.good.even one.place;
-    good = good_more r.seen e.letter e.qubit r.good one.letter one.place;
+    marks = ed ∙ ap (λ (x : List ℕ). set x e.qubit (mark_more (get_or x e.qubit 0) e.letter)) r.marks ∙ marks-more r.seen e.letter e.qubit r.even one.place;
+    even = even-more r.seen e.letter e.qubit r.even;
     questions = r.questions ∙ one.questions ∙ ap token_questions (skip_tokens t e.next j s);
     entries = r.entries ∙ ap (λ (x : List ℕ). r.seen ++ x) (one.entries ∙ ap (λ (w : List Token). e.letter ∷ e.qubit ∷ token_entries w) (skip_tokens t e.next j s))
         ∙ sym (append_assoc r.seen (e.letter ∷ e.qubit ∷ []) (token_entries (tokens j (drop j t))));
   }
 
-pub reading-refused : {ws : List Token} {t m : List ℕ} {k : ℕ} {x : Refusal} {o : Outcome} → Reading ws t k m → EntryRead (tokens k (drop k t)) t k (Err x)
-    → IsErrAnd o (λ e. e ≡ x) → TokensRead ws m o
-reading-refused {ws} {m = m} {x = x} r read h = subst (TokensRead ws m) (sym (exit-is _ h)) (record {
-  answer = sym (r.questions ∙ read.refused x refl);
-  marks = λ d. absurd (never_done d);
-  good = λ d. absurd (never_done d);
-})
+pub reading-refused : {ws : List Token} {t m : List ℕ} {k : ℕ} {x : Refusal} {o : Answer Marks} → Reading ws t k m → EntryRead (tokens k (drop k t)) t k (Err x)
+    → IsErrAnd o (λ e. e ≡ x) → o ≡ tokens_read ws
+reading-refused {x = x} r read h = answer-exit _ (sym (r.questions ∙ read.refused x refl)) h
 
-pub reading_done : {ws : List Token} {t m : List ℕ} {k : ℕ} → Reading ws t k m → length t ≤ k → TokensRead ws m (Ok tt)
+pub reading_done : {ws : List Token} {t m : List ℕ} {k : ℕ} → Reading ws t k m → length t ≤ k → Ok (record { 0 = m }) ≡ tokens_read ws
 unfolding token_questions token_entries
 reading_done {ws} {t} {m} {k} r l =
     let left : tokens k (drop k t) ≡ [] = no_more k (drop k t) (drop_of_length-le t l) in
     let all : token_entries ws ≡ r.seen = r.entries ∙ ap (λ (w : List Token). r.seen ++ token_entries w) left ∙ append-nil r.seen in
-    record {
-      answer = sym (r.questions ∙ ap token_questions left);
-      marks = λ e. r.marks ∙ ap (λ (x : List ℕ). marks_to x (entry_count x)) (sym all);
-      good = λ e. subst GoodEntries (sym all) r.good;
-    }
+    let marks : m ≡ marks_to (token_entries ws) (entry_count (token_entries ws)) = r.marks ∙ ap (λ (x : List ℕ). marks_to x (entry_count x)) (sym all) in
+    answer-done (sym (r.questions ∙ ap token_questions left)) (λ i. record { 0 = marks i })
 
-pub reading-length : {ws : List Token} {t m d : List ℕ} {s k : ℕ} → BodyAt t s m → Reading ws t k d → length d ≡ length m
-reading-length b r = ap length r.marks ∙ length-marks r.seen _ ∙ sym (ap length (b.blank.none []) ∙ length-marks [] 0)
+pub reading-length : {ws : List Token} {t d : List ℕ} {k : ℕ} → Reading ws t k d → length d ≡ 128
+reading-length r = ap length r.marks ∙ length-marks r.seen _
 
 pub ruleset readings = (
   reading-none,
-  reading_start,
   reading-word,
   reading-fits,
   reading-next,
   reading_less,
   reading_step,
-  reading-refused,
-  reading_done,
   reading-length,
   rules,
 )

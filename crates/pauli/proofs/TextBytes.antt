@@ -1,5 +1,5 @@
 -- Bytes of text: what the tests on them find.
-use Rattle.std.proofs.Common.{◌≡◌, ℕ, zero, suc, ◌+◌, ◌<◌, ◌≤◌, Bool, true, false, cond, ◌&&◌, ◌||◌, leb, ◌⊎◌, List, length, get_or, drop, sym, refl, ap, ◌∙◌, ap₂, inl, inr, add-one, arith, length-drop, ne_eqb, eqb-true, le-leb, Some, None, Ok, Err}
+use Rattle.std.proofs.Common.{◌≡◌, ℕ, zero, suc, ◌+◌, ◌<◌, ◌≤◌, Bool, true, false, cond, ◌&&◌, ◌||◌, leb, ◌⊎◌, List, length, get_or, get_or-drop, drop, sym, refl, ap, ◌∙◌, ap₂, inl, inr, arith, length-drop, ne_eqb, eqb-true, le-leb, Some, None, Ok, Err}
 use Rattle.std.specs.List.{position}
 use Rattle.std.specs.Option.{unwrap_or, is_none}
 use native.Mathlib.Decide.{dec_lt}
@@ -80,6 +80,10 @@ ascii_all t e = asked_yes (NotAscii (length t)) (le-leb (length t) (length t) (o
 pub past_end : (t : List ℕ) (k : ℕ) → length t ≤ k → 0 ≡ get_or t k 0
 past_end t k h = sym (get_or-eq_default t 0 h)
 
+pub unnamed_past : (t : List ℕ) (k : ℕ) → length t ≤ k → letter_named (get_or t k 0) ≡ 0
+unfolding letter_named
+unnamed_past t k h = ap letter_named (sym (past_end t k h))
+
 small_i : (b : ℕ) → is_small_i b ≡ true → b ≡ 105
 unfolding is_small_i
 small_i b e = eqb-true b 105 e
@@ -138,10 +142,14 @@ prefix-two a b = go (is_sign a) (is_small_i a) (is_small_i b) refl
     go false true r e = inl (omega arith)
     go false false r e = inl (omega arith)
 
+nothing : (b : ℕ) → 0 ≡ prefix_length 0 b
+unfolding prefix_length is_sign is_small_i
+nothing b = refl
+
 -- a prefix is made of bytes of the text: past its end there is no i
-prefix-within : (t : List ℕ) (k : ℕ) → k < length t → k + prefix_length (get_or t k 0) (get_or t (suc k) 0) ≤ length t
+prefix-within : (t : List ℕ) (k : ℕ) → k ≤ length t → k + prefix_length (get_or t k 0) (get_or t (suc k) 0) ≤ length t
 prefix-within t k h = elim (prefix-two (get_or t k 0) (get_or t (suc k) 0)) [
-  | inl l ↦ omega arith
+  | inl l ↦ elim (dec_lt k (length t)) [ yes b ↦ omega arith | no b ↦ omega (arith, ap (λ (x : ℕ). prefix_length x (get_or t (suc k) 0)) (past_end t k (omega arith)), nothing (get_or t (suc k) 0)) ]
   | inr l ↦ elim (dec_lt (suc k) (length t)) [
     | yes b ↦ omega (arith, l.0)
     | no b ↦ absurd (never (past_end t (suc k) (omega arith) ∙ l.1))
@@ -162,29 +170,18 @@ pub spaces_within : (t : List ℕ) → leading_spaces t ≤ length t
 unfolding leading_spaces
 spaces_within t = first_le (length t) _
 
-nothing : (b : ℕ) → (PlusOne ≡ prefix_phase 0 b) × (0 ≡ prefix_length 0 b)
-unfolding prefix_phase prefix_length is_sign is_small_i
-nothing b = (refl, refl)
-
-pub head-none : (t : List ℕ) {k : ℕ} → k ≡ leading_spaces t → length t ≤ k → HeadRead t (record { phase = 0; at = k })
-unfolding phase_byte
-head-none t {k} e h =
-    let first : 0 ≡ get_or t k 0 = past_end t k h in
-    let second : ℕ = get_or t (suc k) 0 in
-    let phase : PlusOne ≡ text_phase t = (nothing second).0 ∙ ap (λ (x : ℕ). prefix_phase x second) first ∙ (head_at t k e).0 in
-    let none : 0 ≡ prefix_length (get_or t k 0) second = (nothing second).1 ∙ ap (λ (x : ℕ). prefix_length x second) first in
-    record { phase = ap phase_byte phase; place = omega (arith, none, (head_at t k e).1); within = omega (arith, spaces_within t) }
-
-pub head-some : (t : List ℕ) {k b : ℕ} {p : Prefix} → k ≡ leading_spaces t → k < length t → b ≡ get_or t (k + 1) 0 → PrefixRead (get_or t k 0) b p
+pub head_read : (t : List ℕ) {k : ℕ} {p : Prefix} → k ≡ leading_spaces t → PrefixRead (get_or (from k t) 0 0) (get_or (from k t) 1 0) p
     → HeadRead t (record { phase = p.phase; at = k + p.length })
-head-some t {k} {b} {p} e h eb r =
-    let second : b ≡ get_or t (suc k) 0 = eb ∙ ap (λ (j : ℕ). get_or t j 0) (add-one k) in
-    let long : p.length ≡ prefix_length (get_or t k 0) (get_or t (suc k) 0) = r.length ∙ ap (prefix_length (get_or t k 0)) second in
+head_read t {k} {p} e r =
+    let long : p.length ≡ prefix_length (get_or t k 0) (get_or t (suc k) 0) = r.length ∙ ap₂ prefix_length (byte 0 k (omega arith)) (byte 1 (suc k) (omega arith)) in
     record {
-      phase = r.phase ∙ ap (λ (x : ℕ). phase_byte (prefix_phase (get_or t k 0) x)) second ∙ ap phase_byte (head_at t k e).0;
+      phase = r.phase ∙ ap₂ (λ (x y : ℕ). phase_byte (prefix_phase x y)) (byte 0 k (omega arith)) (byte 1 (suc k) (omega arith)) ∙ ap phase_byte (head_at t k e).0;
       place = omega (arith, long, (head_at t k e).1);
-      within = omega (arith, long, prefix-within t k h);
+      within = omega (arith, long, prefix-within t k (omega (arith, spaces_within t)));
     }
+  where
+    byte : (i j : ℕ) → k + i ≡ j → get_or (from k t) i 0 ≡ get_or t j 0
+    byte i j h = ap (λ (s : List ℕ). get_or s i 0) (from_is k t) ∙ get_or-drop k t i 0 ∙ ap (λ (n : ℕ). get_or t n 0) h
 
 -- ---- where white space or a word ends
 pub words-within : (t : List ℕ) → leading_word t ≤ length t

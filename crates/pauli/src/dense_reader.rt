@@ -1,14 +1,12 @@
 // Dense text: a letter for each qubit, from the prefix to the trimmed end. Ports `from_dense_str` of pauli_string.rs of PECOS, changed:
 // Copyright 2024 The PECOS Developers, Apache License, Version 2.0.
-ghost use Rattle.std.specs.Prelude.{◌≡◌, ◌+◌, ◌<◌, ◌∷◌, ◌++◌, length, drop};
-ghost use Rattle.pauli.specs.Inside.Reading.{EndRead, DenseAt, letters_named};
+ghost use Rattle.std.specs.Prelude.{◌≡◌, ◌+◌, ◌<◌, ◌∷◌, ◌++◌, length, drop, slice_index};
+ghost use Rattle.pauli.specs.Inside.Reading.{EndRead, letters_named};
 ghost use Rattle.pauli.specs.Inside.Marks.{RecordFits};
-ghost use Rattle.pauli.specs.Text.{is_identity, dense_letter, letter_questions, from_dense_questions};
-ghost use Rattle.pauli.specs.Promises.{FromDenseText};
+ghost use Rattle.pauli.specs.Text.{is_identity, letter_named, dense_letter, letter_questions};
 
-use crate::questions::check_room;
 use crate::refusal::Refusal;
-use crate::text::{byte_at, check_ascii, is_space, letter_named, read_head};
+use crate::text::{is_space, letter_named};
 use crate::{QUBITS, STRING_LENGTH};
 
 // I, i or 1.
@@ -20,7 +18,7 @@ fn is_identity(c: u8) -> bool
 }
 
 // The place after the last byte that is no white space.
-fn text_end(t: &[u8]) -> usize
+pub(crate) fn text_end(t: &[u8]) -> usize
     ensures { EndRead t.now result }
 {
     t.len()
@@ -49,7 +47,7 @@ fn check_letter(c: u8, offset: usize, qubit: usize) -> Result<(), Refusal>
 
 // The letters of a body that begins at this offset, one after another.
 #[tactic(auto, using(crate::proofs::DenseReading::letterings))]
-fn check_letters(body: &[u8], offset: usize) -> Result<(), Refusal>
+pub(crate) fn check_letters(body: &[u8], offset: usize) -> Result<(), Refusal>
     requires { offset + length body.now < 18446744073709551616 }
     ensures { result ≡ letter_questions offset 0 body.now }
 {
@@ -59,43 +57,31 @@ fn check_letters(body: &[u8], offset: usize) -> Result<(), Refusal>
     Ok(())
 }
 
+// The letter that a body names for a qubit; I past its end.
+#[tactic(auto, using(crate::proofs::TextBytes::named_or, crate::proofs::TextBytes::unnamed_past))]
+fn letter_at(body: &[u8], qubit: usize) -> u8
+    ensures { result ≡ letter_named (slice_index body.now qubit) }
+{
+    match body.get(qubit) {
+        Some(c) => letter_named(*c).unwrap_or(0),
+        None => 0,
+    }
+}
+
 // The letters that a body names, over the destination; I past its end.
 fn write_named(body: &[u8], dst: &mut [u8])
     ensures { dst.new ≡ letters_named (length dst.old) body.now }
 {
     for (i, letter) in dst.iter_mut().enumerate() {
-        *letter = letter_named(byte_at(body, i)).unwrap_or(0);
+        *letter = letter_at(body, i);
     }
 }
 
 // The string record with this phase and the letters of this body.
-fn write_dense(phase: u8, body: &[u8], dst: &mut [u8])
+pub(crate) fn write_dense(phase: u8, body: &[u8], dst: &mut [u8])
     requires { RecordFits dst.old }
     ensures { dst.new ≡ phase ∷ letters_named 128 body.now ++ drop 129 dst.old }
 {
     write_named(body, &mut dst[1..STRING_LENGTH]);
     dst[0] = phase;
-}
-
-// The questions put to a dense text with this body, in their order.
-fn dense_answer(t: &[u8], body: &[u8], offset: usize, room: usize) -> Result<(), Refusal>
-    requires { DenseAt t.now body.now offset }
-    ensures { result ≡ from_dense_questions t.now room }
-{
-    check_ascii(t)?;
-    check_letters(body, offset)?;
-    check_room(STRING_LENGTH, room)
-}
-
-// The string of a dense text.
-pub(crate) fn dense_string(t: &[u8], dst: &mut [u8]) -> Result<(), Refusal>
-    ensures { FromDenseText t.now dst.old dst.new result }
-{
-    let head = read_head(t);
-    let at = head.at;
-    let end = text_end(t).max(at);
-    let body = &t[at..end];
-    dense_answer(t, body, at, dst.len())?;
-    write_dense(head.phase, body, dst);
-    Ok(())
 }

@@ -4,14 +4,15 @@ ghost use Rattle.std.specs.Prelude.{◌≡◌};
 ghost use Rattle.pauli.specs.SparseText.{to_sparse_questions};
 ghost use Rattle.pauli.specs.Promises.{PhaseOfString, LetterOfString, PlacesCounted, FromEntries, FromSparseText, FromDenseText, FromText, SparseTextWritten};
 
-use crate::dense_reader::dense_string;
-use crate::entries::{Marks, read_entries};
+use crate::STRING_LENGTH;
+use crate::dense_reader::{check_letters, text_end, write_dense};
+use crate::entries::{Marks, check_entries};
 use crate::questions::{check_qubit, check_room, check_string, check_strings};
 use crate::refusal::Refusal;
 use crate::rows::count_anticommuting;
-use crate::sparse_reader::sparse_string;
+use crate::sparse_reader::read_tokens;
 use crate::sparse_text::{sparse_length, write_sparse};
-use crate::text::any_digit;
+use crate::text::{any_digit, check_ascii, read_head};
 
 // The phase of a string record.
 pub fn phase(s: &[u8]) -> Result<u8, Refusal>
@@ -43,8 +44,9 @@ pub fn anticommuting_places(s: &[u8], t: &[u8]) -> Result<usize, Refusal>
 pub fn with_phase_and_paulis(phase: u8, entries: &[u8], dst: &mut [u8]) -> Result<(), Refusal>
     ensures { FromEntries phase entries.now dst.old dst.new result }
 {
-    let mut marks = Marks::new();
-    read_entries(phase, entries, &mut marks, dst.len())?;
+    check_entries(phase, entries)?;
+    let marks = Marks::of(entries);
+    marks.check(dst.len())?;
     marks.write(phase, dst);
     Ok(())
 }
@@ -53,14 +55,26 @@ pub fn with_phase_and_paulis(phase: u8, entries: &[u8], dst: &mut [u8]) -> Resul
 pub fn from_sparse_str(t: &[u8], dst: &mut [u8]) -> Result<(), Refusal>
     ensures { FromSparseText t.now dst.old dst.new result }
 {
-    sparse_string(t, dst)
+    check_ascii(t)?;
+    let head = read_head(t);
+    let marks = read_tokens(t, head.at)?;
+    marks.check(dst.len())?;
+    marks.write(head.phase, dst);
+    Ok(())
 }
 
 // The string that a dense text names.
 pub fn from_dense_str(t: &[u8], dst: &mut [u8]) -> Result<(), Refusal>
     ensures { FromDenseText t.now dst.old dst.new result }
 {
-    dense_string(t, dst)
+    check_ascii(t)?;
+    let head = read_head(t);
+    let end = text_end(t).max(head.at);
+    let body = &t[head.at..end];
+    check_letters(body, head.at)?;
+    check_room(STRING_LENGTH, dst.len())?;
+    write_dense(head.phase, body, dst);
+    Ok(())
 }
 
 // The string that a text names: sparse where it holds a digit, otherwise dense.
@@ -75,7 +89,7 @@ pub fn from_str(t: &[u8], dst: &mut [u8]) -> Result<(), Refusal>
 
 // The questions of `to_sparse_str`, in their order: the room is asked for this very text.
 #[tactic(auto, using(crate::proofs::StringTexts::string_texts))]
-fn to_sparse_answer(s: &[u8], room: usize) -> Result<(), Refusal>
+fn check_to_sparse(s: &[u8], room: usize) -> Result<(), Refusal>
     ensures { result ≡ to_sparse_questions s.now room }
 {
     check_string(s)?;
@@ -86,6 +100,6 @@ fn to_sparse_answer(s: &[u8], room: usize) -> Result<(), Refusal>
 pub fn to_sparse_str(s: &[u8], dst: &mut [u8]) -> Result<usize, Refusal>
     ensures { SparseTextWritten s.now dst.old dst.new result }
 {
-    to_sparse_answer(s, dst.len())?;
+    check_to_sparse(s, dst.len())?;
     Ok(write_sparse(s[0], &s[1..], dst))
 }

@@ -1,17 +1,17 @@
 // Sparse text, token by token: each letter with its index is read and its qubit marked. Ports `from_sparse_str` of pauli_string.rs of
 // PECOS, changed: Copyright 2024 The PECOS Developers, Apache License, Version 2.0.
-ghost use Rattle.std.specs.Prelude.{◌≡◌, drop};
-ghost use Rattle.pauli.specs.Inside.Reading.{LetterAt, WordAt, EntryRead, BodyAt, TokensRead, SparseAt, SparseRead};
+ghost use Rattle.std.specs.Prelude.{◌≡◌, ◌≤◌, length, drop};
+ghost use Rattle.pauli.specs.Inside.Reading.{LetterAt, WordAt, EntryRead, tokens_read};
 ghost use Rattle.pauli.specs.Answers.{answer_to};
 ghost use Rattle.pauli.specs.Text.{tokens, index_questions, index_value};
-ghost use Rattle.pauli.specs.Promises.{FromSparseText};
 
 use crate::QUBITS;
 use crate::entries::Marks;
 use crate::refusal::Refusal;
-use crate::text::{check_ascii, letter_named, read_head, read_numeral, skip_spaces, skip_word};
+use crate::text::{letter_named, read_numeral, skip_spaces, skip_word};
 
-// One letter and its qubit, and the offset after them.
+// One letter and its qubit, and the offset after them. A text and an offset in it are no struct: what is refused is told by its offset,
+// and an index is the text between two.
 #[derive(Clone, Copy)]
 pub(crate) struct Entry {
     pub letter: u8,
@@ -59,7 +59,7 @@ fn read_entry(t: &[u8], at: usize) -> Result<Entry, Refusal>
         return Err(Refusal::NotLetter { offset: at });
     };
     let from = at + 1;
-    let next = skip_word(t, at);
+    let next = skip_word(t, from);
     if next <= from {
         return read_apart(t, at, letter);
     }
@@ -71,38 +71,17 @@ fn read_entry(t: &[u8], at: usize) -> Result<Entry, Refusal>
     })
 }
 
-// All tokens from an offset on, up to one that is refused: each entry is marked. No `for`: where a token ends is known only when it is
-// read.
-pub(crate) fn read_tokens(t: &[u8], start: usize, marks: &mut Marks) -> Result<(), Refusal>
-    requires { BodyAt t.now start marks.old.0 }
-    ensures { TokensRead (tokens start (drop start t.now)) marks.new.0 result }
+// The marks of all tokens from an offset on. No `for`: where a token ends is known only when it is read.
+pub(crate) fn read_tokens(t: &[u8], start: usize) -> Result<Marks, Refusal>
+    requires { start ≤ length t.now }
+    ensures { result ≡ tokens_read (tokens start (drop start t.now)) }
 {
+    let mut marks = Marks::new();
     let mut at = skip_spaces(t, start);
     while at < t.len() {
         let entry = read_entry(t, at)?;
         marks.mark(entry.letter, entry.qubit);
         at = skip_spaces(t, entry.next);
     }
-    Ok(())
-}
-
-// The questions put to a sparse text whose body begins at this offset, in their order; its entries are left marked.
-fn sparse_answer(t: &[u8], at: usize, marks: &mut Marks, room: usize) -> Result<(), Refusal>
-    requires { SparseAt t.now at marks.old.0 }
-    ensures { SparseRead t.now room marks.new.0 result }
-{
-    check_ascii(t)?;
-    read_tokens(t, at, marks)?;
-    marks.check(room)
-}
-
-// The string of a sparse text.
-pub(crate) fn sparse_string(t: &[u8], dst: &mut [u8]) -> Result<(), Refusal>
-    ensures { FromSparseText t.now dst.old dst.new result }
-{
-    let head = read_head(t);
-    let mut marks = Marks::new();
-    sparse_answer(t, head.at, &mut marks, dst.len())?;
-    marks.write(head.phase, dst);
-    Ok(())
+    Ok(marks)
 }

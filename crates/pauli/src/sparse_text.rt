@@ -58,7 +58,8 @@ fn write_place(dst: &mut [u8], first: usize, at: usize, letter: u8, qubit: usize
     write_entry(dst, next, letter, qubit)
 }
 
-// The sparse text of a phase and a row of letters, of which the first 128 count, over the front of the destination: I where no
+// Phase and letters are no struct: a string record and a tableau's image hold them at places of their own, and each caller would first
+// make one. The sparse text of a phase and a row of letters, of which the first 128 count, over the front of the destination: I where no
 // entry was written.
 pub(crate) fn write_sparse(phase: u8, letters: &[u8], dst: &mut [u8]) -> usize
     ensures { TextWritten (row_text phase letters.now) dst.old dst.new result }

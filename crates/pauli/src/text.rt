@@ -56,13 +56,6 @@ pub(crate) fn check_ascii(t: &[u8]) -> Result<(), Refusal>
     }
 }
 
-// The byte at a place, 0 past the end.
-pub(crate) fn byte_at(t: &[u8], k: usize) -> u8
-    ensures { result ≡ slice_index t.now k }
-{
-    t.get(k).copied().unwrap_or(0)
-}
-
 // Not a `Head`: a prefix has a length and no place.
 #[derive(Clone, Copy)]
 pub(crate) struct Prefix {
@@ -70,17 +63,17 @@ pub(crate) struct Prefix {
     pub length: usize,
 }
 
-// The prefix at a text's first two bytes.
+// The prefix that a text begins with.
 #[tactic(auto, using(std::proofs::lemmas::Bool::Decides::nat_tests), unfolding(crate::specs::Text::prefix_phase, crate::specs::Text::prefix_length, crate::specs::Text::is_sign, crate::specs::Text::is_small_i, crate::specs::Layout::phase_byte))]
-fn read_prefix(a: u8, b: u8) -> Prefix
-    ensures { PrefixRead a b result }
+fn read_prefix(t: &[u8]) -> Prefix
+    ensures { PrefixRead (slice_index t.now 0) (slice_index t.now 1) result }
 {
-    let (phase, length) = match (a, b) {
-        (b'+', b'i') => (2, 2),
-        (b'+', _) => (0, 1),
-        (b'-', b'i') => (3, 2),
-        (b'-', _) => (1, 1),
-        (b'i', _) => (2, 1),
+    let (phase, length) = match t {
+        [b'+', b'i', ..] => (2, 2),
+        [b'+', ..] => (0, 1),
+        [b'-', b'i', ..] => (3, 2),
+        [b'-', ..] => (1, 1),
+        [b'i', ..] => (2, 1),
         _ => (0, 0),
     };
     Prefix { phase, length }
@@ -97,17 +90,14 @@ pub(crate) fn read_head(t: &[u8]) -> Head
     ensures { HeadRead t.now result }
 {
     let at = skip_spaces(t, 0);
-    if t.len() <= at {
-        return Head { phase: 0, at };
-    }
-    let p = read_prefix(t[at], byte_at(t, at + 1));
+    let p = read_prefix(&t[at..]);
     Head {
         phase: p.phase,
         at: at + p.length,
     }
 }
 
-// Whether a text is read as sparse: the rule of `from_str` comes down to any digit in it.
+// A text is read as sparse where it has a digit.
 pub(crate) fn any_digit(t: &[u8]) -> bool
     ensures { result ≡ is_sparse t.now }
 {

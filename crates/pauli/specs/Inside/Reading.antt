@@ -4,12 +4,12 @@ use Rattle.pauli.specs.declared.text.Prefix.{Prefix}
 use Rattle.pauli.specs.declared.text.Head.{Head}
 use Rattle.pauli.specs.declared.sparse_reader.Entry.{Entry}
 use Rattle.pauli.specs.declared.refusal.Refusal.{Refusal}
-use Rattle.pauli.specs.Entries.{entry_count, entry_letter, entry_qubit}
-use Rattle.pauli.specs.Inside.Marks.{marks_to, Blank}
+use Rattle.pauli.specs.declared.entries.Marks.{Marks}
+use Rattle.pauli.specs.Inside.Marks.{marks_of}
 use Rattle.pauli.specs.Places.{listed, first_place}
 use Rattle.pauli.specs.Layout.{phase_byte}
-use Rattle.pauli.specs.Text.{text_end, dense_body, sparse_entries, from_sparse_questions, is_space, letter_named, Token, tokens, token_questions, token_entries, prefix_phase, prefix_length, text_phase, body_start, is_index, index_value}
-use Rattle.pauli.specs.Answers.{Answer, Outcome}
+use Rattle.pauli.specs.Text.{text_end, dense_body, is_space, letter_named, Token, tokens, token_questions, token_entries, prefix_phase, prefix_length, text_phase, body_start, is_index, index_value}
+use Rattle.pauli.specs.Answers.{Answer, answer_to}
 
 -- the bytes before the first space
 unfoldable pub leading_word : List ℕ → ℕ
@@ -72,34 +72,9 @@ pub record EntryRead (ws : List Token) (t : List ℕ) (k : ℕ) (r : Answer Entr
   pub one : (e : Entry) → r ≡ Ok e → OneEntry ws t k e
   pub refused : (x : Refusal) → r ≡ Err x → token_questions ws ≡ Err x
 
--- a place from which tokens are read, and no marks yet
-pub record BodyAt (t : List ℕ) (k : ℕ) (m : List ℕ) : Type 0 where
-  pub within : k ≤ length t
-  pub blank : Blank m
-
--- entries with letters up to 3 and qubits below 128
-pub record GoodEntries (e : List ℕ) : Type 0 where
-  pub even : length e ≡ entry_count e + entry_count e
-  pub letters : (j : ℕ) → j < entry_count e → entry_letter e j ≤ 3
-  pub places : (j : ℕ) → j < entry_count e → entry_qubit e j < 128
-
--- the answer r to the tokens ws, and the marks m that are left where it is Ok
-pub record TokensRead (ws : List Token) (m : List ℕ) (r : Outcome) : Type 0 where
-  pub answer : r ≡ token_questions ws
-  pub marks : r ≡ Ok tt → m ≡ marks_to (token_entries ws) (entry_count (token_entries ws))
-  pub good : r ≡ Ok tt → GoodEntries (token_entries ws)
-
--- the body of the text begins at k, and there are no marks yet
-pub record SparseAt (t : List ℕ) (k : ℕ) (m : List ℕ) : Type 0 where
-  pub place : k ≡ body_start t
-  pub within : k ≤ length t
-  pub blank : Blank m
-
--- the answer r to a sparse text, and the marks m that are left where it is Ok
-pub record SparseRead (t : List ℕ) (room : ℕ) (m : List ℕ) (r : Outcome) : Type 0 where
-  pub answer : r ≡ from_sparse_questions t room
-  pub marks : r ≡ Ok tt → m ≡ marks_to (sparse_entries t) (entry_count (sparse_entries t))
-  pub good : r ≡ Ok tt → GoodEntries (sparse_entries t)
+-- the marks of the entries of tokens, after their questions
+abbrev pub tokens_read : List Token → Answer Marks
+tokens_read ws = answer_to (token_questions ws) (marks_of (token_entries ws))
 
 -- ---- dense text
 

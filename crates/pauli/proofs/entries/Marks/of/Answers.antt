@@ -1,6 +1,6 @@
--- `entries::Marks::mark_entries` meets its contract, by the laws of `Marking`.
+-- `entries::Marks::of` meets its contract, by the laws of `Marking`.
 use Rattle.pauli.proofs.EntryMarks.{marks}
-use Rattle.pauli.proofs.entries.Marks.mark_entries.Goals as goal
+use Rattle.pauli.proofs.entries.Marks.of.Goals as goal
 
 pub loop-letter-init : goal.loop-letter-init
 loop-letter-init c = search marks
