@@ -1,8 +1,8 @@
 -- What `all`, `any` and `filter` over a range come to.
-use Rattle.std.proofs.Common.{◌≡◌, ℕ, zero, suc, ◌+◌, ◌<◌, ◌≤◌, Bool, true, false, cond, ◌&&◌, ◌||◌, List, [], ◌∷◌, ◌++◌, Option, Some, None, unwrap_or, refl, sym, ap, ◌∙◌, ap₂, arith}
+use Rattle.std.proofs.Common.{◌≡◌, ℕ, zero, suc, ◌+◌, ◌<◌, ◌≤◌, Bool, true, false, cond, ◌&&◌, ◌||◌, List, [], ◌∷◌, ◌++◌, Option, Some, None, unwrap_or, length, get_or, refl, sym, ap, ◌∙◌, subst, ap₂, arith}
 use native.Mathlib.Decide.{ℕ_discrete}
 use mathlib.Core.Bool.{true≢false}
-use Rattle.std.specs.List.{range_with_len, list_all, list_any, find}
+use Rattle.std.specs.List.{range_with_len, list_all, list_any, find, enumerate_from}
 use Rattle.std.specs.Option.{is_some}
 use Rattle.std.proofs.lemmas.List.Folds.{list_all-append, list_any-append}
 use Rattle.clifford_group.specs.Tableau.{all_to}
@@ -33,6 +33,15 @@ any-range zero f = refl
 any-range (suc n) f =
     ap (list_any f) (range-more 0 n) ∙ list_any-append f (range_with_len 0 n) ((0 + n) ∷ [])
     ∙ ap₂ (λ x y. x || y) (any-range n f) (or_false (f (0 + n)) ∙ ap f (omega arith))
+
+-- a list by its numbers
+pub all-numbered : (l : List ℕ) (n : ℕ) (test : ℕ × ℕ → Bool) (f : ℕ → Bool) → ((c : ℕ) → c < length l → test (n + c, get_or l c 0) ≡ f (n + c))
+    → list_all test (enumerate_from n l) ≡ list_all f (range_with_len n (length l))
+all-numbered [] n test f k = refl
+all-numbered (x ∷ l) n test f k =
+    let first : n + 0 ≡ n = omega arith in
+    ap₂ (λ a b. a && b) (subst (λ (j : ℕ). test (j, x) ≡ f j) first (k 0 (omega arith)))
+    (all-numbered l (n + 1) test f (λ c h. let e : n + suc c ≡ n + 1 + c = omega arith in subst (λ (j : ℕ). test (j, get_or l c 0) ≡ f j) e (k (suc c) (omega arith))))
 
 -- the first that `find` comes to, and that there is none
 pub found_first : (p : ℕ → Bool) (a n : ℕ) {q : ℕ} → Some q ≡ find p (range_with_len a n) → (a ≤ q) × (q < a + n) × (p q ≡ true) × ((k : ℕ) → a ≤ k → k < q → p k ≡ false)

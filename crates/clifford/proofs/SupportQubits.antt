@@ -30,7 +30,7 @@ use Rattle.std.proofs.lemmas.Iterator.Consumers.{YieldsList-from_filter, YieldsL
 use Rattle.std.proofs.lemmas.List.{take_more, get_or_push}
 use Rattle.std.proofs.lemmas.List.FromFn.{length-enumerate_from, get_or-enumerate_from}
 use Rattle.std.proofs.lemmas.List.Elements.{filter-append}
-use Rattle.clifford.proofs.Ranges.{range-more, all-range, any-range}
+use Rattle.clifford.proofs.Ranges.{range-more, all-range, all-numbered, any-range}
 use Rattle.pauli.proofs.Places.{length-listed, get_d_listed}
 use lib.ListN.{get_or-eq_default, get_or-append}
 
@@ -69,24 +69,27 @@ module _ (t : List ℕ) (r : ℕ) {l : List ℕ} (el : l ≡ letter_bytes (table
   pub letter_seen : (k : ℕ) {x : ℕ} → x ≡ get_or l k 0 → not (eqb x 0) ≡ has_letter (row_of (tableau_of t) r) k
   letter_seen k {x} e = sym (byte-not_i (row_of (tableau_of t) r) k x (e ∙ letter-byte k))
 
-  pub none_seen : (k : ℕ) → length l ≤ k → false ≡ has_letter (row_of (tableau_of t) r) k
-  none_seen k h = letter_seen k (sym (get_or-eq_default l 0 {n = k} h))
-
-  module _ (a : Letter) (q : ℕ) {n : ℕ} (en : n ≡ width_of t) where
+  module _ (a : Letter) (q : ℕ) where
     abbrev pub same : ℕ → Bool
     same = alike_at (row_of (tableau_of t) r) (single a q)
 
-    pub same-is : (c : ℕ) {x : ℕ} → x ≡ letter_byte ((single a q).letters c) → eqb (get_or l c 0) x ≡ same c
-    unfolding alike_at
-    same-is c e = ap₂ eqb (letter-byte c) e
+    -- a letter with its number
+    abbrev pub byte_same : ℕ × ℕ → Bool
+    byte_same p = eqb p.1 (letter_byte ((single a q).letters p.0))
 
-    pub single-is : {p : ℕ} {b : Bool} → p ≡ phase_byte (row_of (tableau_of t) r).phase → b ≡ list_all same (range_with_len 0 n)
+    same-is : (c : ℕ) → byte_same (0 + c, get_or l c 0) ≡ same (0 + c)
+    unfolding alike_at
+    same-is c =
+        let none : 0 + c ≡ c = omega arith in
+        ap (λ (j : ℕ). eqb j (letter_byte ((single a q).letters (0 + c)))) (letter-byte c ∙ ap (λ (j : ℕ). letter_byte ((row_of (tableau_of t) r).letters j)) (sym none))
+
+    pub single-is : {p : ℕ} {b : Bool} → p ≡ phase_byte (row_of (tableau_of t) r).phase → b ≡ list_all byte_same (enumerate_from 0 l)
         → eqb p 0 && b ≡ is_single (width_of t) a q (row_of (tableau_of t) r)
     unfolding is_single
     single-is {p} ep eb =
-        ap₂ (λ x y. x && y) (plus-is p ∙ ap is_plus_one (ap phase_of ep ∙ phase-back _)) (eb ∙ all-range n same ∙ ap (λ (j : ℕ). all_to j same) en)
+        ap₂ (λ x y. x && y) (plus-is p ∙ ap is_plus_one (ap phase_of ep ∙ phase-back _)) (eb ∙ all-numbered l 0 byte_same same (λ c h. same-is c) ∙ all-range (length l) same ∙ ap (λ (j : ℕ). all_to j same) letters-long)
 
-pub ruleset letters_seen = (letter_seen, none_seen, rules)
+pub ruleset letters_seen = (letter_seen, rules)
 
 -- ---- a qubit, by its rows
 module _ (t : List ℕ) (q : ℕ) {s u : PauliString} (es : s ≡ (tableau_of t).x_image q) (eu : u ≡ (tableau_of t).z_image q) {a b : Bool} where

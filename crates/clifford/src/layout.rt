@@ -15,10 +15,7 @@ use pauli::rows::{count_letters, first_bad, multiply_letters, phase_times, scan_
 pub fn width(t: &[u8]) -> usize
     ensures { result ≡ width_of t.now }
 {
-    match t.first() {
-        Some(n) => usize::from(*n),
-        None => 0,
-    }
+    t.first().map_or(0, |n| usize::from(*n))
 }
 
 // The length of a record of width 128.
@@ -170,10 +167,7 @@ pub(crate) fn letter_in_row(t: &[u8], r: usize, q: usize) -> u8
 fn read_at(t: &[u8], at: usize) -> u8
     ensures { result ≡ min (slice_index t.now at) 3 }
 {
-    match t.get(at) {
-        Some(x) => (*x).min(3),
-        None => 0,
-    }
+    t.get(at).map_or(0, |x| (*x).min(3))
 }
 
 // The phase of row r, whatever the bytes of t: +1 where a record of this width has no such row.

@@ -25,8 +25,11 @@ impl Row<'_> {
         ensures { result ≡ is_single (width_of self.now.bytes.now) (generator G.letter) q (row_of (tableau_of self.now.bytes.now) self.now.r) }
     {
         let letters = self.letters();
-        // By number: which letter is wanted goes by the qubit.
-        self.phase() == 0 && (0..letters.len()).all(|c| letters[c] == single_byte::<G>(q, c))
+        self.phase() == 0
+            && letters
+                .iter()
+                .enumerate()
+                .all(|(c, letter)| *letter == single_byte::<G>(q, c))
     }
 
     // Whether it has a letter on qubit k.
@@ -34,10 +37,7 @@ impl Row<'_> {
     fn has_letter(&self, k: usize) -> bool
         ensures { result ≡ has_letter (row_of (tableau_of self.now.bytes.now) self.now.r) k }
     {
-        match self.letters().get(k) {
-            Some(letter) => *letter != 0,
-            None => false,
-        }
+        self.letters().get(k).copied().unwrap_or(0) != 0
     }
 }
 
@@ -50,7 +50,7 @@ impl Qubit<'_> {
         !(x.is_single::<X>(self.q) && z.is_single::<Z>(self.q))
     }
 
-    // Whether k is it or has a letter in one of its rows.
+    // Whether k is this qubit or has a letter in one of its rows.
     fn touches(&self, k: usize) -> bool
         ensures { result ≡ touches_qubit (tableau_of self.now.bytes.now) k self.now.q }
     {

@@ -115,10 +115,7 @@ impl<'a> Row<'a> {
     pub(crate) fn commutes_with(&self, other: &Row) -> bool
         ensures { result ≡ commute (row_of (tableau_of self.now.bytes.now) self.now.r) (row_of (tableau_of other.now.bytes.now) other.now.r) }
     {
-        let places = count_anticommuting(
-            layout::row_letters(self.bytes, self.r),
-            layout::row_letters(other.bytes, other.r),
-        );
+        let places = count_anticommuting(self.letters(), other.letters());
         places % 2 == 0
     }
 }

@@ -7,7 +7,7 @@ ghost use Rattle.clifford.specs.Layout.{tableau_of};
 use crate::tableau::{Qubit, TableauRecord};
 
 impl Qubit<'_> {
-    // Its own rows.
+    // Whether its own rows are valid.
     fn has_valid_rows(&self) -> bool
         ensures { result ≡ valid_qubit (tableau_of self.now.bytes.now) self.now.q }
     {
@@ -16,7 +16,7 @@ impl Qubit<'_> {
         x.phase() < 2 && z.phase() < 2 && !x.commutes_with(&z)
     }
 
-    // Its rows with those of a qubit before it.
+    // Whether its rows commute with those of a qubit before it.
     #[tactic(auto, using(crate::proofs::RowAccess::qubit_rows))]
     fn commutes_with(&self, r: usize) -> bool
         requires { r < self.now.q }
@@ -36,7 +36,7 @@ impl Qubit<'_> {
             && z.commutes_with(&other_z)
     }
 
-    // Its rows, among themselves and with those of the qubits before it.
+    // Whether its rows are valid, among themselves and with those of the qubits before it.
     fn is_valid(&self) -> bool
         ensures { result ≡ (valid_qubit (tableau_of self.now.bytes.now) self.now.q && all_to self.now.q (valid_pair (tableau_of self.now.bytes.now) self.now.q)) }
     {
