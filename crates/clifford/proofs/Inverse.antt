@@ -9,8 +9,8 @@ use Rattle.clifford_group.proofs.Inverse.{within-transposed}
 use Rattle.pauli.specs.Layout.{phase_byte, letter_byte, encode_string}
 use Rattle.pauli.specs.Rows.{conjugate_byte}
 use Rattle.pauli.proofs.Records.{phase-back, length_encode, encode_phase, encode_letter}
-use Rattle.clifford.specs.Layout.{row_of, tableau_of, row_qubit}
-use Rattle.clifford.specs.Inside.Rows.{OwnLetter, letters_in, string_in, AppliesString}
+use Rattle.clifford.specs.Layout.{row_of, tableau_of, width_of, row_qubit, FormedTableau}
+use Rattle.clifford.specs.Inside.Rows.{letters_in, string_in, AppliesString}
 use Rattle.clifford.specs.Inside.InverseRows.{row_bit, bit_read, bit_byte, body_of, RowBack}
 use Rattle.clifford.proofs.Rows.{row-x, row-z, own-some, width_of_lem}
 use Rattle.clifford.proofs.RowAccess.{own-inside}
@@ -44,11 +44,11 @@ unfolding bit_byte
 bit_small false = omega arith
 bit_small true = omega arith
 
-pub bit_letter : {b : List ℕ} {w r s q : ℕ} → RowBack b w r → s < 2 * w → q ≡ row_qubit w r → OwnLetter b s q
-bit_letter {b} {w} {r} o h e = record {
-  row = record { tableau = o.old.tableau; own = omega (arith, o.wide) };
-  qubit = omega (arith, o.wide, qubit-below w r e (omega (arith, o.old.own, o.wide)));
-}
+pub bit_row : {b : List ℕ} {w r s : ℕ} → RowBack b w r → s < 2 * w → s < 2 * width_of b
+bit_row o h = omega (arith, o.wide)
+
+pub bit_qubit : {b : List ℕ} {w r q : ℕ} → RowBack b w r → q ≡ row_qubit w r → q < width_of b
+bit_qubit {b} {w} {r} o e = omega (arith, o.wide, qubit-below w r e (omega (arith, o.own, o.wide)))
 
 module _ {b : List ℕ} {w r : ℕ} (o : RowBack b w r) where
   abbrev T : Tableau
@@ -75,7 +75,7 @@ module _ {b : List ℕ} {w r : ℕ} (o : RowBack b w r) where
         ap (λ (j : ℕ). j % 2) read_here ∙ x_bit_lem a
         ∙ sym (ap (λ (c : Bool). bit_byte (cond c has_z has_x a)) (le-ltb r T.width (omega (arith, same_width))))
 
-pub ruleset bit_reads = (bit_letter, bit_for_x, bit_for_z, rules)
+pub ruleset bit_reads = (bit_row, bit_qubit, bit_for_x, bit_for_z, rules)
 
 -- ---- one letter of a body
 pub twice-fits : (t : Tableau) (r s : ℕ) {z : ℕ} → z ≡ bit_byte (bit_read t r s) → Fits w8 (2 * z)
@@ -180,17 +180,16 @@ module _ {b : List ℕ} {w r : ℕ} (o : RowBack b w r) where
   made = row_of (inverse (tableau_of b)) r
 
   module _ (s k : List ℕ) (hs : length s ≡ w + 1) (hk : length k ≡ w + 1) where
-    module _ {k' : List ℕ} (ek : k' ≡ encode_string w body) where
+    module _ {k' : List ℕ} (f : FormedTableau b) (ek : k' ≡ encode_string w body) where
       long : length k' ≡ suc w
       long = ap length ek ∙ length_encode w body
 
       pub invert_applies : AppliesString b k' s
       invert_applies = record {
-        tableau = o.old.tableau;
         string = encoded_formed w body ek;
         wide = omega (arith, hs, o.wide);
         reach = omega (arith, hs, long);
-        narrow = omega (arith, hs, o.wide, o.old.tableau.narrow);
+        narrow = omega (arith, hs, o.wide, f.narrow);
       }
 
       pub invert_some : 0 < length k'

@@ -208,29 +208,26 @@ unfolding written
 wrote_all s d {c} h m = m ∙ ap₂ (λ (l : List ℕ) (j : ℕ). l ++ drop j d) (take_all c s (omega arith)) h
 
 -- ---- the answer
-pub support_room : (t : List ℕ) (room : ℕ) {q : Outcome} {c : ℕ} {u : List ℕ} → Ok tt ≡ tableau_questions t → u ≡ t → c ≡ length (support_qubits (tableau_of u))
+pub support_room : (t : List ℕ) (room : ℕ) {q : Outcome} {c : ℕ} → Ok tt ≡ tableau_questions t → c ≡ length (support_qubits (tableau_of t))
     → q ≡ room_question c room → q ≡ support_answer t room
 unfolding support_answer
-support_room t room h d k e = first_done h (e ∙ ap (λ (j : ℕ). room_question j room) (k ∙ ap (λ (x : List ℕ). length (support_qubits (tableau_of x))) d))
+support_room t room h k e = first_done h (e ∙ ap (λ (j : ℕ). room_question j room) k)
 
 pub support_refused : (t : List ℕ) (room : ℕ) {x : Refusal} → Err x ≡ tableau_questions t → Err x ≡ support_answer t room
 unfolding support_answer
 support_refused t room h = first_not _ h
 
-pub support_fits : {t u : List ℕ} (d : List ℕ) → Ok tt ≡ support_answer t (length d) → u ≡ t → length (support_qubits (tableau_of u)) ≤ length d
+pub support_fits : (t : List ℕ) (d : List ℕ) → Ok tt ≡ support_answer t (length d) → length (support_qubits (tableau_of t)) ≤ length d
 unfolding support_answer
-support_fits {t} d h e =
-    let room = room-is (length (support_qubits (tableau_of t))) (length d) (done_second (tableau_questions t) _ (sym h)) in
-    omega (arith, room, ap (λ (x : List ℕ). length (support_qubits (tableau_of x))) e)
+support_fits t d h = room-is (length (support_qubits (tableau_of t))) (length d) (done_second (tableau_questions t) _ (sym h))
 
 pub support_formed : {t : List ℕ} (room : ℕ) → Ok tt ≡ support_answer t room → FormedTableau t
 unfolding support_answer
 support_formed {t} room h = tableau-formed t (done_first _ _ (sym h))
 
-pub support_done : {t d e u : List ℕ} {q : Outcome} {c : ℕ} → Ok tt ≡ q → u ≡ t → e ≡ written (Ok tt) (support_qubits (tableau_of u)) d
-    → c ≡ length (support_qubits (tableau_of u)) → CountWritten q (support_bytes t) d e (Ok c)
+pub support_done : (t : List ℕ) {d e : List ℕ} {q : Outcome} {c : ℕ} → Ok tt ≡ q → e ≡ written (Ok tt) (support_qubits (tableau_of t)) d
+    → c ≡ length (support_qubits (tableau_of t)) → CountWritten q (support_bytes t) d e (Ok c)
 unfolding support_bytes
-support_done {t} {d} h z w k =
-    number-done h (k ∙ ap (λ (x : List ℕ). length (support_qubits (tableau_of x))) z) (w ∙ ap (λ (x : List ℕ). written (Ok tt) (support_qubits (tableau_of x)) d) z)
+support_done t h w k = number-done h k w
 
 pub ruleset support_answers = (checked, exit_not, support_room, support_refused, support_fits, support_formed, support_done, number-exit, rules)

@@ -64,7 +64,7 @@ impl Row<'_> {
 impl TableauRecord<'_> {
     // The whole text, X and Z of each qubit; the answer is its length.
     pub(crate) fn write_display(&self, dst: &mut [u8]) -> usize
-        ensures { TextWritten (text_of_tableau self.now) dst.old dst.new result }
+        ensures { TextWritten (text_of_tableau self.now.bytes.now) dst.old dst.new result }
     {
         let n = self.width();
         let header = write_header(dst, n);
@@ -79,7 +79,7 @@ impl TableauRecord<'_> {
 
     // Its length.
     pub(crate) fn display_length(&self) -> usize
-        ensures { result ≡ length (text_of_tableau self.now) }
+        ensures { result ≡ length (text_of_tableau self.now.bytes.now) }
     {
         self.write_display(&mut [])
     }

@@ -69,22 +69,22 @@ impl Qubit<'_> {
 impl TableauRecord<'_> {
     // Whether k is in the support.
     fn in_support(&self, k: usize) -> bool
-        ensures { result ≡ in_support (tableau_of self.now) k }
+        ensures { result ≡ in_support (tableau_of self.now.bytes.now) k }
     {
         (0..self.width()).any(|q| self.qubit(q).supports(k))
     }
 
     // The number of qubits of the support.
     pub(crate) fn support_count(&self) -> usize
-        ensures { result ≡ length (support_qubits (tableau_of self.now)) }
+        ensures { result ≡ length (support_qubits (tableau_of self.now.bytes.now)) }
     {
         (0..self.width()).filter(|k| self.in_support(*k)).count()
     }
 
     // The qubits of the support, rising.
     pub(crate) fn write_support(&self, dst: &mut [u8])
-        requires { length (support_qubits (tableau_of self.now)) ≤ length dst.old }
-        ensures { dst.new ≡ written (Ok tt) (support_qubits (tableau_of self.now)) dst.old }
+        requires { length (support_qubits (tableau_of self.now.bytes.now)) ≤ length dst.old }
+        ensures { dst.new ≡ written (Ok tt) (support_qubits (tableau_of self.now.bytes.now)) dst.old }
     {
         let qubits = (0..self.width()).filter(|k| self.in_support(*k));
         'writing: for (place, k) in qubits.enumerate() {

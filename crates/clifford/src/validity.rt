@@ -47,7 +47,7 @@ impl Qubit<'_> {
 impl TableauRecord<'_> {
     // Whether the tableau is valid, by its own rows.
     pub(crate) fn is_valid(&self) -> bool
-        ensures { result ≡ is_valid (tableau_of self.now) }
+        ensures { result ≡ is_valid (tableau_of self.now.bytes.now) }
     {
         (0..self.width()).all(|q| self.qubit(q).is_valid())
     }

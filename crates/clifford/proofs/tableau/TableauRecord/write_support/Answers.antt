@@ -14,39 +14,39 @@ pub writing-init : goal.writing-init
 writing-init c = refl
 
 -- the qubit that an iteration has
-coming : (c : goal.In-Some) → Comes (support_qubits (tableau_of c.args.self.now)) (length c.writing.yielded) c.in-Some.place c.in-Some.k
+coming : (c : goal.In-Some) → Comes (support_qubits (tableau_of c.args.self.now.bytes.now)) (length c.writing.yielded) c.in-Some.place c.in-Some.k
 coming c =
-    comes (places-all c.args.self.now c.width.ensures.is)
+    comes (places-all c.args.self.now.bytes.now c.width.ensures.is)
     (next_of c.writing.yielded c.writing.place-iterator c.writing.yielded_by c.next.new.self (c.in-Some.place, c.in-Some.k) c.in-Some.is c.next.ensures.steps
     (yields_at c.into_iter-place-iterator.ensures.into_iter_gives
     (YieldsList-from_enumerate
     (yields_at c.enumerate-place-items.ensures.source
-    (by_runs (in_support (tableau_of c.args.self.now)) c.filter-qubits.ensures.runs (YieldsList-from_range 0 c.width.result c.width.result c.filter-qubits.ensures.source (omega arith))
+    (by_runs (in_support (tableau_of c.args.self.now.bytes.now)) c.filter-qubits.ensures.runs (YieldsList-from_range 0 c.width.result c.width.result c.filter-qubits.ensures.source (omega arith))
     c.filter-qubits.ensures.closure (λ x b q k. search (rules, tests))))
     c.enumerate-place-items.ensures.count)))
 
 pub overflow_cast-dst : goal.overflow_cast-dst
 overflow_cast-dst c =
-    record { fits = omega (arith, (coming c).is, support-small c.args.self.now (length c.writing.yielded) c.in-Some.k (omega (arith, c.width.ensures.is, c.width.ensures.narrow)) (coming c).there) }
+    record { fits = omega (arith, (coming c).is, support-small c.args.self.now.bytes.now (length c.writing.yielded) c.in-Some.k (omega (arith, c.width.ensures.is, c.width.ensures.narrow)) (coming c).there) }
 
 pub bounds-dst-place : goal.bounds-dst-place
 bounds-dst-place c =
-    wrote_place (support_qubits (tableau_of c.args.self.now)) c.args.dst.now c.requires c.writing.invariant (coming c)
+    wrote_place (support_qubits (tableau_of c.args.self.now.bytes.now)) c.args.dst.now c.requires c.writing.invariant (coming c)
 
 pub writing-preserved : goal.writing-preserved
 writing-preserved c =
-    subst (λ (j : ℕ). WroteTo (support_qubits (tableau_of c.args.self.now)) c.args.dst.now j (set c.writing.dst c.in-Some.place c.in-Some.k)) (sym (length_push c.writing.yielded (c.in-Some.place, c.in-Some.k)))
-    (wrote_more (support_qubits (tableau_of c.args.self.now)) c.args.dst.now c.requires c.writing.invariant (coming c))
+    subst (λ (j : ℕ). WroteTo (support_qubits (tableau_of c.args.self.now.bytes.now)) c.args.dst.now j (set c.writing.dst c.in-Some.place c.in-Some.k)) (sym (length_push c.writing.yielded (c.in-Some.place, c.in-Some.k)))
+    (wrote_more (support_qubits (tableau_of c.args.self.now.bytes.now)) c.args.dst.now c.requires c.writing.invariant (coming c))
 
 pub returns : goal.returns
 returns c =
-    let end : length c.writing.yielded ≡ length (enumerate_from 0 (filter (in_support (tableau_of c.args.self.now)) (range_with_len 0 c.width.result))) = end_of c.writing.yielded c.writing.place-iterator c.writing.yielded_by c.next.new.self c.in-None.is c.next.ensures.steps
+    let end : length c.writing.yielded ≡ length (enumerate_from 0 (filter (in_support (tableau_of c.args.self.now.bytes.now)) (range_with_len 0 c.width.result))) = end_of c.writing.yielded c.writing.place-iterator c.writing.yielded_by c.next.new.self c.in-None.is c.next.ensures.steps
     (yields_at c.into_iter-place-iterator.ensures.into_iter_gives
     (YieldsList-from_enumerate
     (yields_at c.enumerate-place-items.ensures.source
-    (by_runs (in_support (tableau_of c.args.self.now)) c.filter-qubits.ensures.runs (YieldsList-from_range 0 c.width.result c.width.result c.filter-qubits.ensures.source (omega arith))
+    (by_runs (in_support (tableau_of c.args.self.now.bytes.now)) c.filter-qubits.ensures.runs (YieldsList-from_range 0 c.width.result c.width.result c.filter-qubits.ensures.source (omega arith))
     c.filter-qubits.ensures.closure (λ x b q k. search (rules, tests))))
     c.enumerate-place-items.ensures.count)) in
-    wrote_all (support_qubits (tableau_of c.args.self.now)) c.args.dst.now
-    (omega (arith, end, length-enumerate_from 0 (filter (in_support (tableau_of c.args.self.now)) (range_with_len 0 c.width.result)), ap length (places-all c.args.self.now c.width.ensures.is)))
+    wrote_all (support_qubits (tableau_of c.args.self.now.bytes.now)) c.args.dst.now
+    (omega (arith, end, length-enumerate_from 0 (filter (in_support (tableau_of c.args.self.now.bytes.now)) (range_with_len 0 c.width.result)), ap length (places-all c.args.self.now.bytes.now c.width.ensures.is)))
     c.writing.invariant
