@@ -34,7 +34,6 @@ use Rattle.clifford.proofs.Joining.{joined-more}
 use Rattle.clifford.proofs.RowWriting.{qubit-below}
 use Rattle.clifford.proofs.Rows.{row-x, row-z, row_inside, width_of_lem}
 use Rattle.clifford.proofs.SupportQubits.{letters-long, letter-byte}
-use Rattle.pauli.specs.Rows.{copied}
 use Rattle.pauli.proofs.Records.{phase-back, letter-back}
 use Rattle.std.specs.Cmp.Lexicographic.{pointwise}
 use Rattle.clifford.proofs.Asking.{tableau-formed, checked}

@@ -81,20 +81,15 @@ module _ {a b : List ℕ} {r p : ℕ} (o : OwnRow a r) (m : OwnRow b p) {x y : L
 
 pub ruleset row_commutation = (commute-is, own-inside, rules)
 
--- ---- the rows of one qubit, and of two
+-- ---- the rows of one qubit
 module _ (t : Tableau) (q : ℕ) {x z : PauliString} (ex : x ≡ t.x_image q) (ez : z ≡ t.z_image q) where
-  pub qubit-is : {p r : ℕ} {c : Bool} → p ≡ phase_byte x.phase → r ≡ phase_byte z.phase → c ≡ commute x z
+  pub qubit_is : {p r : ℕ} {c : Bool} → p ≡ phase_byte x.phase → r ≡ phase_byte z.phase → c ≡ commute x z
       → (ltb p 2 && ltb r 2) && not c ≡ valid_qubit t q
   unfolding valid_qubit
-  qubit-is {p} {r} ep er ec =
+  qubit_is {p} {r} ep er ec =
       ap₂ (λ i j. i && j)
       (ap₂ (λ i j. i && j) (real-is x p ep ∙ ap (λ s. is_real s.phase) ex) (real-is z r er ∙ ap (λ s. is_real s.phase) ez))
       (ap not (ec ∙ ap₂ commute ex ez))
-
-  pub pair_is : (p : ℕ) {u v : PauliString} → u ≡ t.x_image p → v ≡ t.z_image p → (commute x u && commute x v) && (commute z u && commute z v) ≡ valid_pair t q p
-  unfolding valid_pair
-  pair_is p eu ev =
-      ap₂ (λ i j. i && j) (ap₂ (λ i j. i && j) (ap₂ commute ex eu) (ap₂ commute ex ev)) (ap₂ (λ i j. i && j) (ap₂ commute ez eu) (ap₂ commute ez ev))
 
 -- ---- all rows
 unfoldable pub valid_row : Tableau → ℕ → Bool

@@ -3,7 +3,7 @@ use Rattle.std.proofs.Common.{◌≡◌, ℕ, zero, suc, ◌+◌, ◌-◌, ◌<�
 use native.Mathlib.Decide.{dec_lt}
 use Rattle.pauli_group.specs.Letter.{Letter, I, X, Z, Y, not_i}
 use Rattle.pauli_group.specs.PauliString.{PauliString, has_letter, single}
-use Rattle.clifford_group.specs.Tableau.{Tableau, all_to}
+use Rattle.clifford_group.specs.Tableau.{all_to}
 use Rattle.pauli.specs.declared.refusal.Refusal.{Refusal}
 use Rattle.pauli.specs.Answers.{written, CountWritten, Outcome}
 use Rattle.pauli.specs.Questions.{room_question}
@@ -16,7 +16,7 @@ use Rattle.pauli.specs.Layout.{phase_byte, phase_of, letter_byte}
 use Rattle.pauli.proofs.Records.{phase-back}
 use Rattle.clifford.specs.Layout.{row_of, width_of, tableau_of, FormedTableau}
 use Rattle.clifford.specs.Inside.Rows.{letter_bytes}
-use Rattle.clifford.specs.Support.{is_plus_one, alike_at, is_single, changed_qubit, touches_qubit, supports_qubit, some_to, places_with, in_support, support_qubits}
+use Rattle.clifford.specs.Support.{is_plus_one, alike_at, is_single, changed_qubit, supports_qubit, some_to, places_with, in_support, support_qubits}
 use Rattle.clifford.proofs.Rows.{row_inside, width_of_lem}
 use Rattle.std.specs.List.{range_with_len, list_all, list_any, filter, enumerate_from}
 use Rattle.std.specs.Iterator.{Yields}
@@ -93,19 +93,11 @@ pub ruleset letters_seen = (letter_seen, rules)
 
 -- ---- a qubit, by its rows
 module _ (t : List ℕ) (q : ℕ) {s u : PauliString} (es : s ≡ (tableau_of t).x_image q) (eu : u ≡ (tableau_of t).z_image q) {a b : Bool} where
-  pub changed-is : {x z : List ℕ} → x ≡ t → z ≡ t → a ≡ is_single (width_of x) X q s → b ≡ is_single (width_of z) Z q u → not (a && b) ≡ changed_qubit (tableau_of t) q
+  pub changed_is : {x z : List ℕ} → x ≡ t → z ≡ t → a ≡ is_single (width_of x) X q s → b ≡ is_single (width_of z) Z q u → not (a && b) ≡ changed_qubit (tableau_of t) q
   unfolding changed_qubit
-  changed-is dx dz ea eb =
+  changed_is dx dz ea eb =
       ap₂ (λ i j. not (i && j)) (ea ∙ ap₂ (λ (w : ℕ) (v : PauliString). is_single w X q v) (ap width_of dx ∙ sym (width_of_lem t)) es)
       (eb ∙ ap₂ (λ (w : ℕ) (v : PauliString). is_single w Z q v) (ap width_of dz ∙ sym (width_of_lem t)) eu)
-
-  pub touch-is : (k : ℕ) → a ≡ has_letter s k → b ≡ has_letter u k → eqb q k || (a || b) ≡ touches_qubit (tableau_of t) k q
-  unfolding touches_qubit
-  touch-is k ea eb = ap₂ (λ i j. eqb q k || (i || j)) (ea ∙ ap (λ v. has_letter v k) es) (eb ∙ ap (λ v. has_letter v k) eu)
-
-pub supports-is : (t : Tableau) (k q : ℕ) {a b : Bool} → a ≡ touches_qubit t k q → b ≡ changed_qubit t q → a && b ≡ supports_qubit t k q
-unfolding supports_qubit
-supports-is t k q ea eb = ap₂ (λ x y. x && y) ea eb
 
 pub support-is : (t : List ℕ) (k : ℕ) {n : ℕ} → n ≡ width_of t → list_any (supports_qubit (tableau_of t) k) (range_with_len 0 n) ≡ in_support (tableau_of t) k
 unfolding in_support

@@ -51,6 +51,7 @@ impl Qubit<'_> {
     }
 
     // Whether k is this qubit or has a letter in one of its rows.
+    #[tactic(auto, unfolding(crate::specs::Support::touches_qubit))]
     fn touches(&self, k: usize) -> bool
         ensures { result ≡ touches_qubit (tableau_of self.now.bytes.now) k self.now.q }
     {
@@ -59,6 +60,7 @@ impl Qubit<'_> {
         self.q == k || x.has_letter(k) || z.has_letter(k)
     }
 
+    #[tactic(auto, unfolding(crate::specs::Support::supports_qubit))]
     fn supports(&self, k: usize) -> bool
         ensures { result ≡ supports_qubit (tableau_of self.now.bytes.now) k self.now.q }
     {

@@ -17,7 +17,7 @@ impl Qubit<'_> {
     }
 
     // Whether its rows commute with those of a qubit before it.
-    #[tactic(auto, using(crate::proofs::RowAccess::qubit_rows))]
+    #[tactic(auto, using(crate::proofs::RowAccess::qubit_rows, pauli::proofs::Asking::by_questions), unfolding(clifford_group::specs::Tableau::valid_pair))]
     fn commutes_with(&self, r: usize) -> bool
         requires { r < self.now.q }
         ensures { result ≡ valid_pair (tableau_of self.now.bytes.now) self.now.q r }

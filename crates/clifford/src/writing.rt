@@ -77,6 +77,7 @@ impl<'a> RowMaker for Composite<'a> {
         self.width
     }
 
+    #[tactic(auto, using(crate::proofs::Made::made_rows))]
     fn make_row(&self, row: RowPlace, source: &mut [u8], work: &mut [u8]) {
         apply_letter(&self.b, row, source);
         apply_string(&self.a, source, work);
@@ -165,6 +166,7 @@ fn apply_to_row<M: RowMaker>(maker: &M, row: RowPlace, dst: &mut [u8])
 }
 
 // All rows, each in the part of dst that starts at its own offset, which is a fixed form of the scope document.
+#[tactic(auto, using(crate::proofs::Made::all_rows))]
 fn write_rows<M: RowMaker>(maker: &M, dst: &mut [u8])
     requires { WritesAll (M.wide maker.now) (M.made maker.now) dst.old }
     ensures { dst.new ≡ written (Ok tt) (tableau_record (M.made maker.now)) dst.old }
