@@ -4,7 +4,7 @@ ghost use Rattle.std.specs.Prelude.{◌≡◌, ◌+◌, ◌*◌, ◌<◌, length
 ghost use Rattle.clifford_group.specs.Tableau.{inverse};
 ghost use Rattle.pauli.specs.Layout.{letter_byte, encode_string};
 ghost use Rattle.clifford.specs.Layout.{row_of, tableau_of};
-ghost use Rattle.clifford.specs.Inside.InverseRows.{bit_read, bit_byte, body_of, RowBack};
+ghost use Rattle.clifford.specs.Inside.InverseRows.{bit_read, bit_byte, body_of, body_bytes, RowBack};
 
 use crate::applying::apply_string;
 use crate::layout::{RowPlace, letter_in_row};
@@ -44,6 +44,17 @@ impl InverseRow<'_> {
         x + 2 * z
     }
 
+    // The letters of its body.
+    #[tactic(auto, using(crate::proofs::Inverse::body_fills))]
+    fn write_letters(&self, letters: &mut [u8])
+        requires { length letters.old ≡ self.now.row.width }
+        ensures { letters.new ≡ body_bytes (tableau_of self.now.t.bytes.now) self.now.row.width self.now.row.r }
+    {
+        for (c, letter) in letters.iter_mut().enumerate() {
+            *letter = self.body_letter(c);
+        }
+    }
+
     // Its body, as a work row.
     #[tactic(auto, using(crate::proofs::Inverse::bodies))]
     fn write_body(&self, body: &mut [u8])
@@ -51,10 +62,7 @@ impl InverseRow<'_> {
         ensures { body.new ≡ encode_string self.now.row.width (body_of (tableau_of self.now.t.bytes.now) self.now.row.r) }
     {
         body[0] = 0;
-        // The letter is asked for by its qubit: an iterator over body[1..] would have to be numbered as well.
-        for c in 0..self.row.width {
-            body[c + 1] = self.body_letter(c);
-        }
+        self.write_letters(&mut body[1..]);
     }
 
     // The row, as a work row: its body, with the conjugate of the phase met when the body is sent forward.

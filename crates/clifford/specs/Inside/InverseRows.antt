@@ -3,6 +3,8 @@ use Rattle.std.specs.Prelude.{◌≡◌, ℕ, ◌*◌, ◌<◌, Bool, true, fals
 use Rattle.pauli_group.specs.Letter.{Letter}
 use Rattle.pauli_group.specs.PauliString.{PauliString}
 use Rattle.clifford_group.specs.Tableau.{Tableau, has_x, has_z, transposed}
+use Rattle.pauli.specs.Layout.{letter_byte}
+use Rattle.pauli.specs.Places.{listed}
 use Rattle.clifford.specs.Layout.{row_of, width_of, row_qubit}
 
 -- which bit of a letter row r of the inverse reads, of width w: the z bit for an X row and the x bit for a Z row
@@ -20,6 +22,10 @@ bit_byte true = 1
 -- the body of row r: phase +1, and the letters by the transpose
 unfoldable pub body_of : Tableau → ℕ → PauliString
 body_of t r = transposed t (row_bit t.width r) (row_qubit t.width r)
+
+-- its letter bytes, w in number
+unfoldable pub body_bytes : Tableau → ℕ → ℕ → List ℕ
+body_bytes t w r = listed w (λ c. letter_byte ((body_of t r).letters c))
 
 -- ---- what the functions that write them may count on
 
