@@ -26,7 +26,7 @@ use Rattle.std.specs.Fn.{CalledAt}
 use denote.Ref.{Bor}
 use denote.Param.Members.{Mut}
 use Rattle.std.proofs.lemmas.Iterator.{YieldsList}
-use Rattle.std.proofs.lemmas.Iterator.Consumers.{YieldsList-from_filter, YieldsList-turn, YieldsList-end}
+use Rattle.std.proofs.lemmas.Iterator.Consumers.{YieldsList-from_filter}
 use Rattle.std.proofs.lemmas.List.{take_more, get_or_push}
 use Rattle.std.proofs.lemmas.List.FromFn.{length-enumerate_from, get_or-enumerate_from}
 use Rattle.std.proofs.lemmas.List.Elements.{filter-append}
@@ -147,15 +147,6 @@ support-small t i d h l = omega (arith, places-below (tableau_of t).width (in_su
 -- e is d with the first c numbers of s over its front
 abbrev pub WroteTo : (s d : List ℕ) (c : ℕ) (e : List ℕ) → Type 0
 WroteTo s d c e = e ≡ take c s ++ drop c d
-
--- what comes next of the items of an iterator, and that all have come
-pub next_of : {S A B : Type 0} {steps : S → Option A → S → Type 0} {v : A → B} {s : S} {all : List B} (xs : List A) (t : S) → Yields steps s xs t → {r : Option A} (u : S) (x : A)
-    → r ≡ Some x → steps t r u → YieldsList steps v s all → (length xs < length all) × (v x ≡ get_or all (length xs) (v x))
-next_of xs t y u x is p e = YieldsList-turn e xs t y _ _ x is p
-
-pub end_of : {S A B : Type 0} {steps : S → Option A → S → Type 0} {v : A → B} {s : S} {all : List B} (xs : List A) (t : S) → Yields steps s xs t → {r : Option A} (u : S)
-    → r ≡ None → steps t r u → YieldsList steps v s all → length xs ≡ length all
-end_of xs t y u is p e = (YieldsList-end e xs t y _ _ is p).1
 
 pub yields_at : {S A B : Type 0} {steps : S → Option A → S → Type 0} {v : A → B} {s t : S} {all : List B} → t ≡ s → YieldsList steps v s all → YieldsList steps v t all
 yields_at {steps = steps} {v = v} {all = all} e y = subst (λ u. YieldsList steps v u all) (sym e) y

@@ -23,7 +23,8 @@ pub(crate) fn clear_row(work: &mut [u8], phase: u8)
     work[0] = phase;
 }
 
-// A work row multiplied by one letter, on qubit q.
+// A work row multiplied by one letter, on qubit q. No struct holds a work row: each of its methods would promise that it still holds the
+// same bytes, and would owe its invariant at every byte that it writes.
 #[tactic(auto, using(crate::proofs::WorkRows::letter_products))]
 pub(crate) fn multiply_letter(work: &mut [u8], q: usize, letter: u8)
     requires { WorkPlace work.old q }

@@ -43,6 +43,7 @@ pub(crate) struct Qubit<'a> {
     ghost own: { OwnQubit bytes.now q },
 }
 
+// No one function of the generator for both rows: its promise would have to ask which of the two images it names.
 impl<'a> Qubit<'a> {
     // The row of the image of X.
     #[tactic(auto, using(crate::proofs::RowAccess::qubit_rows))]
