@@ -19,14 +19,6 @@ use Rattle.clifford.specs.Inside.Rows.{letter_bytes}
 use Rattle.clifford.specs.Support.{is_plus_one, alike_at, is_single, changed_qubit, supports_qubit, some_to, places_with, in_support, support_qubits}
 use Rattle.clifford.proofs.Rows.{row_inside, width_of_lem}
 use Rattle.std.specs.List.{range_with_len, list_all, list_any, filter, enumerate_from}
-use Rattle.std.specs.Iterator.{Yields}
-use Rattle.std.specs.Iterator.Runs.{EachRunFrom, Run}
-use Rattle.std.specs.Iterator.Adapters.{filter_source, filter_callee, filter_steps}
-use Rattle.std.specs.Fn.{CalledAt}
-use denote.Ref.{Bor}
-use denote.Param.Members.{Mut}
-use Rattle.std.proofs.lemmas.Iterator.{YieldsList}
-use Rattle.std.proofs.lemmas.Iterator.Consumers.{YieldsList-from_filter}
 use Rattle.std.proofs.lemmas.List.{take_more, get_or_push}
 use Rattle.std.proofs.lemmas.List.FromFn.{length-enumerate_from, get_or-enumerate_from}
 use Rattle.std.proofs.lemmas.List.Elements.{filter-append}
@@ -147,15 +139,6 @@ support-small t i d h l = omega (arith, places-below (tableau_of t).width (in_su
 -- e is d with the first c numbers of s over its front
 abbrev pub WroteTo : (s d : List ℕ) (c : ℕ) (e : List ℕ) → Type 0
 WroteTo s d c e = e ≡ take c s ++ drop c d
-
-pub yields_at : {S A B : Type 0} {steps : S → Option A → S → Type 0} {v : A → B} {s t : S} {all : List B} → t ≡ s → YieldsList steps v s all → YieldsList steps v t all
-yields_at {steps = steps} {v = v} {all = all} e y = subst (λ u. YieldsList steps v u all) (sym e) y
-
--- what `filter` promises of its runs says which closure it goes by
-pub by_runs : {S A B F : Type 0} {steps : S → Option A → S → Type 0} {v : A → B} {ys : List B} {s : _} {g : Mut F (Bor A × Unit {0}) Bool} {P : Run (filter_steps steps g) → Type 0}
-    (test : B → Bool) {f : F} → EachRunFrom (filter_steps steps g) s P → YieldsList steps v (filter_source s) ys → filter_callee s ≡ f
-    → ((x : A) (b : Bool) (q : F) → CalledAt g f x b q → (q ≡ f) × (b ≡ test (v x))) → YieldsList (filter_steps steps g) v s (filter test ys)
-by_runs {g = g} test r e a k = YieldsList-from_filter g test e a k
 
 -- after c of them k comes, under the number p
 pub record Comes (s : List ℕ) (c p k : ℕ) : Type 0 where
