@@ -18,7 +18,7 @@ use Rattle.clifford.specs.Inside.Rows.{AppliesString, letters_in, string_in}
 use Rattle.clifford.specs.Tableaux.{identity_record, apply_record, compose_record, extend_record, inverse_record, pauli_record}
 use Rattle.clifford.specs.Images.{pauli_tableau}
 use Rattle.clifford.specs.Inside.Writing.{Span}
-use Rattle.clifford.specs.Inside.Made.{TableauWritten, Widens, Composes, Spans}
+use Rattle.clifford.specs.Inside.Made.{TableauWritten, Widens, Spans}
 use Rattle.clifford.specs.Promises.{IdentityWritten, Applied, Composed, Extended, Inverted, FromPauliString}
 use Rattle.clifford.proofs.Rows.{width_of_lem}
 use Rattle.clifford.proofs.Records.{same-record}
@@ -37,7 +37,7 @@ pub refused-answer : {q r : Outcome} {x : Refusal} (y : Outcome) (out d : List �
 refused-answer y out d h e = written-exit out d (first_not y h) e
 
 -- ---- identity
-none-formed : FormedTableau (0 ∷ [])
+pub none-formed : FormedTableau (replicate 1 0)
 unfolding record_length
 none-formed = record { some = omega arith; narrow = omega arith; long = omega (arith, zero-mul (row_length 0)); rows = λ r h. absurd (no r h) }
   where
@@ -45,7 +45,7 @@ none-formed = record { some = omega arith; narrow = omega arith; long = omega (a
     no r h = omega arith
 
 pub identity-widens : {n : ℕ} → Ok tt ≡ width_question n → Widens (replicate 1 0) n
-identity-widens h = record { tableau = none-formed; wide = omega arith; narrow = width_done h }
+identity-widens h = record { wide = omega arith; narrow = width_done h }
 
 -- the tableau of width 0 widened is the identity
 none-widened : (n : ℕ) → Same (widen n (tableau_of (0 ∷ []))) (identity_tableau n)
@@ -64,7 +64,7 @@ pub identity-refused : (n : ℕ) {r : Outcome} {x : Refusal} (d : List ℕ) → 
 unfolding identity_answer
 identity-refused n d h e = refused-answer _ _ d h e
 
-pub ruleset identities = (widened-made, identity-widens, identity-written, identity-refused, rules)
+pub ruleset identities = (none-formed, widened-made, identity-widens, identity-written, identity-refused, rules)
 
 -- ---- apply
 module _ (t s d : List ℕ) (ht : Ok tt ≡ tableau_questions t) where
@@ -94,7 +94,6 @@ module _ (t s d : List ℕ) (ht : Ok tt ≡ tableau_questions t) where
     apply-string =
         let formed : FormedTableau t = checked ht in
         record {
-          tableau = formed;
           string = subst (λ (w : ℕ). WellFormed w s) (sym string-here) string;
           wide = omega (arith, formed.narrow, part-long);
           reach = omega (arith, string.long, part-long);
@@ -115,7 +114,7 @@ pub apply_tableau-refused : (t s d : List ℕ) {r : Outcome} {x : Refusal} → E
 unfolding apply_answer apply_questions
 apply_tableau-refused t s d h e = refused-answer _ _ d (first_not _ h) e
 
-pub ruleset applying = (apply_tableau-refused, apply_string-refused, apply_room-refused, apply-room, apply-string, apply-written, rules)
+pub ruleset applying = (checked, apply_tableau-refused, apply_string-refused, apply_room-refused, apply-room, apply-string, apply-written, rules)
 
 -- ---- compose
 module _ (a b : List ℕ) where
@@ -123,23 +122,25 @@ module _ (a b : List ℕ) where
   unfolding compose_questions
   both h = sym h
 
-  pub composes : {w m n : ℕ} → Ok tt ≡ compose_questions a b → w ≡ max m n → m ≡ width_of a → n ≡ width_of b → Composes a b w
-  composes h ew em en = record {
-    first = tableau-formed a (done_first _ _ (both h));
-    second = tableau-formed b (done_second (tableau_questions a) _ (both h));
-    wide = ew ∙ ap₂ max em en;
-  }
+  pub compose-first : Ok tt ≡ compose_questions a b → FormedTableau a
+  compose-first h = tableau-formed a (done_first _ _ (both h))
 
-  pub compose-written : {r : Outcome} {w : ℕ} (d e : List ℕ) → Ok tt ≡ compose_questions a b → Composes a b w
+  pub compose-second : Ok tt ≡ compose_questions a b → FormedTableau b
+  compose-second h = tableau-formed b (done_second (tableau_questions a) _ (both h))
+
+  pub compose-width : {w m n : ℕ} → w ≡ max m n → m ≡ width_of a → n ≡ width_of b → w ≡ max (width_of a) (width_of b)
+  compose-width ew em en = ew ∙ ap₂ max em en
+
+  pub compose-written : {r : Outcome} {w : ℕ} (d e : List ℕ) → Ok tt ≡ compose_questions a b → w ≡ max (width_of a) (width_of b)
       → TableauWritten w (compose (tableau_of a) (tableau_of b)) d e r → Composed a b d e r
   unfolding compose_answer compose_record
-  compose-written d e h c o = made-answer h c.wide (same_refl (compose (tableau_of a) (tableau_of b))) o
+  compose-written d e h c o = made-answer h c (same_refl (compose (tableau_of a) (tableau_of b))) o
 
   pub compose-refused : {r : Outcome} {x : Refusal} (d : List ℕ) → Err x ≡ compose_questions a b → IsErrAnd r (λ e. e ≡ x) → Composed a b d d r
   unfolding compose_answer
   compose-refused d h e = refused-answer _ _ d h e
 
-pub ruleset compositions = (composite-made, composes, compose-written, compose-refused, rules)
+pub ruleset compositions = (composite-made, compose-first, compose-second, compose-width, compose-written, compose-refused, rules)
 
 -- ---- extended_to
 -- widened to the larger width, or to n
@@ -161,7 +162,7 @@ module _ (t : List ℕ) (n : ℕ) where
       pub extend-widens : Widens t w
       extend-widens =
           let formed : FormedTableau t = checked ht in
-          record { tableau = formed; wide = omega (arith, em, ew); narrow = omega (arith, em, ew, formed.narrow, width_done hn) }
+          record { wide = omega (arith, em, ew); narrow = omega (arith, em, ew, formed.narrow, width_done hn) }
 
       pub extend-written : {r : Outcome} (d e : List ℕ) → TableauWritten w (widen w (tableau_of t)) d e r → Extended t n d e r
       unfolding extend_answer extend_questions extend_record
@@ -169,7 +170,7 @@ module _ (t : List ℕ) (n : ℕ) where
           let larger : w ≡ max (width_of t) n = ew ∙ ap (λ (j : ℕ). max j n) em in
           made-answer (first_done ht hn) larger (widen-larger (tableau_of t) n w (larger ∙ ap (λ (j : ℕ). max j n) (sym (width_of_lem t)))) o
 
-pub ruleset extensions = (widened-made, extend-first, extend-second, extend-widens, extend-written, rules)
+pub ruleset extensions = (checked, widened-made, extend-first, extend-second, extend-widens, extend-written, rules)
 
 -- ---- inverse
 module _ (t : List ℕ) where

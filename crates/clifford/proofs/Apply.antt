@@ -9,7 +9,7 @@ use Rattle.clifford_group.proofs.Apply.{apply_to_start}
 use Rattle.pauli.specs.Layout.{phase_of, letter_byte, letter_of, encode_string, decode_string, WellFormed}
 use Rattle.pauli.proofs.Places.{from, from_at, length_from}
 use Rattle.pauli.proofs.Records.{length_encode, encode_formed, decode_encode, encode_decode, decode_within, decode_letter, decode_phase}
-use Rattle.clifford.specs.Layout.{tableau_of, row_qubit, row_letter}
+use Rattle.clifford.specs.Layout.{FormedTableau, tableau_of, row_qubit, row_letter}
 use Rattle.clifford.specs.Inside.Rows.{RowIndex, WorkOnQubit, ClearRow, AppliesString, AppliesLetter, cleared_row, row_times, letters_in, string_in}
 use Rattle.clifford.proofs.Rows.{width_of_lem}
 use Rattle.clifford.proofs.Records.{proper_of}
@@ -49,7 +49,6 @@ started : {b s d e : List ℕ} → AppliesString b s d → e ≡ cleared_row (le
 started {b} {s} {d} {e} o k =
     let long : length e ≡ length d = length_cleared (get_or s 0 0) (omega (arith, o.wide)) k in
     record {
-      tableau = o.tableau;
       string = o.string;
       wide = omega (arith, o.wide);
       reach = omega (arith, o.reach);
@@ -72,7 +71,6 @@ applied-none {b} {s} {d} {e} o k =
 pub applied-work : {b s d : List ℕ} {q : ℕ} {e : List ℕ} → AppliedTo b s d q e → q < length s - 1 → WorkOnQubit b e q
 applied-work {b} {s} {d} m h = let o : AppliesString b s d = m.fits in record {
   work = record {
-    tableau = o.tableau;
     row = m.row;
     wide = omega (arith, o.wide, m.long);
     narrow = omega (arith, o.narrow, m.long);
@@ -80,9 +78,9 @@ applied-work {b} {s} {d} m h = let o : AppliesString b s d = m.fits in record {
   place = omega (arith, o.reach, m.long, o.string.long);
 }
 
-pub applied-step : {b s d : List ℕ} {q : ℕ} {e f : List ℕ} → AppliedTo b s d q e → q < length (from 1 s)
+pub applied-step : {b s d : List ℕ} {q : ℕ} {e f : List ℕ} → FormedTableau b → AppliedTo b s d q e → q < length (from 1 s)
     → f ≡ row_times e (image_of (tableau_of b) q (letter_of (get_or (from 1 s) q 0))) → AppliedTo b s d (q + 1) f
-applied-step {b} {s} {d} {q} {e} {f} m l k =
+applied-step {b} {s} {d} {q} {e} {f} formed m l k =
     let o : AppliesString b s d = m.fits in
     let h : q < length s - 1 = omega (arith, length_from 1 s) in
     let t = tableau_of b in
@@ -91,7 +89,7 @@ applied-step {b} {s} {d} {q} {e} {f} m l k =
     let same : letters_in e ≡ w = ap (λ (j : ℕ). j - 1) m.long in
     let letter : letter_of (get_or (from 1 s) q 0) ≡ (string_in s).letters q = ap letter_of (from_at s q) ∙ sym (decode_letter (letters_in s) s q h) in
     let inside : Within (letters_in e) image =
-    within_image t (proper_of o.tableau) (letters_in e) (omega (arith, width_of_lem b, o.wide)) q (letter_of (get_or (from 1 s) q 0))
+    within_image t (proper_of formed) (letters_in e) (omega (arith, width_of_lem b, o.wide)) q (letter_of (get_or (from 1 s) q 0))
     (omega (arith, o.reach, o.string.long)) in
     record {
       fits = o;
@@ -150,7 +148,7 @@ module _ {w r : ℕ} (i : RowIndex w r) {b d e : List ℕ} (o : AppliesLetter b 
 
   pub letter-work : {q : ℕ} → q < w → WorkOnQubit b e q
   letter-work h = record {
-    work = record { tableau = o.tableau; row = cleared_formed 0 some k; wide = omega (arith, long, o.wide, o.work); narrow = omega (arith, long, i.narrow, o.work) };
+    work = record { row = cleared_formed 0 some k; wide = omega (arith, long, o.wide, o.work); narrow = omega (arith, long, i.narrow, o.work) };
     place = omega (arith, long, o.work);
   }
 

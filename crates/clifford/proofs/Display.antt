@@ -34,7 +34,6 @@ use Rattle.clifford.proofs.Joining.{joined-more}
 use Rattle.clifford.proofs.RowWriting.{qubit-below}
 use Rattle.clifford.proofs.Rows.{row-x, row-z, row_inside, width_of_lem}
 use Rattle.clifford.proofs.SupportQubits.{letters-long, letter-byte}
-use Rattle.pauli.specs.Rows.{copied}
 use Rattle.pauli.proofs.Records.{phase-back, letter-back}
 use Rattle.std.specs.Cmp.Lexicographic.{pointwise}
 use Rattle.clifford.proofs.Asking.{tableau-formed, checked}
@@ -231,10 +230,10 @@ pub display_refused : (t : List ℕ) {x : Refusal} (room : ℕ) → Err x ≡ ta
 unfolding display_answer
 display_refused t room h = first_not _ h
 
-pub display_asked : (t : List ℕ) {u : List ℕ} {q : Outcome} {n : ℕ} (room : ℕ) → Ok tt ≡ tableau_questions t → u ≡ t → n ≡ length (text_of_tableau u)
+pub display_asked : (t : List ℕ) {q : Outcome} {n : ℕ} (room : ℕ) → Ok tt ≡ tableau_questions t → n ≡ length (text_of_tableau t)
     → q ≡ room_question n room → q ≡ display_answer t room
 unfolding display_answer
-display_asked t room h d c q = first_done h (q ∙ ap (λ (k : ℕ). room_question k room) (c ∙ ap (λ (x : List ℕ). length (text_of_tableau x)) d))
+display_asked t room h c q = first_done h (q ∙ ap (λ (k : ℕ). room_question k room) c)
 
 module _ (t d : List ℕ) (h : Ok tt ≡ display_answer t (length d)) where
   pub display_formed : FormedTableau t
@@ -245,10 +244,8 @@ module _ (t d : List ℕ) (h : Ok tt ≡ display_answer t (length d)) where
   unfolding display_answer
   room = room-is _ (length d) (done_second (tableau_questions t) _ (sym h))
 
-  pub display_done : {e u : List ℕ} {n : ℕ} → u ≡ t → TextWritten (text_of_tableau u) d e n → CountWritten (display_answer t (length d)) (text_of_tableau t) d e (Ok n)
-  display_done z a =
-      number-done h (a.count ∙ ap (λ (x : List ℕ). length (text_of_tableau x)) z)
-      (a.bytes ∙ ap (λ (x : List ℕ). copied (text_of_tableau x) d) z ∙ copied-whole (text_of_tableau t) d room)
+  pub display_done : {e : List ℕ} {n : ℕ} → TextWritten (text_of_tableau t) d e n → CountWritten (display_answer t (length d)) (text_of_tableau t) d e (Ok n)
+  display_done a = number-done h a.count (a.bytes ∙ copied-whole (text_of_tableau t) d room)
 
 pub ruleset displays = (checked, exit_not, display_refused, display_asked, display_formed, display_done, text_same, number-exit, rules)
 

@@ -1,6 +1,5 @@
 -- The rows of an inverse: the bits and letters of its bodies, and the phases that turn these back.
-use Rattle.std.proofs.Common.{◌≡◌, ℕ, suc, ◌+◌, ◌-◌, ◌*◌, ◌/◌, ◌%◌, ◌<◌, ◌≤◌, Bool, true, false, cond, ltb, List, length, get_or, set, sym, refl, ap, ◌∙◌, ap₂, not-suc-le-zero, arith, length-set, get_or-set_other, get_or-set_same, w8, Fits, rules, le-ltb, lt-ltb}
-use native.Mathlib.Decide.{ℕ_discrete}
+use Rattle.std.proofs.Common.{◌≡◌, ℕ, suc, ◌+◌, ◌-◌, ◌*◌, ◌/◌, ◌%◌, ◌<◌, ◌≤◌, Bool, true, false, cond, ltb, List, [], ◌∷◌, ◌++◌, length, get_or, drop_of_length-le, take_all, append-nil, set, sym, refl, ap, ◌∙◌, ap₂, not-suc-le-zero, arith, length-set, get_or-set_other, get_or-set_same, w8, Fits, rules, le-ltb, lt-ltb}
 use Rattle.pauli_group.specs.Phase.{Phase, conjugate}
 use Rattle.pauli_group.specs.Letter.{Letter, I, X, Z, Y}
 use Rattle.pauli_group.specs.PauliString.{PauliString, Within}
@@ -8,10 +7,13 @@ use Rattle.clifford_group.specs.Tableau.{Tableau, apply, has_x, has_z, letter_of
 use Rattle.clifford_group.proofs.Inverse.{within-transposed}
 use Rattle.pauli.specs.Layout.{phase_byte, letter_byte, encode_string}
 use Rattle.pauli.specs.Rows.{conjugate_byte}
+use borrow.Rule.Slice.PartMut.{put_mid}
+use Rattle.pauli.specs.Places.{listed}
+use Rattle.pauli.proofs.Places.{from, length_from, length-listed, get_d_listed, Filled, filled_none, filled_step, filled_length, filled_room, filled_all}
 use Rattle.pauli.proofs.Records.{phase-back, length_encode, encode_phase, encode_letter}
-use Rattle.clifford.specs.Layout.{row_of, tableau_of, row_qubit}
-use Rattle.clifford.specs.Inside.Rows.{OwnLetter, letters_in, string_in, AppliesString}
-use Rattle.clifford.specs.Inside.InverseRows.{row_bit, bit_read, bit_byte, body_of, RowBack}
+use Rattle.clifford.specs.Layout.{row_of, tableau_of, width_of, row_qubit, FormedTableau}
+use Rattle.clifford.specs.Inside.Rows.{letters_in, string_in, AppliesString}
+use Rattle.clifford.specs.Inside.InverseRows.{row_bit, bit_read, bit_byte, body_of, body_bytes, RowBack}
 use Rattle.clifford.proofs.Rows.{row-x, row-z, own-some, width_of_lem}
 use Rattle.clifford.proofs.RowAccess.{own-inside}
 use Rattle.clifford.proofs.WorkRows.{row_is}
@@ -44,11 +46,11 @@ unfolding bit_byte
 bit_small false = omega arith
 bit_small true = omega arith
 
-pub bit_letter : {b : List ℕ} {w r s q : ℕ} → RowBack b w r → s < 2 * w → q ≡ row_qubit w r → OwnLetter b s q
-bit_letter {b} {w} {r} o h e = record {
-  row = record { tableau = o.old.tableau; own = omega (arith, o.wide) };
-  qubit = omega (arith, o.wide, qubit-below w r e (omega (arith, o.old.own, o.wide)));
-}
+pub bit_row : {b : List ℕ} {w r s : ℕ} → RowBack b w r → s < 2 * w → s < 2 * width_of b
+bit_row o h = omega (arith, o.wide)
+
+pub bit_qubit : {b : List ℕ} {w r q : ℕ} → RowBack b w r → q ≡ row_qubit w r → q < width_of b
+bit_qubit {b} {w} {r} o e = omega (arith, o.wide, qubit-below w r e (omega (arith, o.own, o.wide)))
 
 module _ {b : List ℕ} {w r : ℕ} (o : RowBack b w r) where
   abbrev T : Tableau
@@ -75,7 +77,7 @@ module _ {b : List ℕ} {w r : ℕ} (o : RowBack b w r) where
         ap (λ (j : ℕ). j % 2) read_here ∙ x_bit_lem a
         ∙ sym (ap (λ (c : Bool). bit_byte (cond c has_z has_x a)) (le-ltb r T.width (omega (arith, same_width))))
 
-pub ruleset bit_reads = (bit_letter, bit_for_x, bit_for_z, rules)
+pub ruleset bit_reads = (bit_row, bit_qubit, bit_for_x, bit_for_z, rules)
 
 -- ---- one letter of a body
 pub twice-fits : (t : Tableau) (r s : ℕ) {z : ℕ} → z ≡ bit_byte (bit_read t r s) → Fits w8 (2 * z)
@@ -98,51 +100,52 @@ letter_made {b} {w} {r} {c} {x} {z} o h ex ez =
 
 pub ruleset body_letters = (twice-fits, sum_fits, letter_made, rules)
 
--- ---- the letters of a body before c stand in the work row d
-pub record BodyTo (b : List ℕ) (w r c : ℕ) (d : List ℕ) : Type 0 where
-  pub back : RowBack b w r
-  pub long : length d ≡ w + 1
-  pub within : c ≤ w
-  pub first : get_or d 0 0 ≡ 0
-  pub letters : (k : ℕ) → k < c → get_or d (suc k) 0 ≡ letter_byte ((body_of (tableau_of b) r).letters k)
+-- ---- the letters of a body written
+length-body : (t : Tableau) (w r : ℕ) → length (body_bytes t w r) ≡ w
+unfolding body_bytes
+length-body t w r = length-listed w _
 
-pub body_none : {b : List ℕ} {w r : ℕ} (d : List ℕ) → RowBack b w r → length d ≡ w + 1 → BodyTo b w r 0 (set d 0 0)
-body_none d o h = record {
-  back = o;
-  long = length-set d 0 0 ∙ h;
-  within = omega arith;
-  first = get_or-set_same d 0 0 0 (omega arith);
-  letters = λ k l. absurd (not-suc-le-zero l);
-}
+pub body_at : (t : Tableau) (w r c : ℕ) {l : ℕ} → l ≡ letter_byte ((body_of t r).letters c) → c < w → l ≡ get_or (body_bytes t w r) c 0
+unfolding body_bytes
+body_at t w r c e h = e ∙ sym (get_d_listed w _ c 0 h)
 
-pub body-place : {b : List ℕ} {w r c : ℕ} {d : List ℕ} → BodyTo b w r c d → c < w → c + 1 < length d
-body-place m h = omega (arith, m.long)
+module _ (t : Tableau) (r : ℕ) {w : ℕ} {d : List ℕ} (long : length d ≡ w) where
+  pub body_none : Filled (body_bytes t w r) d (length d) 0 d
+  body_none = filled_none (omega (arith, long, length-body t w r)) (omega arith)
 
-pub body-step : {b : List ℕ} {w r c : ℕ} {d : List ℕ} {l : ℕ} → BodyTo b w r c d → c < w → l ≡ letter_byte ((body_of (tableau_of b) r).letters c)
-    → BodyTo b w r (c + 1) (set d (c + 1) l)
-body-step {b} {w} {r} {c} {d} {l} m h e = record {
-  back = m.back;
-  long = length-set d (c + 1) l ∙ m.long;
-  within = omega arith;
-  first = get_or-set_other d (c + 1) 0 l 0 (omega arith) ∙ m.first;
-  letters = λ k i. elim (ℕ_discrete k c) [
-    | yes z ↦ (let j : suc k ≡ c + 1 = omega arith in ap (λ (j : ℕ). get_or (set d (c + 1) l) j 0) j)
-        ∙ get_or-set_same d (c + 1) l 0 (body-place m h) ∙ e ∙ ap (λ (j : ℕ). letter_byte ((body_of (tableau_of b) r).letters j)) (sym z)
-    | no z ↦ get_or-set_other d (c + 1) (suc k) l 0 (omega arith) ∙ m.letters k (omega arith)
-  ];
-}
+  pub body_place : {c : ℕ} {e : List ℕ} → Filled (body_bytes t w r) d (length d) c e → c < length e → c < w
+  body_place m h = omega (arith, long, filled_length m)
 
-pub body_length : {b : List ℕ} {w r c : ℕ} (d : List ℕ) {e : List ℕ} → length d ≡ w + 1 → BodyTo b w r c e → length e ≡ length d
-body_length d h m = m.long ∙ sym h
+  pub body_all : {c : ℕ} {e : List ℕ} → Filled (body_bytes t w r) d (length d) c e → length d ≤ c → e ≡ body_bytes t w r
+  body_all m h =
+      filled_all w long m h
+      ∙ ap₂ ◌++◌ (take_all w (body_bytes t w r) (omega (arith, length-body t w r))) (drop_of_length-le d {i = w} (omega arith))
+      ∙ append-nil (body_bytes t w r)
 
-pub body_all : {b : List ℕ} {w r c : ℕ} {e : List ℕ} → BodyTo b w r c e → w ≤ c → e ≡ encode_string w (body_of (tableau_of b) r)
-body_all {b} {w} {r} {c} {e} m h =
-    row_is w e (body_of (tableau_of b) r) (omega (arith, m.long)) (m.first ∙ plain) (λ q l. m.letters q (omega arith))
+pub ruleset body_fills = (body_at, body_none, body_place, body_all, filled_step, filled_length, filled_room, rules)
+
+-- ---- a body as a work row
+pub body_some : (w : ℕ) (d : List ℕ) → length d ≡ w + 1 → 0 < length d
+body_some w d h = omega arith
+
+pub body_start : (w : ℕ) (d : List ℕ) → length d ≡ w + 1 → 1 ≤ length (set d 0 0)
+body_start w d h = omega (arith, length-set d 0 0)
+
+pub body_room : {w : ℕ} (d : List ℕ) → length d ≡ w + 1 → length (from 1 (set d 0 0)) ≡ w
+body_room {w} d h = omega (arith, length_from 1 (set d 0 0), length-set d 0 0)
+
+pub body_written : (t : Tableau) (w r : ℕ) (d : List ℕ) {ys : List ℕ} → length d ≡ w + 1 → ys ≡ body_bytes t w r
+    → put_mid 1 (length (set d 0 0) - 1) (set d 0 0) ys ≡ encode_string w (body_of t r)
+unfolding body_bytes encode_string
+body_written t w r [] h e = absurd (not-suc-le-zero (body_some w [] h))
+body_written t w r (x ∷ d) {ys} h e =
+    ap₂ (λ (l : List ℕ) (m : List ℕ). 0 ∷ (l ++ m)) e (drop_of_length-le d {i = length (0 ∷ d) - 1} (omega arith))
+    ∙ ap₂ (λ (p : ℕ) (l : List ℕ). p ∷ l) plain (append-nil (listed w (λ c. letter_byte ((body_of t r).letters c))))
   where
-    plain : 0 ≡ phase_byte (body_of (tableau_of b) r).phase
+    plain : 0 ≡ phase_byte (body_of t r).phase
     plain = unfold body_of transposed phase_byte in refl
 
-pub ruleset bodies = (body_none, body-place, body-step, body_length, body_all, rules)
+pub ruleset bodies = (body_some, body_start, body_room, body_written, length-set, rules)
 
 -- ---- a row of the inverse
 by_kind : (t : Tableau) (c : Bool) (m n : ℕ) → cond c (inverse_row t has_z m) (inverse_row t has_x n) ≡ inverse_row t (cond c has_z has_x) (cond c m n)
@@ -180,17 +183,16 @@ module _ {b : List ℕ} {w r : ℕ} (o : RowBack b w r) where
   made = row_of (inverse (tableau_of b)) r
 
   module _ (s k : List ℕ) (hs : length s ≡ w + 1) (hk : length k ≡ w + 1) where
-    module _ {k' : List ℕ} (ek : k' ≡ encode_string w body) where
+    module _ {k' : List ℕ} (f : FormedTableau b) (ek : k' ≡ encode_string w body) where
       long : length k' ≡ suc w
       long = ap length ek ∙ length_encode w body
 
       pub invert_applies : AppliesString b k' s
       invert_applies = record {
-        tableau = o.old.tableau;
         string = encoded_formed w body ek;
         wide = omega (arith, hs, o.wide);
         reach = omega (arith, hs, long);
-        narrow = omega (arith, hs, o.wide, o.old.tableau.narrow);
+        narrow = omega (arith, hs, o.wide, f.narrow);
       }
 
       pub invert_some : 0 < length k'

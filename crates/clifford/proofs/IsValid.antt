@@ -6,18 +6,19 @@ use Rattle.pauli_group.specs.PauliString.{PauliString, qubits, anticommuting_pla
 use Rattle.pauli_group.proofs.Laws.{anticommute_sym}
 use Rattle.pauli_group.proofs.Products.{count_to_ext}
 use Rattle.clifford_group.specs.Tableau.{Tableau, all_to, valid_qubit, valid_pair, is_valid}
-use Rattle.pauli.specs.Layout.{phase_byte, phase_of}
+use Rattle.pauli.specs.Layout.{phase_byte, phase_of, letter_of}
 use Rattle.pauli.specs.Rows.{letter_at, places_of, shorter}
 use Rattle.pauli.proofs.Answers.{answers}
 use Rattle.pauli.proofs.Asking.{in_order}
-use Rattle.pauli.proofs.Records.{phase-back}
+use Rattle.pauli.proofs.Records.{phase-back, letter-back}
 use Rattle.pauli.proofs.RowProducts.{places_of-rows}
 use Rattle.clifford.specs.Layout.{row_of, width_of, tableau_of}
-use Rattle.clifford.specs.Inside.Rows.{OwnRow, row_letters}
+use Rattle.clifford.specs.Inside.Rows.{OwnRow, letter_bytes}
 use Rattle.clifford.specs.Tableaux.{record_valid}
 use Rattle.std.specs.List.{range_with_len, list_all}
 use Rattle.clifford.proofs.Ranges.{all-range}
-use Rattle.clifford.proofs.Rows.{row_letters-at, row_inside, own_letters_long, width_of_lem}
+use Rattle.clifford.proofs.Rows.{row_inside, width_of_lem}
+use Rattle.clifford.proofs.SupportQubits.{letters-long, letter-byte}
 use Rattle.clifford.proofs.RowAccess.{own-inside}
 use Rattle.clifford.proofs.Asking.{checked}
 
@@ -40,7 +41,7 @@ anticommuting_sym : (s u : PauliString) → anticommuting_places s u ≡ anticom
 unfolding anticommuting_places
 anticommuting_sym s u = count_to_ext qubits _ _ (λ q l. anticommute_sym (s.letters q) (u.letters q))
 
-module _ {a b : List ℕ} {r p : ℕ} (o : OwnRow a r) (m : OwnRow b p) {x y : List ℕ} (ex : x ≡ row_letters a r) (ey : y ≡ row_letters b p) where
+module _ {a b : List ℕ} {r p : ℕ} (o : OwnRow a r) (m : OwnRow b p) {x y : List ℕ} (ex : x ≡ letter_bytes (tableau_of a) r) (ey : y ≡ letter_bytes (tableau_of b) p) where
   abbrev S : PauliString
   S = row_of (tableau_of a) r
 
@@ -48,16 +49,18 @@ module _ {a b : List ℕ} {r p : ℕ} (o : OwnRow a r) (m : OwnRow b p) {x y : L
   U = row_of (tableau_of b) p
 
   long_x : length x ≡ width_of a
-  long_x = ap length ex ∙ own_letters_long o
+  long_x = letters-long a r ex
 
   long_y : length y ≡ width_of b
-  long_y = ap length ey ∙ own_letters_long m
+  long_y = letters-long b p ey
 
-  letters_x : (q : ℕ) → q < width_of a → letter_at x q ≡ S.letters q
-  letters_x q l = ap (λ (d : List ℕ). letter_at d q) ex ∙ row_letters-at a r q l
+  letters_x : (q : ℕ) → letter_at x q ≡ S.letters q
+  unfolding letter_at
+  letters_x q = ap letter_of (letter-byte a r ex q) ∙ letter-back (S.letters q)
 
-  letters_y : (q : ℕ) → q < width_of b → letter_at y q ≡ U.letters q
-  letters_y q l = ap (λ (d : List ℕ). letter_at d q) ey ∙ row_letters-at b p q l
+  letters_y : (q : ℕ) → letter_at y q ≡ U.letters q
+  unfolding letter_at
+  letters_y q = ap letter_of (letter-byte b p ey q) ∙ letter-back (U.letters q)
 
   -- the letters of the shorter row end at its width
   places_are : places_of (shorter x y) x y % 256 ≡ anticommuting_places S U
@@ -66,10 +69,10 @@ module _ {a b : List ℕ} {r p : ℕ} (o : OwnRow a r) (m : OwnRow b p) {x y : L
     | yes h ↦
         (let short : shorter x y ≡ width_of a = omega (arith, long_x, long_y) in ap (λ (j : ℕ). places_of j x y % 256) short)
         ∙ ap (λ (j : ℕ). j % 256) (places_sym (width_of a) x y)
-        ∙ places_of-rows U S (width_of a) y x o.tableau.narrow (λ q l. letters_y q (omega arith)) letters_x (row_inside a r) ∙ anticommuting_sym U S
+        ∙ places_of-rows U S (width_of a) y x o.tableau.narrow (λ q l. letters_y q) (λ q l. letters_x q) (row_inside a r) ∙ anticommuting_sym U S
     | no h ↦
         (let short : shorter x y ≡ width_of b = omega (arith, long_x, long_y) in ap (λ (j : ℕ). places_of j x y % 256) short)
-        ∙ places_of-rows S U (width_of b) x y m.tableau.narrow (λ q l. letters_x q (omega arith)) letters_y (row_inside b p)
+        ∙ places_of-rows S U (width_of b) x y m.tableau.narrow (λ q l. letters_x q) (λ q l. letters_y q) (row_inside b p)
   ]
 
   pub commute-is : {n : ℕ} → n ≡ places_of (shorter x y) x y % 256 → eqb (n % 2) 0 ≡ commute S U
@@ -78,20 +81,15 @@ module _ {a b : List ℕ} {r p : ℕ} (o : OwnRow a r) (m : OwnRow b p) {x y : L
 
 pub ruleset row_commutation = (commute-is, own-inside, rules)
 
--- ---- the rows of one qubit, and of two
+-- ---- the rows of one qubit
 module _ (t : Tableau) (q : ℕ) {x z : PauliString} (ex : x ≡ t.x_image q) (ez : z ≡ t.z_image q) where
-  pub qubit-is : {p r : ℕ} {c : Bool} → p ≡ phase_byte x.phase → r ≡ phase_byte z.phase → c ≡ commute x z
+  pub qubit_is : {p r : ℕ} {c : Bool} → p ≡ phase_byte x.phase → r ≡ phase_byte z.phase → c ≡ commute x z
       → (ltb p 2 && ltb r 2) && not c ≡ valid_qubit t q
   unfolding valid_qubit
-  qubit-is {p} {r} ep er ec =
+  qubit_is {p} {r} ep er ec =
       ap₂ (λ i j. i && j)
       (ap₂ (λ i j. i && j) (real-is x p ep ∙ ap (λ s. is_real s.phase) ex) (real-is z r er ∙ ap (λ s. is_real s.phase) ez))
       (ap not (ec ∙ ap₂ commute ex ez))
-
-  pub pair_is : (p : ℕ) {u v : PauliString} → u ≡ t.x_image p → v ≡ t.z_image p → (commute x u && commute x v) && (commute z u && commute z v) ≡ valid_pair t q p
-  unfolding valid_pair
-  pair_is p eu ev =
-      ap₂ (λ i j. i && j) (ap₂ (λ i j. i && j) (ap₂ commute ex eu) (ap₂ commute ex ev)) (ap₂ (λ i j. i && j) (ap₂ commute ez eu) (ap₂ commute ez ev))
 
 -- ---- all rows
 unfoldable pub valid_row : Tableau → ℕ → Bool
@@ -102,8 +100,8 @@ unfolding is_valid valid_row
 rows-valid t {n} e = all-range n (valid_row (tableau_of t)) ∙ ap (λ (j : ℕ). all_to j (valid_row (tableau_of t))) (e ∙ sym (width_of_lem t))
 
 -- ---- the answer
-pub valid-told : {t s : List ℕ} {b : Bool} → s ≡ t → b ≡ is_valid (tableau_of s) → b ≡ record_valid t
+pub valid-told : (t : List ℕ) {b : Bool} → b ≡ is_valid (tableau_of t) → b ≡ record_valid t
 unfolding record_valid
-valid-told d e = e ∙ ap (λ (x : List ℕ). is_valid (tableau_of x)) d
+valid-told t e = e
 
 pub ruleset validity = (checked, valid-told, answers, in_order, rules)

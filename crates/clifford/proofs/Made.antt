@@ -24,7 +24,7 @@ use Rattle.clifford.specs.Inside.Rows.{Sized, RowIndex, Finished, AppliesString,
 use Rattle.clifford.specs.Inside.Writing.{conjugated}
 use Rattle.clifford.specs.Inside.InverseRows.{RowBack}
 use Rattle.clifford.specs.Inside.GateRows.{row_image_string, RowImageOf, GateOn, PutsImage}
-use Rattle.clifford.specs.Inside.Made.{Made, MakesRow, WritesRow, WritesAll, Widens, Composes, Spans, GateInside}
+use Rattle.clifford.specs.Inside.Made.{Made, MakesRow, WritesRow, WritesAll, Widens, Spans, GateInside}
 use Rattle.clifford.proofs.Rows.{width_of_lem, rows-within, some_bytes}
 use Rattle.clifford.proofs.Records.{proper_of}
 use Rattle.clifford.proofs.RowWriting.{RowsTo, rows_none, rows-room, rows_start, rows_index, rows-length, rows_more, rows_all, qubit-below, row_made, encoded_row, encoded_formed, put_row, put_room}
@@ -39,21 +39,21 @@ width_widened t w h = omega arith
 widens_width : {t : List ℕ} {w : ℕ} → Widens t w → (widen w (tableau_of t)).width ≡ w
 widens_width {t} {w} o = width_widened (tableau_of t) w (omega (arith, o.wide, width_of_lem t))
 
-composes_width : {a b : List ℕ} {w : ℕ} → Composes a b w → (compose (tableau_of a) (tableau_of b)).width ≡ w
-composes_width {a} {b} o = width-compose (tableau_of a) (tableau_of b) ∙ ap₂ max (width_of_lem a) (width_of_lem b) ∙ sym o.wide
+composes_width : (a b : List ℕ) {w : ℕ} → w ≡ max (width_of a) (width_of b) → (compose (tableau_of a) (tableau_of b)).width ≡ w
+composes_width a b o = width-compose (tableau_of a) (tableau_of b) ∙ ap₂ max (width_of_lem a) (width_of_lem b) ∙ sym o
 
 gate_inside_width : {g p v w : ℕ} → GateInside g p v w → (widen w (gate_tableau g p v)).width ≡ w
 gate_inside_width {g} {p} {v} {w} o = width_widened (gate_tableau g p v) w (omega (arith, o.wide, gate-width g p v))
 
-pub widened-made : {t : List ℕ} {w : ℕ} → Widens t w → Made w (widen w (tableau_of t))
+pub widened-made : {t : List ℕ} {w : ℕ} → FormedTableau t → Widens t w → Made w (widen w (tableau_of t))
 unfolding qubits
-widened-made {t} {w} o = record { wide = widens_width o; narrow = o.narrow; proper = proper-widen w o.narrow (tableau_of t) (proper_of o.tableau) }
+widened-made {t} {w} f o = record { wide = widens_width o; narrow = o.narrow; proper = proper-widen w o.narrow (tableau_of t) (proper_of f) }
 
-pub composite-made : {a b : List ℕ} {w : ℕ} → Composes a b w → Made w (compose (tableau_of a) (tableau_of b))
-composite-made {a} {b} o = record {
-  wide = composes_width o;
-  narrow = omega (arith, o.wide, o.first.narrow, o.second.narrow);
-  proper = proper-compose (tableau_of a) (tableau_of b) (proper_of o.first) (proper_of o.second);
+pub composite-made : (a b : List ℕ) {w : ℕ} → FormedTableau a → FormedTableau b → w ≡ max (width_of a) (width_of b) → Made w (compose (tableau_of a) (tableau_of b))
+composite-made a b f g e = record {
+  wide = composes_width a b e;
+  narrow = omega (arith, e, f.narrow, g.narrow);
+  proper = proper-compose (tableau_of a) (tableau_of b) (proper_of f) (proper_of g);
 }
 
 pub inverse-made : {t : List ℕ} → FormedTableau t → Made (width_of t) (inverse (tableau_of t))
@@ -99,25 +99,25 @@ module _ {w n r : ℕ} {s k : List ℕ} (i : RowIndex n r) (o : MakesRow w n s k
       → t.width ≡ w → f (row_qubit n r) (row_letter n r) ≡ row_of t r
   by_letter t f x z e = sym (row_made t f x z n r (e ∙ sym o.place) i.own)
 
-  pub inverse_back : {t : List ℕ} → FormedTableau t → w ≡ width_of t → RowBack t n r
-  inverse_back f e = record { old = record { tableau = f; own = omega (arith, own) }; wide = o.place ∙ e }
+  pub inverse_back : {t : List ℕ} → w ≡ width_of t → RowBack t n r
+  inverse_back e = record { own = omega (arith, own); wide = o.place ∙ e }
 
   pub widened_letter : {t : List ℕ} → Widens t w → AppliesLetter t n k
-  widened_letter d = record { tableau = d.tableau; wide = omega (arith, d.wide, o.place); work = row_work }
+  widened_letter d = record { wide = omega (arith, d.wide, o.place); work = row_work }
 
   pub widened_row : {t k' : List ℕ} → Widens t w → k' ≡ encode_string n (image_of (tableau_of t) (row_qubit n r) (row_letter n r))
       → k' ≡ encode_string w (row_of (widen w (tableau_of t)) r)
   unfolding widen
   widened_row {t} d ek = held ek (by_letter (widen w (tableau_of t)) (image_of (tableau_of t)) (λ q. refl) (λ q. refl) (widens_width d))
 
-  module _ {a b : List ℕ} (c : Composes a b w) where
+  module _ (a b : List ℕ) (c : w ≡ max (width_of a) (width_of b)) where
     pub composite_letter : AppliesLetter b n s
-    composite_letter = record { tableau = c.second; wide = omega (arith, c.wide, o.place); work = omega (arith, o.source, o.place) }
+    composite_letter = record { wide = omega (arith, c, o.place); work = omega (arith, o.source, o.place) }
 
     abbrev image : PauliString
     image = image_of (tableau_of b) (row_qubit n r) (row_letter n r)
 
-    module _ {s' : List ℕ} (es : s' ≡ encode_string n image) where
+    module _ (f : FormedTableau a) (g : FormedTableau b) {s' : List ℕ} (es : s' ≡ encode_string n image) where
       es_w : s' ≡ encode_string w image
       es_w = held es refl
 
@@ -125,15 +125,14 @@ module _ {w n r : ℕ} {s k : List ℕ} (i : RowIndex n r) (o : MakesRow w n s k
       long_s = ap length es_w ∙ length_encode w image
 
       image_in_lem : Within w image
-      image_in_lem = within_image (tableau_of b) (proper_of c.second) w (omega (arith, c.wide, width_of_lem b)) (row_qubit n r) (row_letter n r) below
+      image_in_lem = within_image (tableau_of b) (proper_of g) w (omega (arith, c, width_of_lem b)) (row_qubit n r) (row_letter n r) below
 
       pub composite_applies : AppliesString a s' k
       composite_applies = record {
-        tableau = c.first;
         string = encoded_formed w image es_w;
-        wide = omega (arith, o.work, c.wide);
+        wide = omega (arith, o.work, c);
         reach = omega (arith, o.work, long_s);
-        narrow = omega (arith, o.work, c.wide, c.first.narrow, c.second.narrow);
+        narrow = omega (arith, o.work, c, f.narrow, g.narrow);
       }
 
       pub composite_row : {k' : List ℕ} → k' ≡ encode_string (letters_in k) (apply (tableau_of a) (string_in s'))
@@ -144,7 +143,7 @@ module _ {w n r : ℕ} {s k : List ℕ} (i : RowIndex n r) (o : MakesRow w n s k
           let same : letters_in k ≡ w = omega (arith, o.work) in
           ek
           ∙ ap₂ encode_string same (ap (apply A) (encoded_row w image long_s es_w image_in_lem)
-          ∙ by_letter (compose A B) (λ q l. apply A (image_of B q l)) (row-compose A B of_x) (row-compose A B of_z) (composes_width c))
+          ∙ by_letter (compose A B) (λ q l. apply A (image_of B q l)) (row-compose A B of_x) (row-compose A B of_z) (composes_width a b c))
 
   pub pauli_made : {t : List ℕ} → Spans t w → {k' : List ℕ} → k' ≡ encode_string n (conjugated (string_of t) (single (row_letter n r) (row_qubit n r)))
       → k' ≡ encode_string w (row_of (pauli_tableau (string_of t)) r)

@@ -11,7 +11,7 @@ use Rattle.pauli.proofs.Places.{length-listed, get_d_listed, from, from_is, none
 use Rattle.pauli.proofs.StringProducts.{row-product, row_product-is}
 use Rattle.clifford.specs.Layout.{letter_place, row_length, letters_of, decode_row, row_offset, record_length, longest_record, row_of, width_of, row_part, tableau_of, read_row, letter_in, row_with, row_with_pair, FormedTableau}
 use Rattle.pauli.specs.Places.{listed}
-use Rattle.clifford.specs.Inside.Rows.{letter_bytes, Sized, RowIndex, RowInside, RowAt, OwnQubit, row_answer, OwnRow, WorkRow, Finished, row_times, row_written, letters_in, string_in, row_letters, OwnLetter}
+use Rattle.clifford.specs.Inside.Rows.{letter_bytes, Sized, RowIndex, RowInside, RowAt, OwnQubit, row_answer, OwnRow, WorkRow, Finished, row_times, row_written, letters_in, string_in, row_letters}
 use Rattle.clifford.proofs.Records.{record-small}
 use Rattle.pauli.specs.declared.refusal.Refusal.TheVariants.{BadByte}
 use Rattle.pauli.specs.declared.rows.LetterScan.{LetterScan}
@@ -121,16 +121,21 @@ module _ {b : List ℕ} {q : ℕ} (o : OwnQubit b q) where
 pub ruleset qubit_rows = (qubit_taken, qubit_before, x_taken, x_is, z_taken, z_small, z_is, rules)
 
 -- ---- one letter of a row
-pub letter-row : {b : List ℕ} {r q : ℕ} → OwnLetter b r q → OwnRow b r
-letter-row o = o.row
+module _ {b : List ℕ} {r : ℕ} (f : FormedTableau b) (h : r < 2 * width_of b) where
+  own : OwnRow b r
+  own = record { tableau = f; own = h }
 
-pub letter-inside : {b p : List ℕ} {r q : ℕ} → OwnLetter b r q → p ≡ row_part b r → q + 2 < length p
-letter-inside {b} {p} {r} {q} o e = omega (arith, place_is q, letter_in-row (width_of b) q o.qubit, ap length e, (own_row o.row).long)
+  pub letter-row : RowInside b r
+  letter-row = own-inside own
 
-pub letter_read : {b p : List ℕ} {r q : ℕ} → OwnLetter b r q → p ≡ row_part b r → get_or p (q + 2) 0 ≡ letter_byte ((row_of (tableau_of b) r).letters q)
-letter_read {b} {p} {r} {q} o e = ap₂ (λ (l : List ℕ) (j : ℕ). get_or l j 0) e (sym (place_is q)) ∙ own-letter o.row q o.qubit
+  module _ {q : ℕ} (k : q < width_of b) {p : List ℕ} (e : p ≡ row_part b r) where
+    pub letter-inside : q + 2 < length p
+    letter-inside = omega (arith, place_is q, letter_in-row (width_of b) q k, ap length e, (own_row own).long)
 
-pub ruleset letter_reads = (letter-row, letter-inside, letter_read, own-inside, rules)
+    pub letter_read : get_or p (q + 2) 0 ≡ letter_byte ((row_of (tableau_of b) r).letters q)
+    letter_read = ap₂ (λ (l : List ℕ) (j : ℕ). get_or l j 0) e (sym (place_is q)) ∙ own-letter own q k
+
+pub ruleset letter_reads = (letter-row, letter-inside, letter_read, rules)
 
 -- ---- question 3, put to a row
 module _ (p : List ℕ) (at : ℕ) where

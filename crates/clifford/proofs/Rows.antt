@@ -461,10 +461,6 @@ row-letter b r q h = ap (λ s. s.letters q) (row_decoded b r) ∙ row-letter_at 
 pub row_inside : (b : List ℕ) (r : ℕ) → Within (width_of b) (row_of (tableau_of b) r)
 row_inside b r q h = ap (λ s. s.letters q) (row_decoded b r) ∙ row_within (width_of b) (row_part b r) q h
 
-pub row_letters-at : (b : List ℕ) (r q : ℕ) → q < width_of b → letter_at (row_letters b r) q ≡ (row_of (tableau_of b) r).letters q
-unfolding row_letters
-row_letters-at b r q h = letters_read (row_part b r) q ∙ sym (row-letter b r q h)
-
 -- ---- a row read by letter, whatever the bytes
 pub get_d_part : (b : List ℕ) (r k : ℕ) → k < row_length (width_of b) → get_or (row_part b r) k 0 ≡ get_or b (row_offset (width_of b) r + k) 0
 unfolding row_part

@@ -1,8 +1,6 @@
 -- Images set: the questions, and the record with one row replaced.
 use Rattle.std.proofs.Common.{◌≡◌, ℕ, suc, ◌+◌, ◌-◌, ◌*◌, ◌<◌, ◌≤◌, Bool, true, false, cond, ◌&&◌, eqb, leb, List, ◌++◌, length, get_or, take, drop, sym, refl, ap, ◌∙◌, subst, ap₂, append-nil, arith, drop_of_length-le, length-take, get_or-take, w64, Fits, rules, eq-eqb, ne_eqb, le-leb, leb-true, Ok, Err, not, Option, Some, None}
 use native.Mathlib.Decide.{dec_lt, ℕ_discrete}
-use Rattle.std.specs.List.{range_with_len, find}
-use Rattle.clifford.proofs.Ranges.{found_first, found_none}
 use borrow.Author.Tests.{lt-leb}
 use borrow.Rule.Slice.PartMut.{put_mid}
 use Rattle.pauli_group.specs.Letter.{I, not_i}
@@ -35,39 +33,32 @@ use Rattle.clifford.proofs.Records.{length-record, same-record}
 abbrev pub outside : ℕ → List ℕ → ℕ → Bool
 outside w s q = leb w q && has_letter (string_of s) q
 
--- by its byte
-abbrev pub lettered : List ℕ → ℕ → Bool
-lettered s q = not (eqb (get_or s (q + 1) 0) 0)
-
-lettered-is : (s : List ℕ) (q : ℕ) → q < 128 → has_letter (string_of s) q ≡ lettered s q
-lettered-is s q l = elim (ℕ_discrete (get_or s (q + 1) 0) 0) [
-  | yes z ↦ has_none s q l z ∙ sym (ap (λ (x : ℕ). not (eqb x 0)) z)
-  | no z ↦ has_one s q l z ∙ sym (ap not (ne_eqb (get_or s (q + 1) 0) 0 z))
-]
-
-outside_no : (s : List ℕ) (w q : ℕ) → q < 128 → (w ≤ q → lettered s q ≡ false) → outside w s q ≡ false
+outside_no : (s : List ℕ) (w q : ℕ) → q < 128 → (w ≤ q → get_or s (q + 1) 0 ≡ 0) → outside w s q ≡ false
 outside_no s w q l h = elim (dec_lt q w) [
   | yes k ↦ ap (λ b. b && has_letter (string_of s) q) (lt-leb w q k)
-  | no k ↦ ap₂ ◌&&◌ (le-leb w q (omega arith)) (lettered-is s q l ∙ h (omega arith))
+  | no k ↦ ap₂ ◌&&◌ (le-leb w q (omega arith)) (has_none s q l (h (omega arith)))
 ]
 
-pub outside_first : {s : List ℕ} {w q : ℕ} → Beside s w → Some q ≡ find (lettered s) (range_with_len w (128 - w)) → (q < 128) × (q ≡ lowest_outside w (string_of s))
-unfolding lowest_outside qubits
-outside_first {s} {w} {q} o e =
-    let f = found_first (lettered s) w (128 - w) e in
-    let below : q < 128 = omega (arith, f.1, o.narrow) in (
-      below,
-      first-is 128 (outside w s) q (omega arith) (λ k l. outside_no s w k (omega arith) (λ h. f.3 k h l))
-          (λ l. ap₂ ◌&&◌ (le-leb w q f.0) (lettered-is s q below ∙ f.2)),
-    )
+-- what `find` says of the qubits that it goes over
+module _ {s : List ℕ} {w a b : ℕ} (o : Beside s w) (from_w : a ≡ w) (to_128 : b ≡ 128) where
+  pub outside_first : {q : ℕ}
+      → (a ≤ q) × (q < b) × (get_or s (q + 1) 0 ≡ 0 → ⊥) × ((k : ℕ) → a ≤ k → k < q → get_or s (k + 1) 0 ≡ 0)
+      → (q < 128) × (q ≡ lowest_outside w (string_of s))
+  unfolding lowest_outside qubits
+  outside_first {q} f =
+      let below : q < 128 = omega (arith, f.1, to_128) in (
+        below,
+        first-is 128 (outside w s) q (omega arith) (λ k l. outside_no s w k (omega arith) (λ h. f.3 k (omega (arith, from_w)) l))
+            (λ l. ap₂ ◌&&◌ (le-leb w q (omega (arith, f.0, from_w))) (has_one s q below f.2)),
+      )
 
-pub outside_none : {s : List ℕ} {w : ℕ} → Beside s w → None ≡ find (lettered s) (range_with_len w (128 - w)) → 128 ≡ lowest_outside w (string_of s)
-unfolding lowest_outside qubits
-outside_none {s} {w} o e =
-    first-is 128 (outside w s) 128 (omega arith) (λ k l. outside_no s w k l (λ h. found_none (lettered s) w (128 - w) e k h (omega (arith, o.narrow)))) (λ l. absurd (never l))
-  where
-    never : 128 < 128 → ⊥
-    never l = omega arith
+  pub outside_none : ((k : ℕ) → a ≤ k → k < b → get_or s (k + 1) 0 ≡ 0) → 128 ≡ lowest_outside w (string_of s)
+  unfolding lowest_outside qubits
+  outside_none f =
+      first-is 128 (outside w s) 128 (omega arith) (λ k l. outside_no s w k l (λ h. f k (omega (arith, from_w)) (omega (arith, to_128)))) (λ l. absurd (never l))
+    where
+      never : 128 < 128 → ⊥
+      never l = omega arith
 
 pub inside_no : (w : ℕ) (s : PauliString) {q : ℕ} → q ≡ lowest_outside w s → q < 128 → Err (ImageWidth q w) ≡ inside_question w s
 unfolding inside_question qubits

@@ -3,7 +3,7 @@ use Rattle.std.proofs.Common.{◌≡◌, ℕ, zero, suc, ◌+◌, ◌-◌, ◌<�
 use native.Mathlib.Decide.{dec_lt}
 use Rattle.pauli_group.specs.Letter.{Letter, I, X, Z, Y, not_i}
 use Rattle.pauli_group.specs.PauliString.{PauliString, has_letter, single}
-use Rattle.clifford_group.specs.Tableau.{Tableau, all_to}
+use Rattle.clifford_group.specs.Tableau.{all_to}
 use Rattle.pauli.specs.declared.refusal.Refusal.{Refusal}
 use Rattle.pauli.specs.Answers.{written, CountWritten, Answer, Outcome}
 use Rattle.pauli.specs.Questions.{room_question}
@@ -16,21 +16,13 @@ use Rattle.pauli.specs.Layout.{phase_byte, phase_of, letter_byte}
 use Rattle.pauli.proofs.Records.{phase-back}
 use Rattle.clifford.specs.Layout.{row_of, width_of, tableau_of}
 use Rattle.clifford.specs.Inside.Rows.{letter_bytes}
-use Rattle.clifford.specs.Support.{is_plus_one, alike_at, is_single, changed_qubit, touches_qubit, supports_qubit, some_to, places_with, in_support, support_qubits}
+use Rattle.clifford.specs.Support.{is_plus_one, alike_at, is_single, changed_qubit, supports_qubit, some_to, places_with, in_support, support_qubits}
 use Rattle.clifford.proofs.Rows.{row_inside, width_of_lem}
 use Rattle.std.specs.List.{range_with_len, list_all, list_any, filter, enumerate_from}
-use Rattle.std.specs.Iterator.{Yields}
-use Rattle.std.specs.Iterator.Runs.{EachRunFrom, Run}
-use Rattle.std.specs.Iterator.Adapters.{filter_source, filter_callee, filter_steps}
-use Rattle.std.specs.Fn.{CalledAt}
-use denote.Ref.{Bor}
-use denote.Param.Members.{Mut}
-use Rattle.std.proofs.lemmas.Iterator.{YieldsList}
-use Rattle.std.proofs.lemmas.Iterator.Consumers.{YieldsList-from_filter, YieldsList-turn, YieldsList-end}
 use Rattle.std.proofs.lemmas.List.{take_more, get_or_push}
 use Rattle.std.proofs.lemmas.List.FromFn.{length-enumerate_from, get_or-enumerate_from}
 use Rattle.std.proofs.lemmas.List.Elements.{filter-append}
-use Rattle.clifford.proofs.Ranges.{range-more, all-range, any-range}
+use Rattle.clifford.proofs.Ranges.{range-more, all-range, all-numbered, any-range}
 use Rattle.pauli.proofs.Places.{length-listed, get_d_listed}
 use lib.ListN.{get_or-eq_default, get_or-append}
 
@@ -69,40 +61,35 @@ module _ (t : List ℕ) (r : ℕ) {l : List ℕ} (el : l ≡ letter_bytes (table
   pub letter_seen : (k : ℕ) {x : ℕ} → x ≡ get_or l k 0 → not (eqb x 0) ≡ has_letter (row_of (tableau_of t) r) k
   letter_seen k {x} e = sym (byte-not_i (row_of (tableau_of t) r) k x (e ∙ letter-byte k))
 
-  pub none_seen : (k : ℕ) → length l ≤ k → false ≡ has_letter (row_of (tableau_of t) r) k
-  none_seen k h = letter_seen k (sym (get_or-eq_default l 0 {n = k} h))
-
-  module _ (a : Letter) (q : ℕ) {n : ℕ} (en : n ≡ width_of t) where
+  module _ (a : Letter) (q : ℕ) where
     abbrev pub same : ℕ → Bool
     same = alike_at (row_of (tableau_of t) r) (single a q)
 
-    pub same-is : (c : ℕ) {x : ℕ} → x ≡ letter_byte ((single a q).letters c) → eqb (get_or l c 0) x ≡ same c
-    unfolding alike_at
-    same-is c e = ap₂ eqb (letter-byte c) e
+    -- a letter with its number
+    abbrev pub byte_same : ℕ × ℕ → Bool
+    byte_same p = eqb p.1 (letter_byte ((single a q).letters p.0))
 
-    pub single-is : {p : ℕ} {b : Bool} → p ≡ phase_byte (row_of (tableau_of t) r).phase → b ≡ list_all same (range_with_len 0 n)
+    same-is : (c : ℕ) → byte_same (0 + c, get_or l c 0) ≡ same (0 + c)
+    unfolding alike_at
+    same-is c =
+        let none : 0 + c ≡ c = omega arith in
+        ap (λ (j : ℕ). eqb j (letter_byte ((single a q).letters (0 + c)))) (letter-byte c ∙ ap (λ (j : ℕ). letter_byte ((row_of (tableau_of t) r).letters j)) (sym none))
+
+    pub single-is : {p : ℕ} {b : Bool} → p ≡ phase_byte (row_of (tableau_of t) r).phase → b ≡ list_all byte_same (enumerate_from 0 l)
         → eqb p 0 && b ≡ is_single (width_of t) a q (row_of (tableau_of t) r)
     unfolding is_single
     single-is {p} ep eb =
-        ap₂ (λ x y. x && y) (plus-is p ∙ ap is_plus_one (ap phase_of ep ∙ phase-back _)) (eb ∙ all-range n same ∙ ap (λ (j : ℕ). all_to j same) en)
+        ap₂ (λ x y. x && y) (plus-is p ∙ ap is_plus_one (ap phase_of ep ∙ phase-back _)) (eb ∙ all-numbered l 0 byte_same same (λ c h. same-is c) ∙ all-range (length l) same ∙ ap (λ (j : ℕ). all_to j same) letters-long)
 
-pub ruleset letters_seen = (letter_seen, none_seen, rules)
+pub ruleset letters_seen = (letter_seen, rules)
 
 -- ---- a qubit, by its rows
 module _ (t : List ℕ) (q : ℕ) {s u : PauliString} (es : s ≡ (tableau_of t).x_image q) (eu : u ≡ (tableau_of t).z_image q) {a b : Bool} where
-  pub changed-is : {x z : List ℕ} → x ≡ t → z ≡ t → a ≡ is_single (width_of x) X q s → b ≡ is_single (width_of z) Z q u → not (a && b) ≡ changed_qubit (tableau_of t) q
+  pub changed_is : {x z : List ℕ} → x ≡ t → z ≡ t → a ≡ is_single (width_of x) X q s → b ≡ is_single (width_of z) Z q u → not (a && b) ≡ changed_qubit (tableau_of t) q
   unfolding changed_qubit
-  changed-is dx dz ea eb =
+  changed_is dx dz ea eb =
       ap₂ (λ i j. not (i && j)) (ea ∙ ap₂ (λ (w : ℕ) (v : PauliString). is_single w X q v) (ap width_of dx ∙ sym (width_of_lem t)) es)
       (eb ∙ ap₂ (λ (w : ℕ) (v : PauliString). is_single w Z q v) (ap width_of dz ∙ sym (width_of_lem t)) eu)
-
-  pub touch-is : (k : ℕ) → a ≡ has_letter s k → b ≡ has_letter u k → eqb q k || (a || b) ≡ touches_qubit (tableau_of t) k q
-  unfolding touches_qubit
-  touch-is k ea eb = ap₂ (λ i j. eqb q k || (i || j)) (ea ∙ ap (λ v. has_letter v k) es) (eb ∙ ap (λ v. has_letter v k) eu)
-
-pub supports-is : (t : Tableau) (k q : ℕ) {a b : Bool} → a ≡ touches_qubit t k q → b ≡ changed_qubit t q → a && b ≡ supports_qubit t k q
-unfolding supports_qubit
-supports-is t k q ea eb = ap₂ (λ x y. x && y) ea eb
 
 pub support-is : (t : List ℕ) (k : ℕ) {n : ℕ} → n ≡ width_of t → list_any (supports_qubit (tableau_of t) k) (range_with_len 0 n) ≡ in_support (tableau_of t) k
 unfolding in_support
@@ -153,24 +140,6 @@ support-small t i d h l = omega (arith, places-below (tableau_of t).width (in_su
 abbrev pub WroteTo : (s d : List ℕ) (c : ℕ) (e : List ℕ) → Type 0
 WroteTo s d c e = e ≡ take c s ++ drop c d
 
--- what comes next of the items of an iterator, and that all have come
-pub next_of : {S A B : Type 0} {steps : S → Option A → S → Type 0} {v : A → B} {s : S} {all : List B} (xs : List A) (t : S) → Yields steps s xs t → {r : Option A} (u : S) (x : A)
-    → r ≡ Some x → steps t r u → YieldsList steps v s all → (length xs < length all) × (v x ≡ get_or all (length xs) (v x))
-next_of xs t y u x is p e = YieldsList-turn e xs t y _ _ x is p
-
-pub end_of : {S A B : Type 0} {steps : S → Option A → S → Type 0} {v : A → B} {s : S} {all : List B} (xs : List A) (t : S) → Yields steps s xs t → {r : Option A} (u : S)
-    → r ≡ None → steps t r u → YieldsList steps v s all → length xs ≡ length all
-end_of xs t y u is p e = (YieldsList-end e xs t y _ _ is p).1
-
-pub yields_at : {S A B : Type 0} {steps : S → Option A → S → Type 0} {v : A → B} {s t : S} {all : List B} → t ≡ s → YieldsList steps v s all → YieldsList steps v t all
-yields_at {steps = steps} {v = v} {all = all} e y = subst (λ u. YieldsList steps v u all) (sym e) y
-
--- what `filter` promises of its runs says which closure it goes by
-pub by_runs : {S A B F : Type 0} {steps : S → Option A → S → Type 0} {v : A → B} {ys : List B} {s : _} {g : Mut F (Bor A × Unit {0}) Bool} {P : Run (filter_steps steps g) → Type 0}
-    (test : B → Bool) {f : F} → EachRunFrom (filter_steps steps g) s P → YieldsList steps v (filter_source s) ys → filter_callee s ≡ f
-    → ((x : A) (b : Bool) (q : F) → CalledAt g f x b q → (q ≡ f) × (b ≡ test (v x))) → YieldsList (filter_steps steps g) v s (filter test ys)
-by_runs {g = g} test r e a k = YieldsList-from_filter g test e a k
-
 -- after c of them k comes, under the number p
 pub record Comes (s : List ℕ) (c p k : ℕ) : Type 0 where
   pub there : c < length s
@@ -205,22 +174,19 @@ unfolding written
 wrote_all s d {c} h m = m ∙ ap₂ (λ (l : List ℕ) (j : ℕ). l ++ drop j d) (take_all c s (omega arith)) h
 
 -- ---- the answer
-module _ {t u : List ℕ} (h : Ok tt ≡ tableau_questions t) (is : u ≡ t) {c : ℕ} (k : c ≡ length (support_qubits (tableau_of u))) where
-  count_is : c ≡ length (support_qubits (tableau_of t))
-  count_is = k ∙ ap (λ (x : List ℕ). length (support_qubits (tableau_of x))) is
-
+module _ {t : List ℕ} (h : Ok tt ≡ tableau_questions t) {c : ℕ} (k : c ≡ length (support_qubits (tableau_of t))) where
   support_room : (room : ℕ) {q : Outcome} → q ≡ room_question c room → q ≡ support_answer t room
   unfolding support_answer
-  support_room room e = first_done h (e ∙ ap (λ (j : ℕ). room_question j room) count_is)
+  support_room room e = first_done h (e ∙ ap (λ (j : ℕ). room_question j room) k)
 
   pub support_no_room : {r : Answer ℕ} {x : Refusal} (d : List ℕ) → Err x ≡ room_question c (length d) → IsErrAnd r (λ e. e ≡ x)
       → CountWritten (support_answer t (length d)) (support_bytes t) d d r
   support_no_room d e w = number-exit _ _ d (support_room (length d) e) w
 
-  pub support_done : {d e : List ℕ} → Ok tt ≡ room_question c (length d) → e ≡ written (Ok tt) (support_qubits (tableau_of u)) d
+  pub support_done : {d e : List ℕ} → Ok tt ≡ room_question c (length d) → e ≡ written (Ok tt) (support_qubits (tableau_of t)) d
       → CountWritten (support_answer t (length d)) (support_bytes t) d e (Ok c)
   unfolding support_bytes
-  support_done {d} e w = number-done (support_room (length d) e) count_is (w ∙ ap (λ (x : List ℕ). written (Ok tt) (support_qubits (tableau_of x)) d) is)
+  support_done {d} e w = number-done (support_room (length d) e) k w
 
 pub support_refused : (t : List ℕ) {r : Answer ℕ} {x : Refusal} (d : List ℕ) → Err x ≡ tableau_questions t → IsErrAnd r (λ e. e ≡ x)
     → CountWritten (support_answer t (length d)) (support_bytes t) d d r

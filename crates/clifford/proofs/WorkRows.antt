@@ -32,7 +32,7 @@ times-formed {d} {e} s f h =
 pub times-work : {b d e : List ℕ} (s : PauliString) → WorkRow b d → e ≡ row_times d s → WorkRow b e
 times-work {b} {d} {e} s o h =
     let l : length e ≡ length d = length-times e s o.row h in
-    record { tableau = o.tableau; row = times-formed s o.row h; wide = omega (arith, o.wide); narrow = omega (arith, o.narrow) }
+    record { row = times-formed s o.row h; wide = omega (arith, o.wide); narrow = omega (arith, o.narrow) }
 
 -- ---- a work row cleared
 -- a list of w + 1 bytes is the string whose phase and letters it shows
@@ -137,7 +137,6 @@ turned-work {b} {d} {p} k o e =
     let l : length (set d 0 p) ≡ length d = length-set d 0 p in
     let same : letters_in d ≡ letters_in (set d 0 p) = ap (λ (j : ℕ). j - 1) (sym l) in
     record {
-      tableau = o.tableau;
       row = subst (λ (w : ℕ). WellFormed w (set d 0 p)) same (turned-formed k o.row e);
       wide = omega (arith, o.wide);
       narrow = omega (arith, o.narrow);
@@ -199,18 +198,19 @@ image_none b d {q} {l} o h =
     sym (encode_decode o.work.row) ∙ ap (encode_string (letters_in d)) (sym (mul-identity (string_in d)))
     ∙ ap (λ s. encode_string (letters_in d) (mul (string_in d) s)) (sym (ap (λ (j : ℕ). image_of (tableau_of b) q (letter_of j)) h ∙ image_I (tableau_of b) q))
 
-pub image_row : {b d : List ℕ} {q : ℕ} → WorkOnQubit b d q → WorkRow b d
-image_row o = o.work
+pub own_below : (b : List ℕ) {q n : ℕ} → n ≡ width_of b → q < n → q < width_of b
+own_below b e h = omega arith
 
-pub own_taken : {b d : List ℕ} {q n : ℕ} → WorkOnQubit b d q → n ≡ width_of b → q < n → OwnQubit b q
-own_taken o e h = record { tableau = o.work.tableau; own = omega arith }
+pub own_row : {a b d : List ℕ} {q : ℕ} → a ≡ b → WorkOnQubit b d q → WorkRow a d
+own_row e o = work_as e o.work
 
 pub image_place : {b d : List ℕ} {q : ℕ} → WorkOnQubit b d q → WorkPlace d q
 image_place o = record { row = o.work.row; place = o.place; narrow = o.work.narrow }
 
-pub image_below : (b d : List ℕ) {e : List ℕ} {q n : ℕ} (l : ℕ) → n ≡ width_of b → q < n
-    → e ≡ row_times d (row_image (tableau_of b) q (letter_of l)) → e ≡ row_times d (image_of (tableau_of b) q (letter_of l))
-image_below b d {e} {q} l en h k = k ∙ ap (row_times d) (sym (image_own (tableau_of b) q (letter_of l) (omega (arith, width_of_lem b))))
+pub image_below : (b d : List ℕ) {a e : List ℕ} {p q n : ℕ} (l : ℕ) → n ≡ width_of b → q < n → a ≡ b → p ≡ q
+    → e ≡ row_times d (row_image (tableau_of a) p (letter_of l)) → e ≡ row_times d (image_of (tableau_of b) q (letter_of l))
+image_below b d {q = q} l en h ea ep k =
+    k ∙ ap (row_times d) (ap₂ (λ (x : List ℕ) (j : ℕ). row_image (tableau_of x) j (letter_of l)) ea ep ∙ sym (image_own (tableau_of b) q (letter_of l) (omega (arith, width_of_lem b))))
 
 pub image_over : (b d : List ℕ) {e : List ℕ} {q n : ℕ} (l : ℕ) → n ≡ width_of b → n ≤ q → e ≡ row_times d (single (letter_of l) q)
     → e ≡ row_times d (image_of (tableau_of b) q (letter_of l))
@@ -222,4 +222,4 @@ pub ruleset letter_products = (times-letter, rules)
 
 pub ruleset images = (work_as, own_x, own-z, own_y, rules)
 
-pub ruleset image_products = (image_none, image_row, own_taken, image_place, image_below, image_over, rules)
+pub ruleset image_products = (image_none, own_below, own_row, image_place, image_below, image_over, rules)

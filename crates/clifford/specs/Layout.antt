@@ -111,7 +111,7 @@ joined (suc k) f = joined k f ++ f k
 unfoldable pub tableau_record : Tableau → List ℕ
 tableau_record t = t.width ∷ joined (2 * t.width) (λ r. encode_row t.width (row_of t r))
 
--- the way back: the width, the part of row r, and the tableau
+-- read back: the width, the part of row r, and the tableau
 abbrev pub width_of : List ℕ → ℕ
 width_of b = slice_index b 0
 

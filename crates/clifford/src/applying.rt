@@ -8,8 +8,8 @@ ghost use Rattle.pauli.specs.Layout.{encode_string, letter_of};
 ghost use Rattle.clifford.specs.Layout.{tableau_of, row_qubit, row_letter};
 ghost use Rattle.clifford.specs.Inside.Rows.{WorkRow, WorkOnQubit, WorkPlace, AppliesString, AppliesLetter, ClearRow, cleared_row, row_times, letters_in, string_in};
 
-use crate::layout::{RowPlace, multiply_by, width};
-use crate::tableau::Qubit;
+use crate::layout::{RowPlace, multiply_by};
+use crate::tableau::{Qubit, TableauRecord};
 use pauli::algebra::multiply_paulis;
 use pauli::rows::phase_times;
 
@@ -23,7 +23,8 @@ pub(crate) fn clear_row(work: &mut [u8], phase: u8)
     work[0] = phase;
 }
 
-// A work row multiplied by one letter, on qubit q.
+// A work row multiplied by one letter, on qubit q. No struct holds a work row: each of its methods would promise that it still holds the
+// same bytes, and would owe its invariant at every byte that it writes.
 #[tactic(auto, using(crate::proofs::WorkRows::letter_products))]
 pub(crate) fn multiply_letter(work: &mut [u8], q: usize, letter: u8)
     requires { WorkPlace work.old q }
@@ -61,15 +62,15 @@ fn multiply_own(work: &mut [u8], qubit: &Qubit, letter: u8)
 
 // A work row multiplied by the image of a letter on qubit q: by rows below the width; letters at the width or above pass through.
 #[tactic(auto, using(crate::proofs::WorkRows::image_products))]
-fn multiply_image(work: &mut [u8], t: &[u8], q: usize, letter: u8)
-    requires { WorkOnQubit t.now work.old q }
-    ensures { work.new ≡ row_times work.old (image_of (tableau_of t.now) q (letter_of letter)) }
+fn multiply_image(work: &mut [u8], t: &TableauRecord, q: usize, letter: u8)
+    requires { WorkOnQubit t.now.bytes.now work.old q }
+    ensures { work.new ≡ row_times work.old (image_of (tableau_of t.now.bytes.now) q (letter_of letter)) }
 {
     if letter == 0 {
         return;
     }
-    if q < width(t) {
-        multiply_own(work, &Qubit { bytes: t, q }, letter);
+    if q < t.width() {
+        multiply_own(work, &t.qubit(q), letter);
     } else {
         multiply_letter(work, q, letter);
     }
@@ -77,9 +78,9 @@ fn multiply_image(work: &mut [u8], t: &[u8], q: usize, letter: u8)
 
 // The apply routine: the image of the string s, as a work row. Starts with its phase and identity letters, and goes by rising
 // qubit.
-pub(crate) fn apply_string(t: &[u8], s: &[u8], work: &mut [u8])
-    requires { AppliesString t.now s.now work.old }
-    ensures { work.new ≡ encode_string (letters_in work.old) (apply (tableau_of t.now) (string_in s.now)) }
+pub(crate) fn apply_string(t: &TableauRecord, s: &[u8], work: &mut [u8])
+    requires { AppliesString t.now.bytes.now s.now work.old }
+    ensures { work.new ≡ encode_string (letters_in work.old) (apply (tableau_of t.now.bytes.now) (string_in s.now)) }
 {
     clear_row(work, s[0]);
     for (q, letter) in s[1..].iter().enumerate() {
@@ -88,9 +89,9 @@ pub(crate) fn apply_string(t: &[u8], s: &[u8], work: &mut [u8])
 }
 
 // The image of the row's letter on its qubit, as a work row; the row may be one of a wider record.
-pub(crate) fn apply_letter(t: &[u8], row: RowPlace, work: &mut [u8])
-    requires { AppliesLetter t.now row.width work.old }
-    ensures { work.new ≡ encode_string row.width (image_of (tableau_of t.now) (row_qubit row.width row.r) (row_letter row.width row.r)) }
+pub(crate) fn apply_letter(t: &TableauRecord, row: RowPlace, work: &mut [u8])
+    requires { AppliesLetter t.now.bytes.now row.width work.old }
+    ensures { work.new ≡ encode_string row.width (image_of (tableau_of t.now.bytes.now) (row_qubit row.width row.r) (row_letter row.width row.r)) }
 {
     clear_row(work, 0);
     multiply_image(work, t, row.qubit(), row.letter());

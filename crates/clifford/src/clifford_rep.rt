@@ -143,7 +143,8 @@ pub fn identity(n: usize, dst: &mut [u8]) -> Result<(), Refusal>
 {
     check_width(n)?;
     let none = [0u8; 1];
-    write_made(&Widened { t: &none, width: n }, dst)
+    let t = TableauRecord { bytes: &none };
+    write_made(&Widened { t, width: n }, dst)
 }
 
 // ---- apply
@@ -156,7 +157,7 @@ pub fn apply(t: &[u8], s: &[u8], dst: &mut [u8]) -> Result<(), Refusal>
     check_tableau(t)?;
     check_string(s)?;
     check_room(STRING_LENGTH, dst.len())?;
-    apply_string(t, s, &mut dst[0..STRING_LENGTH]);
+    apply_string(&TableauRecord { bytes: t }, s, &mut dst[0..STRING_LENGTH]);
     Ok(())
 }
 
@@ -168,7 +169,9 @@ pub fn compose(a: &[u8], b: &[u8], dst: &mut [u8]) -> Result<(), Refusal>
     ensures { Composed a.now b.now dst.old dst.new result }
 {
     check_tableaux(a, b)?;
-    let width = width(a).max(width(b));
+    let a = TableauRecord { bytes: a };
+    let b = TableauRecord { bytes: b };
+    let width = a.width().max(b.width());
     write_made(&Composite { a, b, width }, dst)
 }
 
@@ -181,7 +184,8 @@ pub fn extended_to(t: &[u8], n: usize, dst: &mut [u8]) -> Result<(), Refusal>
 {
     check_tableau(t)?;
     check_width(n)?;
-    let width = width(t).max(n);
+    let t = TableauRecord { bytes: t };
+    let width = t.width().max(n);
     write_made(&Widened { t, width }, dst)
 }
 
@@ -193,6 +197,7 @@ pub fn inverse(t: &[u8], dst: &mut [u8]) -> Result<(), Refusal>
     ensures { Inverted t.now dst.old dst.new result }
 {
     check_tableau(t)?;
+    let t = TableauRecord { bytes: t };
     write_made(&Inverse { t }, dst)
 }
 
@@ -204,7 +209,7 @@ pub fn is_valid(t: &[u8]) -> Result<bool, Refusal>
     ensures { ValidityTold t.now result }
 {
     check_tableau(t)?;
-    Ok(TableauRecord::of(t).is_valid())
+    Ok(TableauRecord { bytes: t }.is_valid())
 }
 
 // ---- the tableau of a Pauli string
@@ -226,7 +231,7 @@ pub fn support_qubits(t: &[u8], dst: &mut [u8]) -> Result<usize, Refusal>
     ensures { SupportWritten t.now dst.old dst.new result }
 {
     check_tableau(t)?;
-    let tableau = TableauRecord::of(t);
+    let tableau = TableauRecord { bytes: t };
     // They are counted before any is written, since a refusal writes nothing.
     let count = tableau.support_count();
     check_room(count, dst.len())?;
@@ -241,7 +246,7 @@ fn check_display(t: &[u8], room: usize) -> Result<(), Refusal>
     ensures { result ≡ display_answer t.now room }
 {
     check_tableau(t)?;
-    check_room(TableauRecord::of(t).display_length(), room)
+    check_room(TableauRecord { bytes: t }.display_length(), room)
 }
 
 // The text that shows a tableau; the answer is its length.
@@ -250,7 +255,7 @@ pub fn display(t: &[u8], dst: &mut [u8]) -> Result<usize, Refusal>
     ensures { Displayed t.now dst.old dst.new result }
 {
     check_display(t, dst.len())?;
-    Ok(TableauRecord::of(t).write_display(dst))
+    Ok(TableauRecord { bytes: t }.write_display(dst))
 }
 
 // Whether a text starts as every display text does.

@@ -40,6 +40,7 @@ fn write_label(dst: &mut [u8], at: usize, row: RowPlace) -> usize
 {
     let name = put_text(dst, at, b"  ");
     let number = write_letter(dst, name, row);
+    // A qubit, as the width in write_header.
     let arrow = put_decimal(dst, number, row.qubit() as u64);
     put_text(dst, arrow, b" -> ")
 }
@@ -63,7 +64,7 @@ impl Row<'_> {
 impl TableauRecord<'_> {
     // The whole text, X and Z of each qubit; the answer is its length.
     pub(crate) fn write_display(&self, dst: &mut [u8]) -> usize
-        ensures { TextWritten (text_of_tableau self.now) dst.old dst.new result }
+        ensures { TextWritten (text_of_tableau self.now.bytes.now) dst.old dst.new result }
     {
         let n = self.width();
         let header = write_header(dst, n);
@@ -78,7 +79,7 @@ impl TableauRecord<'_> {
 
     // Its length.
     pub(crate) fn display_length(&self) -> usize
-        ensures { result ≡ length (text_of_tableau self.now) }
+        ensures { result ≡ length (text_of_tableau self.now.bytes.now) }
     {
         self.write_display(&mut [])
     }

@@ -1,12 +1,12 @@
 // Tableau records: where their rows are, and how one row is read and written. Only here does code know the bytes of a row.
-ghost use Rattle.std.specs.Prelude.{◌≡◌, ◌+◌, ◌<◌, ◌≤◌, min, length, slice_index};
+ghost use Rattle.std.specs.Prelude.{◌≡◌, ◌+◌, ◌*◌, ◌<◌, ◌≤◌, min, length, slice_index};
 ghost use Rattle.pauli.specs.Layout.{phase_byte, letter_byte};
 ghost use Rattle.clifford.specs.Playing.{letter_table_on_row, pair_table_on_row};
 ghost use Rattle.clifford.specs.Layout.{width_of, record_length, row_offset, row_of, row_part, read_row, tableau_of, row_qubit, row_letter};
 ghost use Rattle.clifford.specs.Questions.{row_question, weights_question};
-ghost use Rattle.clifford.specs.Inside.Rows.{Sized, RowIndex, RowInside, RowAt, row_answer, FirstFalse, OwnRow, OwnLetter, WorkRow, Finished, row_times, row_written, row_letters, letters_in, string_in};
+ghost use Rattle.clifford.specs.Inside.Rows.{Sized, RowIndex, RowInside, RowAt, row_answer, FirstFalse, WorkRow, Finished, row_times, row_written, row_letters, letters_in, string_in};
 
-use crate::tableau::Row;
+use crate::tableau::{Row, TableauRecord};
 use pauli::QUBITS;
 use pauli::refusal::Refusal;
 use pauli::rows::{count_letters, first_bad, multiply_letters, phase_times, scan_letters};
@@ -15,10 +15,7 @@ use pauli::rows::{count_letters, first_bad, multiply_letters, phase_times, scan_
 pub fn width(t: &[u8]) -> usize
     ensures { result ≡ width_of t.now }
 {
-    match t.first() {
-        Some(n) => usize::from(*n),
-        None => 0,
-    }
+    t.first().map_or(0, |n| usize::from(*n))
 }
 
 // The length of a record of width 128.
@@ -96,13 +93,12 @@ pub(crate) fn check_weights(t: &[u8], first: Option<usize>) -> Result<(), Refusa
     }
 }
 
-// The letters of row r.
+// The letters of a row.
 #[tactic(auto, using(crate::proofs::RowAccess::row_reads))]
-pub(crate) fn row_letters(t: &[u8], r: usize) -> &[u8]
-    requires { OwnRow t.now r }
-    ensures { result.now ≡ row_letters t.now r }
+pub(crate) fn row_letters<'a>(of: &Row<'a>) -> &'a [u8]
+    ensures { result.now ≡ row_letters of.now.bytes.now of.now.r }
 {
-    let whole = row(t, r);
+    let whole = row(of.bytes, of.r);
     &whole[2..]
 }
 
@@ -163,21 +159,20 @@ impl RowPlace {
 }
 
 // The letter of row r at qubit q.
-pub(crate) fn letter_in_row(t: &[u8], r: usize, q: usize) -> u8
-    requires { OwnLetter t.now r q }
-    ensures { result ≡ letter_byte ((row_of (tableau_of t.now) r).letters q) }
+#[tactic(auto, using(crate::proofs::RowAccess::letter_reads))]
+pub(crate) fn letter_in_row(t: &TableauRecord, r: usize, q: usize) -> u8
+    requires row { r < 2 * width_of t.now.bytes.now }
+    requires qubit { q < width_of t.now.bytes.now }
+    ensures { result ≡ letter_byte ((row_of (tableau_of t.now.bytes.now) r).letters q) }
 {
-    row(t, r)[q + 2]
+    row(t.bytes, r)[q + 2]
 }
 
 // The byte at this place of t as it is read: one above 3 as 3, and one that isn't there as 0.
 fn read_at(t: &[u8], at: usize) -> u8
     ensures { result ≡ min (slice_index t.now at) 3 }
 {
-    match t.get(at) {
-        Some(x) => (*x).min(3),
-        None => 0,
-    }
+    t.get(at).map_or(0, |x| (*x).min(3))
 }
 
 // The phase of row r, whatever the bytes of t: +1 where a record of this width has no such row.

@@ -22,7 +22,7 @@ pub(crate) fn check_inside(s: &[u8], width: usize) -> Result<(), Refusal>
     }
 }
 
-// Row r replaced by the string s.
+// Row r replaced by the string s. A record that is written is no TableauRecord, which lends its bytes to be read.
 #[tactic(auto, using(crate::proofs::SetImage::row_setting))]
 pub(crate) fn set_row(t: &mut [u8], r: usize, s: &[u8])
     requires { SetsRow t.old r s.now }

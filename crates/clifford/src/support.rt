@@ -25,8 +25,11 @@ impl Row<'_> {
         ensures { result ≡ is_single (width_of self.now.bytes.now) (generator G.letter) q (row_of (tableau_of self.now.bytes.now) self.now.r) }
     {
         let letters = self.letters();
-        // By number, since which letter is wanted depends on the qubit.
-        self.phase() == 0 && (0..letters.len()).all(|c| letters[c] == single_byte::<G>(q, c))
+        self.phase() == 0
+            && letters
+                .iter()
+                .enumerate()
+                .all(|(c, letter)| *letter == single_byte::<G>(q, c))
     }
 
     // Whether it has a letter on qubit k.
@@ -34,10 +37,7 @@ impl Row<'_> {
     fn has_letter(&self, k: usize) -> bool
         ensures { result ≡ has_letter (row_of (tableau_of self.now.bytes.now) self.now.r) k }
     {
-        match self.letters().get(k) {
-            Some(letter) => *letter != 0,
-            None => false,
-        }
+        self.letters().get(k).copied().unwrap_or(0) != 0
     }
 }
 
@@ -50,7 +50,8 @@ impl Qubit<'_> {
         !(x.is_single::<X>(self.q) && z.is_single::<Z>(self.q))
     }
 
-    // Whether k is it or has a letter in one of its rows.
+    // Whether k is this qubit or has a letter in one of its rows.
+    #[tactic(auto, unfolding(crate::specs::Support::touches_qubit))]
     fn touches(&self, k: usize) -> bool
         ensures { result ≡ touches_qubit (tableau_of self.now.bytes.now) k self.now.q }
     {
@@ -59,6 +60,7 @@ impl Qubit<'_> {
         self.q == k || x.has_letter(k) || z.has_letter(k)
     }
 
+    #[tactic(auto, unfolding(crate::specs::Support::supports_qubit))]
     fn supports(&self, k: usize) -> bool
         ensures { result ≡ supports_qubit (tableau_of self.now.bytes.now) k self.now.q }
     {
@@ -69,22 +71,22 @@ impl Qubit<'_> {
 impl TableauRecord<'_> {
     // Whether k is in the support.
     fn in_support(&self, k: usize) -> bool
-        ensures { result ≡ in_support (tableau_of self.now) k }
+        ensures { result ≡ in_support (tableau_of self.now.bytes.now) k }
     {
         (0..self.width()).any(|q| self.qubit(q).supports(k))
     }
 
     // The number of qubits of the support.
     pub(crate) fn support_count(&self) -> usize
-        ensures { result ≡ length (support_qubits (tableau_of self.now)) }
+        ensures { result ≡ length (support_qubits (tableau_of self.now.bytes.now)) }
     {
         (0..self.width()).filter(|k| self.in_support(*k)).count()
     }
 
     // The qubits of the support, rising.
     pub(crate) fn write_support(&self, dst: &mut [u8])
-        requires { length (support_qubits (tableau_of self.now)) ≤ length dst.old }
-        ensures { dst.new ≡ written (Ok tt) (support_qubits (tableau_of self.now)) dst.old }
+        requires { length (support_qubits (tableau_of self.now.bytes.now)) ≤ length dst.old }
+        ensures { dst.new ≡ written (Ok tt) (support_qubits (tableau_of self.now.bytes.now)) dst.old }
     {
         let qubits = (0..self.width()).filter(|k| self.in_support(*k));
         'writing: for (place, k) in qubits.enumerate() {

@@ -1,5 +1,5 @@
 // A record that has passed the questions, its qubits and its rows, so that what reads them asks nothing more.
-ghost use Rattle.std.specs.Prelude.{◌≡◌, ℕ, ◌+◌, ◌<◌, ◌≤◌, List};
+ghost use Rattle.std.specs.Prelude.{◌≡◌, ◌+◌, ◌<◌, ◌≤◌};
 ghost use Rattle.pauli_group.specs.PauliString.{commute};
 ghost use Rattle.pauli.specs.Layout.{phase_byte};
 ghost use Rattle.clifford.specs.Layout.{FormedTableau, row_of, tableau_of, width_of};
@@ -7,32 +7,16 @@ ghost use Rattle.clifford.specs.Inside.Rows.{OwnQubit, OwnRow, letter_bytes};
 
 use crate::layout;
 use pauli::rows::count_anticommuting;
-use std::marker::Model;
 
-// Clauses see its bytes.
-#[derive(Drop)]
+#[derive(Clone, Copy)]
 pub(crate) struct TableauRecord<'a> {
-    bytes: &'a [u8],
-}
-
-impl<'a> Model for TableauRecord<'a> {
-    ghost Value = { List ℕ };
-
-    ghost view = { λ t. t.bytes.now };
-
-    ghost invariant = { λ t. FormedTableau t.bytes.now };
+    pub(crate) bytes: &'a [u8],
+    ghost formed: { FormedTableau bytes.now },
 }
 
 impl<'a> TableauRecord<'a> {
-    pub(crate) fn of(bytes: &'a [u8]) -> Self
-        requires { FormedTableau bytes.now }
-        ensures { result ≡ bytes.now }
-    {
-        TableauRecord { bytes }
-    }
-
     pub(crate) fn width(&self) -> usize
-        ensures is { result ≡ width_of self.now }
+        ensures is { result ≡ width_of self.now.bytes.now }
         ensures narrow { result ≤ 128 }
     {
         layout::width(self.bytes)
@@ -40,8 +24,8 @@ impl<'a> TableauRecord<'a> {
 
     #[tactic(auto, using(crate::proofs::RowAccess::qubit_rows))]
     pub(crate) fn qubit(&self, q: usize) -> Qubit<'a>
-        requires { q < width_of self.now }
-        ensures bytes { result.bytes.now ≡ self.now }
+        requires { q < width_of self.now.bytes.now }
+        ensures bytes { result.bytes.now ≡ self.now.bytes.now }
         ensures place { result.q ≡ q }
     {
         Qubit {
@@ -59,6 +43,7 @@ pub(crate) struct Qubit<'a> {
     ghost own: { OwnQubit bytes.now q },
 }
 
+// No one function of the generator for both rows: its promise would have to ask which of the two images it names.
 impl<'a> Qubit<'a> {
     // The row of the image of X.
     #[tactic(auto, using(crate::proofs::RowAccess::qubit_rows))]
@@ -107,7 +92,7 @@ impl<'a> Row<'a> {
     pub(crate) fn letters(&self) -> &'a [u8]
         ensures { result.now ≡ letter_bytes (tableau_of self.now.bytes.now) self.now.r }
     {
-        layout::row_letters(self.bytes, self.r)
+        layout::row_letters(self)
     }
 
     // Whether two rows commute: the places at which they anticommute, at most 128, are even in number.
@@ -115,10 +100,7 @@ impl<'a> Row<'a> {
     pub(crate) fn commutes_with(&self, other: &Row) -> bool
         ensures { result ≡ commute (row_of (tableau_of self.now.bytes.now) self.now.r) (row_of (tableau_of other.now.bytes.now) other.now.r) }
     {
-        let places = count_anticommuting(
-            layout::row_letters(self.bytes, self.r),
-            layout::row_letters(other.bytes, other.r),
-        );
+        let places = count_anticommuting(self.letters(), other.letters());
         places % 2 == 0
     }
 }

@@ -7,7 +7,7 @@ ghost use Rattle.clifford.specs.Layout.{tableau_of};
 use crate::tableau::{Qubit, TableauRecord};
 
 impl Qubit<'_> {
-    // Its own rows.
+    // Whether its own rows are valid.
     fn has_valid_rows(&self) -> bool
         ensures { result ≡ valid_qubit (tableau_of self.now.bytes.now) self.now.q }
     {
@@ -16,8 +16,8 @@ impl Qubit<'_> {
         x.phase() < 2 && z.phase() < 2 && !x.commutes_with(&z)
     }
 
-    // Its rows with those of a qubit before it.
-    #[tactic(auto, using(crate::proofs::RowAccess::qubit_rows))]
+    // Whether its rows commute with those of a qubit before it.
+    #[tactic(auto, using(crate::proofs::RowAccess::qubit_rows, pauli::proofs::Asking::by_questions), unfolding(clifford_group::specs::Tableau::valid_pair))]
     fn commutes_with(&self, r: usize) -> bool
         requires { r < self.now.q }
         ensures { result ≡ valid_pair (tableau_of self.now.bytes.now) self.now.q r }
@@ -36,7 +36,7 @@ impl Qubit<'_> {
             && z.commutes_with(&other_z)
     }
 
-    // Its rows, among themselves and with those of the qubits before it.
+    // Whether its rows are valid, among themselves and with those of the qubits before it.
     fn is_valid(&self) -> bool
         ensures { result ≡ (valid_qubit (tableau_of self.now.bytes.now) self.now.q && all_to self.now.q (valid_pair (tableau_of self.now.bytes.now) self.now.q)) }
     {
@@ -47,7 +47,7 @@ impl Qubit<'_> {
 impl TableauRecord<'_> {
     // Whether the tableau is valid, by its own rows.
     pub(crate) fn is_valid(&self) -> bool
-        ensures { result ≡ is_valid (tableau_of self.now) }
+        ensures { result ≡ is_valid (tableau_of self.now.bytes.now) }
     {
         (0..self.width()).all(|q| self.qubit(q).is_valid())
     }

@@ -1,20 +1,21 @@
 // Tableaux written row by row: each row is made in the part of the destination that starts at its offset.
-ghost use Rattle.std.specs.Prelude.{◌≡◌, ℕ, Ok};
+ghost use Rattle.std.specs.Prelude.{◌≡◌, max, ℕ, Ok};
 ghost use Rattle.clifford_group.specs.Tableau.{Tableau, widen, compose, inverse};
 ghost use Rattle.clifford_gates.specs.GateNumbers.{gate_tableau};
 ghost use Rattle.pauli.specs.Answers.{written};
 ghost use Rattle.pauli.specs.Layout.{encode_string, string_of};
-ghost use Rattle.clifford.specs.Layout.{row_of, tableau_of, tableau_record, width_of, FormedTableau};
+ghost use Rattle.clifford.specs.Layout.{row_of, tableau_of, tableau_record, width_of};
 ghost use Rattle.clifford.specs.Images.{pauli_tableau};
 ghost use Rattle.clifford.specs.Inside.Rows.{row_written};
-ghost use Rattle.clifford.specs.Inside.Made.{Made, MakesRow, WritesRow, WritesAll, TableauWritten, Widens, Composes, Spans, GateInside};
+ghost use Rattle.clifford.specs.Inside.Made.{Made, MakesRow, WritesRow, WritesAll, TableauWritten, Widens, Spans, GateInside};
 
 use crate::applying::{apply_letter, apply_string};
 use crate::gates::put_image;
 use crate::inverting::InverseRow;
-use crate::layout::{RowPlace, record_length, row_offset, width, write_row};
+use crate::layout::{RowPlace, record_length, row_offset, write_row};
 use crate::numbering::PlacedGate;
 use crate::pauli_tableau::pauli_row;
+use crate::tableau::TableauRecord;
 use pauli::STRING_LENGTH;
 use pauli::questions::check_room;
 use pauli::refusal::Refusal;
@@ -38,15 +39,15 @@ pub(crate) trait RowMaker {
 // The tableau t, widened.
 #[derive(Clone, Copy)]
 pub(crate) struct Widened<'a> {
-    pub(crate) t: &'a [u8],
+    pub(crate) t: TableauRecord<'a>,
     pub(crate) width: usize,
-    ghost widens: { Widens t.now width },
+    ghost widens: { Widens t.bytes.now width },
 }
 
 impl<'a> RowMaker for Widened<'a> {
     ghost wide = { λ m. m.width };
 
-    ghost made = { λ m. widen m.width (tableau_of m.t.now) };
+    ghost made = { λ m. widen m.width (tableau_of m.t.bytes.now) };
 
     fn width(&self) -> usize {
         self.width
@@ -54,23 +55,23 @@ impl<'a> RowMaker for Widened<'a> {
 
     #[tactic(auto, using(crate::proofs::Made::made_rows))]
     fn make_row(&self, row: RowPlace, _source: &mut [u8], work: &mut [u8]) {
-        apply_letter(self.t, row, work);
+        apply_letter(&self.t, row, work);
     }
 }
 
 // a composed with b: b acts first.
 #[derive(Clone, Copy)]
 pub(crate) struct Composite<'a> {
-    pub(crate) a: &'a [u8],
-    pub(crate) b: &'a [u8],
+    pub(crate) a: TableauRecord<'a>,
+    pub(crate) b: TableauRecord<'a>,
     pub(crate) width: usize,
-    ghost composes: { Composes a.now b.now width },
+    ghost wider: { width ≡ max (width_of a.bytes.now) (width_of b.bytes.now) },
 }
 
 impl<'a> RowMaker for Composite<'a> {
     ghost wide = { λ m. m.width };
 
-    ghost made = { λ m. compose (tableau_of m.a.now) (tableau_of m.b.now) };
+    ghost made = { λ m. compose (tableau_of m.a.bytes.now) (tableau_of m.b.bytes.now) };
 
     fn width(&self) -> usize {
         self.width
@@ -78,30 +79,29 @@ impl<'a> RowMaker for Composite<'a> {
 
     #[tactic(auto, using(crate::proofs::Made::made_rows))]
     fn make_row(&self, row: RowPlace, source: &mut [u8], work: &mut [u8]) {
-        apply_letter(self.b, row, source);
-        apply_string(self.a, source, work);
+        apply_letter(&self.b, row, source);
+        apply_string(&self.a, source, work);
     }
 }
 
 // The inverse of the tableau t.
 #[derive(Clone, Copy)]
 pub(crate) struct Inverse<'a> {
-    pub(crate) t: &'a [u8],
-    ghost formed: { FormedTableau t.now },
+    pub(crate) t: TableauRecord<'a>,
 }
 
 impl<'a> RowMaker for Inverse<'a> {
-    ghost wide = { λ m. width_of m.t.now };
+    ghost wide = { λ m. width_of m.t.bytes.now };
 
-    ghost made = { λ m. inverse (tableau_of m.t.now) };
+    ghost made = { λ m. inverse (tableau_of m.t.bytes.now) };
 
     fn width(&self) -> usize {
-        width(self.t)
+        self.t.width()
     }
 
     fn make_row(&self, row: RowPlace, source: &mut [u8], work: &mut [u8]) {
-        let made = InverseRow { t: self.t, row };
-        made.write(source, work);
+        let inverse = InverseRow { t: self.t, row };
+        inverse.write(source, work);
     }
 }
 
@@ -153,38 +153,39 @@ impl RowMaker for OfGate {
 
 // The apply routine for rows: the generator of a row sent through what is made, as the row at the front of dst.
 #[tactic(auto, using(crate::proofs::Made::written_rows))]
-fn apply_to_row<M: RowMaker>(made: &M, row: RowPlace, dst: &mut [u8])
-    requires { WritesRow (M.wide made.now) (M.made made.now) row.width dst.old }
-    ensures { dst.new ≡ row_written (M.wide made.now) (row_of (M.made made.now) row.r) dst.old }
+fn apply_to_row<M: RowMaker>(maker: &M, row: RowPlace, dst: &mut [u8])
+    requires { WritesRow (M.wide maker.now) (M.made maker.now) row.width dst.old }
+    ensures { dst.new ≡ row_written (M.wide maker.now) (row_of (M.made maker.now) row.r) dst.old }
 {
     let mut source = [0u8; STRING_LENGTH];
     let mut work = [0u8; STRING_LENGTH];
-    let end = made.width() + 1;
+    let end = maker.width() + 1;
     let work = &mut work[0..end];
-    made.make_row(row, &mut source[0..end], work);
+    maker.make_row(row, &mut source[0..end], work);
     write_row(work, dst);
 }
 
-// All rows, each at its own offset. No chunks of dst, which may go on after the record: they would have to be counted off by the rows.
-fn write_rows<M: RowMaker>(made: &M, dst: &mut [u8])
-    requires { WritesAll (M.wide made.now) (M.made made.now) dst.old }
-    ensures { dst.new ≡ written (Ok tt) (tableau_record (M.made made.now)) dst.old }
+// All rows, each in the part of dst that starts at its own offset, which is a fixed form of the scope document.
+#[tactic(auto, using(crate::proofs::Made::all_rows))]
+fn write_rows<M: RowMaker>(maker: &M, dst: &mut [u8])
+    requires { WritesAll (M.wide maker.now) (M.made maker.now) dst.old }
+    ensures { dst.new ≡ written (Ok tt) (tableau_record (M.made maker.now)) dst.old }
 {
-    let width = made.width();
+    let width = maker.width();
     // A width is at most 128: by TryFrom there would be a failure to answer, which never comes.
     dst[0] = width as u8;
     for r in 0..2 * width {
         let at = row_offset(width, r);
-        apply_to_row(made, RowPlace { width, r }, &mut dst[at..]);
+        apply_to_row(maker, RowPlace { width, r }, &mut dst[at..]);
     }
 }
 
 // The record of the tableau, where there is room for it.
-pub(crate) fn write_made<M: RowMaker>(made: &M, dst: &mut [u8]) -> Result<(), Refusal>
-    requires { Made (M.wide made.now) (M.made made.now) }
-    ensures { TableauWritten (M.wide made.now) (M.made made.now) dst.old dst.new result }
+pub(crate) fn write_made<M: RowMaker>(maker: &M, dst: &mut [u8]) -> Result<(), Refusal>
+    requires { Made (M.wide maker.now) (M.made maker.now) }
+    ensures { TableauWritten (M.wide maker.now) (M.made maker.now) dst.old dst.new result }
 {
-    check_room(record_length(made.width()), dst.len())?;
-    write_rows(made, dst);
+    check_room(record_length(maker.width()), dst.len())?;
+    write_rows(maker, dst);
     Ok(())
 }

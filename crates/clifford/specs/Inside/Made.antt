@@ -1,10 +1,10 @@
 -- Tableaux made row by row, and what the functions that make and write them may count on.
-use Rattle.std.specs.Prelude.{◌≡◌, ℕ, ◌+◌, ◌≤◌, max, List, length}
+use Rattle.std.specs.Prelude.{◌≡◌, ℕ, ◌+◌, ◌≤◌, List, length}
 use Rattle.clifford_group.specs.Tableau.{Tableau, Proper}
 use Rattle.pauli.specs.Answers.{Written, Outcome}
 use Rattle.pauli.specs.Questions.{room_question}
 use Rattle.pauli.specs.Layout.{WellFormed}
-use Rattle.clifford.specs.Layout.{row_length, record_length, width_of, tableau_record, FormedTableau}
+use Rattle.clifford.specs.Layout.{row_length, record_length, width_of, tableau_record}
 use Rattle.clifford.specs.GateQuestions.{gate_width}
 use Rattle.clifford.specs.Inside.Writing.{Span}
 
@@ -37,14 +37,8 @@ TableauWritten w t d e r = Written (room_question (record_length w) (length d)) 
 -- ---- what a tableau of width w is made from: the bytes of tableaux or of a string, or a gate
 
 pub record Widens (t : List ℕ) (w : ℕ) : Type 0 where
-  pub tableau : FormedTableau t
   pub wide : width_of t ≤ w
   pub narrow : w ≤ 128
-
-pub record Composes (a b : List ℕ) (w : ℕ) : Type 0 where
-  pub first : FormedTableau a
-  pub second : FormedTableau b
-  pub wide : w ≡ max (width_of a) (width_of b)
 
 pub record Spans (s : List ℕ) (w : ℕ) : Type 0 where
   pub string : WellFormed 128 s

@@ -105,7 +105,6 @@ pub record FirstFalse (b : List ℕ) (p : Option ℕ) : Type 0 where
 
 -- a work row d with room for the letters of b's rows
 pub record WorkRow (b d : List ℕ) : Type 0 where
-  pub tableau : FormedTableau b
   pub row : WellFormed (letters_in d) d
   pub wide : width_of b < length d
   pub narrow : length d ≤ 129
@@ -121,11 +120,6 @@ pub record WorkPlace (d : List ℕ) (q : ℕ) : Type 0 where
   pub place : q + 1 < length d
   pub narrow : length d ≤ 129
 
--- a row of the record b, and a qubit of it
-pub record OwnLetter (b : List ℕ) (r q : ℕ) : Type 0 where
-  pub row : OwnRow b r
-  pub qubit : q < width_of b
-
 -- a row of any content, to be cleared
 pub record ClearRow (d : List ℕ) (p : ℕ) : Type 0 where
   pub some : 0 < length d
@@ -139,7 +133,6 @@ pub record Finished (d out : List ℕ) : Type 0 where
 
 -- the record b to be applied to a string s, into a work row d of any content
 pub record AppliesString (b s d : List ℕ) : Type 0 where
-  pub tableau : FormedTableau b
   pub string : WellFormed (letters_in s) s
   pub wide : width_of b < length d
   pub reach : length s ≤ length d
@@ -147,7 +140,6 @@ pub record AppliesString (b s d : List ℕ) : Type 0 where
 
 -- the same, to a letter on a qubit of some record of width w, with a work row of that width
 pub record AppliesLetter (b : List ℕ) (w : ℕ) (d : List ℕ) : Type 0 where
-  pub tableau : FormedTableau b
   pub wide : width_of b ≤ w
   pub work : length d ≡ w + 1
 

@@ -3,4 +3,4 @@ use Rattle.clifford.proofs.Apply.{AppliedTo}
 use Rattle.clifford.proofs.applying.apply_string.Given as goal
 
 abbrev pub invariant-loop-q : goal.invariant-loop-q
-invariant-loop-q l = AppliedTo l.t l.s l.initial.work l.q l.work
+invariant-loop-q l = AppliedTo l.t.bytes.now l.s l.initial.work l.q l.work

@@ -1,6 +1,6 @@
 -- `clifford_rep::check_display` meets its contract.
-use Rattle.clifford.proofs.Display.{displays}
+use Rattle.clifford.proofs.Asking.{checked}
 use Rattle.clifford.proofs.clifford_rep.check_display.Goals as goal
 
-pub of-requires : goal.of-requires
-of-requires c = search (displays, c.in_ok-check_tableau.ensures)
+pub invariant_of-display_length : goal.invariant_of-display_length
+invariant_of-display_length c = record { formed = checked c.in_ok-check_tableau.ensures }

@@ -6,4 +6,4 @@ pub returns-in_err-check_tableau : goal.returns-in_err-check_tableau
 returns-in_err-check_tableau c = search (validity, c.in_err-check_tableau.ensures)
 
 pub returns : goal.returns
-returns c = search (validity, c.in_ok-check_tableau.ensures, c.of.ensures)
+returns c = search (validity, c.in_ok-check_tableau.ensures)

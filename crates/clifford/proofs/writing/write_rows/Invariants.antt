@@ -4,4 +4,4 @@ use Rattle.clifford.proofs.RowWriting.{RowsTo}
 use Rattle.clifford.proofs.writing.write_rows.Given as goal
 
 abbrev pub invariant-loop-r : goal.invariant-loop-r
-invariant-loop-r g l = RowsTo l.width (row_of (g.M.RowMaker.made l.made)) l.initial.dst l.r l.dst
+invariant-loop-r g l = RowsTo l.width (row_of (g.M.RowMaker.made l.maker)) l.initial.dst l.r l.dst

@@ -9,6 +9,6 @@ use Rattle.clifford.proofs.tableau.TableauRecord.in_support.Goals as goal
 
 pub returns : goal.returns
 returns c =
-    any_from_yields_List (supports_qubit (tableau_of c.args.self.now) c.args.k) _ _ _ c.any.ensures.ran (YieldsList-from_range 0 c.width.result c.width.result (cc) (omega arith))
+    any_from_yields_List (supports_qubit (tableau_of c.args.self.now.bytes.now) c.args.k) _ _ _ c.any.ensures.ran (YieldsList-from_range 0 c.width.result c.width.result (cc) (omega arith))
     (λ x b q k. search (rules, tests))
-    ∙ support-is c.args.self.now c.args.k c.width.ensures.is
+    ∙ support-is c.args.self.now.bytes.now c.args.k c.width.ensures.is

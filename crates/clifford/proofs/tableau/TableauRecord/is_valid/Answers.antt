@@ -9,6 +9,6 @@ use Rattle.clifford.proofs.tableau.TableauRecord.is_valid.Goals as goal
 pub returns : goal.returns
 unfolding valid_row
 returns c =
-    all_from_yields_List (valid_row (tableau_of c.args.self.now)) _ _ _ c.all.ensures.ran (YieldsList-from_range 0 c.width.result c.width.result (cc) (omega arith))
+    all_from_yields_List (valid_row (tableau_of c.args.self.now.bytes.now)) _ _ _ c.all.ensures.ran (YieldsList-from_range 0 c.width.result c.width.result (cc) (omega arith))
     (λ x b q k. search (rules, tests))
-    ∙ rows-valid c.args.self.now c.width.ensures.is
+    ∙ rows-valid c.args.self.now.bytes.now c.width.ensures.is

@@ -10,6 +10,6 @@ use Rattle.clifford.proofs.tableau.TableauRecord.support_count.Goals as goal
 pub returns : goal.returns
 returns c =
     count_from_yields_List _ _ c.count.ensures.ran
-    (YieldsList-from_filter _ (in_support (tableau_of c.args.self.now)) (YieldsList-from_range 0 c.width.result c.width.result c.filter.ensures.source (omega arith))
+    (YieldsList-from_filter _ (in_support (tableau_of c.args.self.now.bytes.now)) (YieldsList-from_range 0 c.width.result c.width.result c.filter.ensures.source (omega arith))
     c.filter.ensures.closure (λ x b q k. search (rules, tests)))
-    ∙ count-is c.args.self.now c.width.ensures.is
+    ∙ count-is c.args.self.now.bytes.now c.width.ensures.is
