@@ -72,7 +72,7 @@ pub fn on_qubits(gate: u8, q0: usize, q1: usize, dst: &mut [u8]) -> Result<(), R
 }
 
 // A gate on its qubits, at the width n; the second is not looked at for gates 0 to 23.
-#[tactic(auto, using(crate::proofs::GateAsking::width_answers))]
+#[tactic(auto, using(pauli::proofs::Asking::by_questions, crate::proofs::GateAsking::width_answers), unfolding(crate::specs::GateQuestions::on_width_answer, crate::specs::GateQuestions::on_width_questions))]
 pub fn on_width(n: usize, gate: u8, q0: usize, q1: usize, dst: &mut [u8]) -> Result<(), Refusal>
     ensures { WidthGateWritten n gate q0 q1 dst.old dst.new result }
 {
@@ -89,7 +89,7 @@ pub fn on_width(n: usize, gate: u8, q0: usize, q1: usize, dst: &mut [u8]) -> Res
 }
 
 // A one-qubit gate on its qubit.
-#[tactic(auto, using(crate::proofs::GateAnswers::one_qubit_answers))]
+#[tactic(auto, using(pauli::proofs::Asking::by_questions, crate::proofs::GateAnswers::one_qubit_answers), unfolding(crate::specs::GateQuestions::on_qubit_answer, crate::specs::GateQuestions::on_qubit_questions))]
 pub fn on_qubit(gate: u8, q: usize, dst: &mut [u8]) -> Result<(), Refusal>
     ensures { OneQubitGateWritten gate q dst.old dst.new result }
 {
@@ -105,7 +105,7 @@ pub fn on_qubit(gate: u8, q: usize, dst: &mut [u8]) -> Result<(), Refusal>
 }
 
 // One of the 24 products of H and SZ, by its index.
-#[tactic(auto, using(crate::proofs::GateAnswers::one_qubit_answers))]
+#[tactic(auto, using(pauli::proofs::Asking::by_questions, crate::proofs::GateAnswers::one_qubit_answers), unfolding(crate::specs::GateQuestions::on_qubit_answer, crate::specs::GateQuestions::on_qubit_questions))]
 pub fn single_qubit_clifford(index: usize, qubit: usize, dst: &mut [u8]) -> Result<(), Refusal>
     ensures { SingleQubitCliffordWritten index qubit dst.old dst.new result }
 {
@@ -139,7 +139,7 @@ fn name_of(t: &[u8]) -> Option<u8>
 }
 
 // The first of the 24 gates, by number, whose tableau on qubit 0 this is. None, unless it has width 1 and is valid.
-#[tactic(auto, using(crate::proofs::GateAnswers::name_answers))]
+#[tactic(auto, using(pauli::proofs::Asking::by_questions, crate::proofs::GateAnswers::name_answers), unfolding(pauli::specs::Answers::answer_to, pauli::specs::Answers::reply_of, pauli::specs::Answers::reply_to))]
 pub fn from_clifford_rep(t: &[u8]) -> Result<Option<u8>, Refusal>
     ensures { GateNamed t.now result }
 {
@@ -160,6 +160,7 @@ fn composed(g: OneQubitGate, h: OneQubitGate) -> Option<u8>
 }
 
 // g composed with h: h acts first.
+#[tactic(auto, using(pauli::proofs::Asking::by_questions), unfolding(crate::specs::GateQuestions::compose_gate_questions, pauli::specs::Answers::answer_to, pauli::specs::Answers::reply_of, pauli::specs::Answers::reply_to))]
 pub fn compose(g: u8, h: u8) -> Result<Option<u8>, Refusal>
     ensures { GatesComposed g h result }
 {
@@ -174,7 +175,7 @@ pub fn compose(g: u8, h: u8) -> Result<Option<u8>, Refusal>
 }
 
 // The inverse of a gate.
-#[tactic(auto, using(crate::proofs::GateAnswers::gate_numbers))]
+#[tactic(auto, using(pauli::proofs::Asking::by_questions, crate::proofs::GateAnswers::gate_numbers), unfolding(pauli::specs::Answers::answer_to, pauli::specs::Answers::reply_of, pauli::specs::Answers::reply_to))]
 pub fn inverse(g: u8) -> Result<Option<u8>, Refusal>
     ensures { GateInverted g result }
 {

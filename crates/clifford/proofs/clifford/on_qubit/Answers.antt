@@ -5,9 +5,6 @@ use Rattle.clifford.proofs.clifford.on_qubit.Goals as goal
 pub returns-in_err-check_gate : goal.returns-in_err-check_gate
 returns-in_err-check_gate c = rw (← c.from-g.ensures) (search (one_qubit_answers, c.in_err-check_gate.ensures))
 
-pub returns-in_err-check_qubit : goal.returns-in_err-check_qubit
-returns-in_err-check_qubit c = rw (← c.from-g.ensures) (search (one_qubit_answers, c.in_err-check_qubit.ensures, c.in_ok-check_gate.ensures))
-
 pub invariant_of-placed : goal.invariant_of-placed
 invariant_of-placed c = record { on = (one-inside _ _ c.in_ok-check_gate.ensures c.in_ok-check_qubit.ensures).on }
 

@@ -5,9 +5,6 @@ use Rattle.clifford.proofs.clifford.single_qubit_clifford.Goals as goal
 pub returns-in_err-check_gate : goal.returns-in_err-check_gate
 returns-in_err-check_gate c = search (one_qubit_answers, c.in_err-check_gate.ensures)
 
-pub returns-in_err-check_qubit : goal.returns-in_err-check_qubit
-returns-in_err-check_qubit c = search (one_qubit_answers, c.in_err-check_qubit.ensures, c.in_ok-check_gate.ensures)
-
 pub invariant_of-placed : goal.invariant_of-placed
 invariant_of-placed c = record { on = (product-inside _ _ c.in_ok-check_gate.ensures c.in_ok-check_qubit.ensures c.product_number.ensures).on }
 
