@@ -6,13 +6,14 @@ use Rattle.pauli_group.proofs.Strings.{mul-identity, identity-mul, within-scale,
 use Rattle.clifford_group.specs.Tableau.{Tableau, image_of, apply_to, apply}
 use Rattle.clifford_group.proofs.Images.{image_I, within_image}
 use Rattle.clifford_group.proofs.Apply.{apply_to_start}
-use Rattle.pauli.specs.Layout.{phase_of, letter_of, encode_string, decode_string, WellFormed}
+use Rattle.pauli.specs.Layout.{phase_of, letter_byte, letter_of, encode_string, decode_string, WellFormed}
 use Rattle.pauli.proofs.Places.{from, from_at, length_from}
 use Rattle.pauli.proofs.Records.{length_encode, encode_formed, decode_encode, encode_decode, decode_within, decode_letter, decode_phase}
-use Rattle.clifford.specs.Layout.{tableau_of}
-use Rattle.clifford.specs.Inside.Rows.{WorkOnQubit, ClearRow, AppliesString, AppliesLetter, cleared_row, row_times, letters_in, string_in}
+use Rattle.clifford.specs.Layout.{tableau_of, row_qubit, row_letter}
+use Rattle.clifford.specs.Inside.Rows.{RowIndex, WorkOnQubit, ClearRow, AppliesString, AppliesLetter, cleared_row, row_times, letters_in, string_in}
 use Rattle.clifford.proofs.Rows.{width_of_lem}
 use Rattle.clifford.proofs.Records.{proper_of}
+use Rattle.clifford.proofs.RowWriting.{letter_of-row}
 use Rattle.clifford.proofs.WorkRows.{decoded_times, times-formed, length-times}
 
 -- ---- a cleared row
@@ -137,27 +138,31 @@ applied_all {b} {s} {d} {d₀} o k m h =
 pub ruleset applied_strings = (string-clear, applied-none, applied-work, applied-step, applied_all, rules)
 
 -- ---- one letter
-pub letter-clear : (b : List ℕ) {d : List ℕ} {q : ℕ} → AppliesLetter b d q → ClearRow d 0
-letter-clear b o = record { some = omega (arith, o.wide); phase = omega arith }
+pub letter-clear : (b : List ℕ) {w : ℕ} {d : List ℕ} → AppliesLetter b w d → ClearRow d 0
+letter-clear b o = record { some = omega (arith, o.work); phase = omega arith }
 
-pub letter-work : {b d e : List ℕ} {q : ℕ} → AppliesLetter b d q → e ≡ cleared_row (length d) 0 → WorkOnQubit b e q
-letter-work {b} {d} {e} o k =
-    let some : 0 < length d = omega (arith, o.wide) in
-    let long : length e ≡ length d = length_cleared 0 some k in
-    record {
-      work = record { tableau = o.tableau; row = cleared_formed 0 some k; wide = omega (arith, o.wide); narrow = omega (arith, o.narrow) };
-      place = omega (arith, o.place);
-    }
+module _ {w r : ℕ} (i : RowIndex w r) {b d e : List ℕ} (o : AppliesLetter b w d) (k : e ≡ cleared_row (length d) 0) where
+  some : 0 < length d
+  some = omega (arith, o.work)
 
-pub letter-applied : (b d : List ℕ) {e f : List ℕ} (q l : ℕ) → AppliesLetter b d q → e ≡ cleared_row (length d) 0
-    → f ≡ row_times e (image_of (tableau_of b) q (letter_of l)) → f ≡ encode_string (letters_in d) (image_of (tableau_of b) q (letter_of l))
-unfolding row_times phase_of
-letter-applied b d {e} {f} q l o k m =
-    let some : 0 < length d = omega (arith, o.wide) in
-    let image : PauliString = image_of (tableau_of b) q (letter_of l) in
-    let same : letters_in e ≡ letters_in d = ap (λ (j : ℕ). j - 1) (length_cleared 0 some k) in
-    m ∙ ap (λ (j : ℕ). encode_string j (mul (decode_string j e) image)) same
-    ∙ ap (λ s. encode_string (letters_in d) (mul s image)) (decoded_clear e (length d) 0 k ∙ scale_one identity_string)
-    ∙ ap (encode_string (letters_in d)) (identity-mul image)
+  long : length e ≡ length d
+  long = length_cleared 0 some k
+
+  pub letter-work : {q : ℕ} → q < w → WorkOnQubit b e q
+  letter-work h = record {
+    work = record { tableau = o.tableau; row = cleared_formed 0 some k; wide = omega (arith, long, o.wide, o.work); narrow = omega (arith, long, i.narrow, o.work) };
+    place = omega (arith, long, o.work);
+  }
+
+  pub letter-applied : {f : List ℕ} {q l : ℕ} → q ≡ row_qubit w r → l ≡ letter_byte (row_letter w r)
+      → f ≡ row_times e (image_of (tableau_of b) q (letter_of l)) → f ≡ encode_string w (image_of (tableau_of b) (row_qubit w r) (row_letter w r))
+  unfolding row_times phase_of
+  letter-applied {f} {q} {l} eq el m =
+      let image : PauliString = image_of (tableau_of b) q (letter_of l) in
+      let same : letters_in e ≡ w = omega (arith, long, o.work) in
+      let before : length d - 1 ≡ w = omega (arith, o.work) in
+      m ∙ ap (λ (j : ℕ). encode_string j (mul (decode_string j e) image)) same
+      ∙ ap (λ s. encode_string w (mul s image)) (ap (λ (j : ℕ). decode_string j e) (sym before) ∙ decoded_clear e (length d) 0 k ∙ scale_one identity_string)
+      ∙ ap (encode_string w) (identity-mul image ∙ ap₂ (image_of (tableau_of b)) eq (letter_of-row w r el))
 
 pub ruleset applied_letters = (letter-clear, letter-work, letter-applied, rules)

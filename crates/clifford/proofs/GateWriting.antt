@@ -14,7 +14,7 @@ use Rattle.clifford_gates.specs.GateNumbers.{one_qubit_gate, two_qubit_gate, gat
 use Rattle.clifford_gates.specs.Updates.{letter_image}
 use Rattle.clifford_gates.proofs.GateNames.{gate-one, gate_clifford}
 use Rattle.pauli.specs.declared.algebra.PhasedLetter.{PhasedLetter}
-use Rattle.pauli.specs.Layout.{phase_of, letter_of, encode_string}
+use Rattle.pauli.specs.Layout.{phase_of, letter_byte, letter_of, encode_string}
 use Rattle.pauli.proofs.Records.{phase-back, phase-small, letter-back, length_encode}
 use Rattle.clifford.specs.declared.gates.RowImage.{RowImage}
 use Rattle.clifford.specs.declared.numbering.Gate.{Gate}
@@ -22,13 +22,13 @@ use Rattle.clifford.specs.declared.numbering.Gate.TheVariants.{One, Two}
 use Rattle.clifford.specs.declared.numbering.OneQubitGate.{OneQubitGate}
 use Rattle.clifford.specs.declared.numbering.TwoQubitGate.{TwoQubitGate}
 use Rattle.clifford.specs.Inside.Numbering.{gate_number}
-use Rattle.clifford.specs.Inside.Rows.{ClearRow, WorkPlace, row_times, cleared_row, letters_in}
-use Rattle.clifford.specs.Inside.Writing.{IsGenerator}
+use Rattle.clifford.specs.Inside.Rows.{RowIndex, ClearRow, WorkPlace, row_times, cleared_row, letters_in}
+use Rattle.clifford.specs.Layout.{row_qubit, row_letter}
 use Rattle.clifford.specs.GateQuestions.{gate_width}
 use Rattle.clifford.specs.GateRows.{ImageOf}
 use Rattle.clifford.specs.Inside.GateRows.{GateSpan, pair_bytes, PairOf, generator_image, row_image_string, OneRow, entry_pair, RowImageOf, GateOn, PutsImage}
 use Rattle.clifford.proofs.GateImages.{at-x0, at-x1, at-z0, at-z1}
-use Rattle.clifford.proofs.RowWriting.{encoded_row}
+use Rattle.clifford.proofs.RowWriting.{IsGenerator, generator-is, letter_of-row, encoded_row}
 use Rattle.clifford.proofs.Apply.{length_cleared, cleared_formed}
 use Rattle.clifford.proofs.WorkRows.{length-times, times-formed}
 
@@ -182,13 +182,20 @@ module _ (g q r k : ℕ) where
         ∙ sym (ap₂ (pair_at_row l) (ne_eqb k q (λ e. omega arith)) (ne_eqb k r (λ e. omega arith)))
   ]
 
-  module _ {l : ℕ} (a : IsGenerator l) where
-    abbrev W : ℕ
-    W = max (gate_width g q r) (suc k)
+  -- the image of row j of a record of width w
+  module _ {w j : ℕ} (place : RowIndex w j) {l : ℕ} (ek : k ≡ row_qubit w j) (el : l ≡ letter_byte (row_letter w j)) where
+    a : IsGenerator l
+    a = generator-is w j el
+
+    abbrev RowIs : RowImage → Type 0
+    RowIs i = RowImageOf (max (gate_width g q r) (suc (row_qubit w j))) (image_of T (row_qubit w j) (row_letter w j)) i
+
+    same_image : image_of T k (letter_of l) ≡ image_of T (row_qubit w j) (row_letter w j)
+    same_image = ap₂ (image_of T) ek (letter_of-row w j el)
 
     row_one_is : (m : ℕ) {i : RowImage} → OneRow (image_string (letter_image (one_qubit_gate m) (letter_of l)) k) k i
-        → image_of T k (letter_of l) ≡ image_string (letter_image (one_qubit_gate m) (letter_of l)) k → RowImageOf W (image_of T k (letter_of l)) i
-    row_one_is m o e = record { string = o.string ∙ sym e; sign = o.sign; first = omega (arith, o.first); second = omega (arith, o.second) }
+        → image_of T k (letter_of l) ≡ image_string (letter_image (one_qubit_gate m) (letter_of l)) k → RowIs i
+    row_one_is m o e = record { string = o.string ∙ sym e ∙ same_image; sign = o.sign; first = omega (arith, o.first, ek); second = omega (arith, o.second, ek) }
 
     module _ {G : Gate} {x : OneQubitGate} (n : gate_number G ≡ g) (is : G ≡ One x) where
       own_number : x.number ≡ g
@@ -198,14 +205,14 @@ module _ (g q r k : ℕ) where
       low = omega (arith, own_number, x.small)
 
       pub own_row : {i : RowImage} → k ≡ q → OneRow (image_string (letter_image (one_qubit_gate x.number) (letter_of l)) k) k i
-          → RowImageOf W (image_of T k (letter_of l)) i
+          → RowIs i
       own_row e o = row_one_is x.number o (
           image_one l a low
           ∙ ap (λ b. image_string (letter_image (one_qubit_gate (cond b g 0)) (letter_of l)) k) (eq-eqb k q e)
           ∙ ap (λ (j : ℕ). image_string (letter_image (one_qubit_gate j) (letter_of l)) k) (sym own_number))
 
       pub away_row : {i : RowImage} → (k ≡ q → ⊥) → OneRow (image_string (letter_image (one_qubit_gate 0) (letter_of l)) k) k i
-          → RowImageOf W (image_of T k (letter_of l)) i
+          → RowIs i
       away_row d o = row_one_is 0 o (image_one l a low ∙ ap (λ b. image_string (letter_image (one_qubit_gate (cond b g 0)) (letter_of l)) k) (ne_eqb k q d))
 
     module _ {G : Gate} {x : TwoQubitGate} (n : gate_number G ≡ g) (is : G ≡ Two x) where
@@ -216,14 +223,14 @@ module _ (g q r k : ℕ) where
       high = omega (arith, pair_number, x.from)
 
       pub other_row : {i : RowImage} → (k ≡ q → ⊥) → (k ≡ r → ⊥) → OneRow (image_string (letter_image (one_qubit_gate 0) (letter_of l)) k) k i
-          → RowImageOf W (image_of T k (letter_of l)) i
+          → RowIs i
       other_row d e o = row_one_is 0 o (image_two l a high ∙ ap₂ (pair_at_row l) (ne_eqb k q d) (ne_eqb k r e) ∙ sym (itself l a))
 
       pair_row_lem : {y : RowImage} (i : PairImage) (p : ℕ) → PairOf i (entry_pair (pair_bytes (two_qubit_gate g)) p q r) → image_of T k (letter_of l) ≡ pair_string i q r
-          → y ≡ entry_pair (pair_bytes (two_qubit_gate g)) p q r → RowImageOf W (image_of T k (letter_of l)) y
+          → y ≡ entry_pair (pair_bytes (two_qubit_gate g)) p q r → RowIs y
       unfolding entry_pair
-      pair_row_lem i p h e f = subst (RowImageOf W (image_of T k (letter_of l))) (sym f) (record {
-        string = pair_made i h refl refl ∙ sym e;
+      pair_row_lem i p h e f = subst RowIs (sym f) (record {
+        string = pair_made i h refl refl ∙ sym e ∙ same_image;
         sign = omega (arith, h.phase, phase-small i.phase);
         first = omega (arith, width_two g q r high);
         second = omega (arith, width_two g q r high);
@@ -234,7 +241,7 @@ module _ (g q r k : ℕ) where
 
       -- the images of X start at 0 and 3 of an entry, those of Z at 6 and 9
       module _ {m : ℕ} (em : m ≡ l) where
-        pub first-row : {y : RowImage} → k ≡ q → y ≡ entry_pair (pair_bytes (two_qubit_gate x.number)) (6 * m - 6) q r → RowImageOf W (image_of T k (letter_of l)) y
+        pub first-row : {y : RowImage} → k ≡ q → y ≡ entry_pair (pair_bytes (two_qubit_gate x.number)) (6 * m - 6) q r → RowIs y
         unfolding generator_image
         first-row e h =
             pair_row_lem (first_of l) (6 * l - 6)
@@ -243,7 +250,7 @@ module _ (g q r k : ℕ) where
             (h ∙ entry_of (6 * m - 6) ∙ ap (λ (j : ℕ). entry_pair (pair_bytes (two_qubit_gate g)) (6 * j - 6) q r) em)
 
         pub second-row : {y : RowImage} → (k ≡ q → ⊥) → k ≡ r → y ≡ entry_pair (pair_bytes (two_qubit_gate x.number)) (6 * m - 3) q r
-            → RowImageOf W (image_of T k (letter_of l)) y
+            → RowIs y
         unfolding generator_image
         second-row d e h =
             pair_row_lem (second_of l) (6 * l - 3)
@@ -251,34 +258,12 @@ module _ (g q r k : ℕ) where
             (image_two l a high ∙ ap₂ (pair_at_row l) (ne_eqb k q d) (eq-eqb k r e))
             (h ∙ entry_of (6 * m - 3) ∙ ap (λ (j : ℕ). entry_pair (pair_bytes (two_qubit_gate g)) (6 * j - 3) q r) em)
 
-module _ {l : ℕ} (a : IsGenerator l) where
-  module _ {n : ℕ} (en : n ≡ l) where
-    pub row_fits : Fits w64 (6 * n)
-    row_fits = record { fits = omega (arith, a.small) }
-
-    pub row_first : 6 ≤ 6 * n
-    row_first = omega (arith, a.some)
-
-    pub row-second : 3 ≤ 6 * n
-    row-second = omega (arith, a.some)
-
-    pub place_first : 6 * n - 6 ≤ 9
-    place_first = omega (arith, a.small)
-
-    pub place_second : 6 * n - 3 ≤ 9
-    place_second = omega (arith, a.small)
-
 pub ruleset gate-images = (
   own_row,
   away_row,
   other_row,
   first-row,
   second-row,
-  row_fits,
-  row_first,
-  row-second,
-  place_first,
-  place_second,
   rules,
 )
 

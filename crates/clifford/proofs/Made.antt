@@ -10,7 +10,7 @@ use Rattle.clifford_group.proofs.Compose.{row-compose, width-compose, proper-com
 use Rattle.clifford_group.proofs.Inverse.{width-inverse, proper-inverse}
 use Rattle.clifford_gates.specs.GateNumbers.{gate_tableau}
 use Rattle.pauli.specs.Answers.{written, Outcome}
-use Rattle.pauli.specs.Layout.{letter_byte, letter_of, encode_string, string_of}
+use Rattle.pauli.specs.Layout.{encode_string, string_of}
 use Rattle.pauli.specs.Questions.{room_question}
 use Rattle.pauli.proofs.Answers.{written-done}
 use Rattle.pauli.proofs.Asking.{room-is}
@@ -21,15 +21,14 @@ use Rattle.clifford.specs.Layout.{row_length, row_offset, record_length, row_of,
 use Rattle.clifford.specs.Images.{pauli_tableau}
 use Rattle.clifford.specs.GateQuestions.{gate_width}
 use Rattle.clifford.specs.Inside.Rows.{Sized, RowIndex, Finished, AppliesString, AppliesLetter, row_written, letters_in, string_in}
-use Rattle.clifford.specs.Inside.Writing.{PauliRow, conjugated}
+use Rattle.clifford.specs.Inside.Writing.{conjugated}
 use Rattle.clifford.specs.Inside.InverseRows.{RowBack}
-use Rattle.clifford.specs.Inside.Writing.{IsGenerator}
-use Rattle.clifford.specs.Inside.GateRows.{row_image_string, RowImageOf, PutsImage}
+use Rattle.clifford.specs.Inside.GateRows.{row_image_string, RowImageOf, GateOn, PutsImage}
 use Rattle.clifford.specs.Inside.Made.{Made, MakesRow, WritesRow, WritesAll, Widens, Composes, Spans, GateInside}
 use Rattle.clifford.proofs.Rows.{width_of_lem, rows-within, some_bytes}
 use Rattle.clifford.proofs.Records.{proper_of}
-use Rattle.clifford.proofs.RowWriting.{RowsTo, rows_none, rows-room, rows_start, rows_index, rows-length, rows_more, rows_all, letter_of-row, qubit-below, row_made, encoded_row, encoded_formed, put_row, put_room}
-use Rattle.clifford.proofs.PauliTableau.{generator-is, width_pauli, row_pauli, proper_pauli}
+use Rattle.clifford.proofs.RowWriting.{RowsTo, rows_none, rows-room, rows_start, rows_index, rows-length, rows_more, rows_all, qubit-below, row_made, encoded_row, encoded_formed, put_row, put_room}
+use Rattle.clifford.proofs.PauliTableau.{width_pauli, row_pauli, proper_pauli}
 use Rattle.clifford.proofs.GateWriting.{gate-width, gate-proper}
 
 -- ---- the width, and rows of that width
@@ -72,12 +71,12 @@ pauli-made {s} o = record {
   proper = proper_pauli (string_of s) (omega (arith, o.wide.is, o.wide.small));
 }
 
-pub gate-made : {g p v w : ℕ} → GateInside g p v w → Made w (widen w (gate_tableau g p v))
+pub gate_made : {g p v w : ℕ} → GateOn g p v → GateInside g p v w → Made w (widen w (gate_tableau g p v))
 unfolding qubits
-gate-made {g} {p} {v} {w} o = record {
+gate_made {g} {p} {v} {w} on o = record {
   wide = gate_inside_width o;
   narrow = o.narrow;
-  proper = proper-widen w o.narrow (gate_tableau g p v) (gate-proper o.on);
+  proper = proper-widen w o.narrow (gate_tableau g p v) (gate-proper on);
 }
 
 -- ---- a row made as a work row
@@ -85,127 +84,99 @@ module _ {w n r : ℕ} {s k : List ℕ} (i : RowIndex n r) (o : MakesRow w n s k
   own : r < 2 * w
   own = omega (arith, i.own, o.place)
 
-  letters_k : letters_in k ≡ w
-  letters_k = omega (arith, o.work)
+  below : row_qubit n r < w
+  below = qubit-below w r (ap (λ (j : ℕ). row_qubit j r) o.place) own
+
+  pub row_work : length k ≡ n + 1
+  row_work = omega (arith, o.work, o.place)
 
   -- a work row holds a string that is the row
-  held : {x row : PauliString} {k' : List ℕ} → k' ≡ encode_string (letters_in k) x → x ≡ row → k' ≡ encode_string w row
-  held e h = e ∙ ap₂ encode_string letters_k h
+  held : {x row : PauliString} {k' : List ℕ} → k' ≡ encode_string n x → x ≡ row → k' ≡ encode_string w row
+  held e h = e ∙ ap₂ encode_string o.place h
+
+  -- the row is what f makes of the letter and the qubit
+  by_letter : (t : Tableau) (f : ℕ → Letter → PauliString) → ((q : ℕ) → t.x_image q ≡ f q X) → ((q : ℕ) → t.z_image q ≡ f q Z)
+      → t.width ≡ w → f (row_qubit n r) (row_letter n r) ≡ row_of t r
+  by_letter t f x z e = sym (row_made t f x z n r (e ∙ sym o.place) i.own)
 
   pub inverse_back : {t : List ℕ} → FormedTableau t → w ≡ width_of t → RowBack t n r
   inverse_back f e = record { old = record { tableau = f; own = omega (arith, own) }; wide = o.place ∙ e }
 
-  module _ {q : ℕ} (en : q ≡ row_qubit n r) where
-    eq : q ≡ row_qubit w r
-    eq = en ∙ ap (λ (j : ℕ). row_qubit j r) o.place
+  pub widened_letter : {t : List ℕ} → Widens t w → AppliesLetter t n k
+  widened_letter d = record { tableau = d.tableau; wide = omega (arith, d.wide, o.place); work = row_work }
 
-    below : q < w
-    below = qubit-below w r eq own
+  pub widened_row : {t k' : List ℕ} → Widens t w → k' ≡ encode_string n (image_of (tableau_of t) (row_qubit n r) (row_letter n r))
+      → k' ≡ encode_string w (row_of (widen w (tableau_of t)) r)
+  unfolding widen
+  widened_row {t} d ek = held ek (by_letter (widen w (tableau_of t)) (image_of (tableau_of t)) (λ q. refl) (λ q. refl) (widens_width d))
 
-    pub widened_letter : {t : List ℕ} → Widens t w → AppliesLetter t k q
-    widened_letter d = record {
-      tableau = d.tableau;
-      wide = omega (arith, o.work, d.wide);
-      place = omega (arith, o.work, below);
-      narrow = omega (arith, o.work, d.narrow);
-    }
+  module _ {a b : List ℕ} (c : Composes a b w) where
+    pub composite_letter : AppliesLetter b n s
+    composite_letter = record { tableau = c.second; wide = omega (arith, c.wide, o.place); work = omega (arith, o.source, o.place) }
 
-    pub composite_letter : {a b : List ℕ} → Composes a b w → AppliesLetter b s q
-    composite_letter c = record {
-      tableau = c.second;
-      wide = omega (arith, o.source, c.wide);
-      place = omega (arith, o.source, below);
-      narrow = omega (arith, o.source, c.wide, c.first.narrow, c.second.narrow);
-    }
+    abbrev image : PauliString
+    image = image_of (tableau_of b) (row_qubit n r) (row_letter n r)
 
-    module _ {l : ℕ} (em : l ≡ letter_byte (row_letter n r)) where
-      el : l ≡ letter_byte (row_letter w r)
-      el = em ∙ ap (λ (j : ℕ). letter_byte (row_letter j r)) o.place
+    module _ {s' : List ℕ} (es : s' ≡ encode_string n image) where
+      es_w : s' ≡ encode_string w image
+      es_w = held es refl
 
-      -- the row is what f makes of the letter and the qubit
-      by_letter : (t : Tableau) (f : ℕ → Letter → PauliString) → ((q : ℕ) → t.x_image q ≡ f q X) → ((q : ℕ) → t.z_image q ≡ f q Z)
-          → t.width ≡ w → f q (letter_of l) ≡ row_of t r
-      by_letter t f x z e = ap₂ f eq (letter_of-row w r el) ∙ sym (row_made t f x z w r e own)
+      long_s : length s' ≡ suc w
+      long_s = ap length es_w ∙ length_encode w image
 
-      pub widened_row : {t k' : List ℕ} → Widens t w → k' ≡ encode_string (letters_in k) (image_of (tableau_of t) q (letter_of l))
-          → k' ≡ encode_string w (row_of (widen w (tableau_of t)) r)
+      image_in_lem : Within w image
+      image_in_lem = within_image (tableau_of b) (proper_of c.second) w (omega (arith, c.wide, width_of_lem b)) (row_qubit n r) (row_letter n r) below
+
+      pub composite_applies : AppliesString a s' k
+      composite_applies = record {
+        tableau = c.first;
+        string = encoded_formed w image es_w;
+        wide = omega (arith, o.work, c.wide);
+        reach = omega (arith, o.work, long_s);
+        narrow = omega (arith, o.work, c.wide, c.first.narrow, c.second.narrow);
+      }
+
+      pub composite_row : {k' : List ℕ} → k' ≡ encode_string (letters_in k) (apply (tableau_of a) (string_in s'))
+          → k' ≡ encode_string w (row_of (compose (tableau_of a) (tableau_of b)) r)
+      composite_row ek =
+          let A : Tableau = tableau_of a in
+          let B : Tableau = tableau_of b in
+          let same : letters_in k ≡ w = omega (arith, o.work) in
+          ek
+          ∙ ap₂ encode_string same (ap (apply A) (encoded_row w image long_s es_w image_in_lem)
+          ∙ by_letter (compose A B) (λ q l. apply A (image_of B q l)) (row-compose A B of_x) (row-compose A B of_z) (composes_width c))
+
+  pub pauli_made : {t : List ℕ} → Spans t w → {k' : List ℕ} → k' ≡ encode_string n (conjugated (string_of t) (single (row_letter n r) (row_qubit n r)))
+      → k' ≡ encode_string w (row_of (pauli_tableau (string_of t)) r)
+  pauli_made {t} d ek = held ek (sym (row_pauli (string_of t) n r (o.place ∙ d.wide.is) i.own))
+
+  module _ {g p v : ℕ} (h : GateInside g p v w) where
+    module _ {x : RowImage} (im : RowImageOf (max (gate_width g p v) (suc (row_qubit n r))) (image_of (gate_tableau g p v) (row_qubit n r) (row_letter n r)) x) where
+      pub gate_puts : PutsImage x k
+      gate_puts = record {
+        sign = im.sign;
+        first = omega (arith, im.first, h.wide, below, o.work);
+        second = omega (arith, im.second, h.wide, below, o.work);
+        narrow = omega (arith, o.work, h.narrow);
+      }
+
+      pub gate_row : {k' : List ℕ} → k' ≡ encode_string (letters_in k) (row_image_string x) → k' ≡ encode_string w (row_of (widen w (gate_tableau g p v)) r)
       unfolding widen
-      widened_row {t} d ek = held ek (by_letter (widen w (tableau_of t)) (image_of (tableau_of t)) (λ q. refl) (λ q. refl) (widens_width d))
-
-      module _ {a b s' : List ℕ} (c : Composes a b w) (es : s' ≡ encode_string (letters_in s) (image_of (tableau_of b) q (letter_of l))) where
-        abbrev image : PauliString
-        image = image_of (tableau_of b) q (letter_of l)
-
-        es_w : s' ≡ encode_string w image
-        es_w = let same : letters_in s ≡ w = omega (arith, o.source) in es ∙ ap (λ (j : ℕ). encode_string j image) same
-
-        long_s : length s' ≡ suc w
-        long_s = ap length es_w ∙ length_encode w image
-
-        image_in_lem : Within w image
-        image_in_lem = within_image (tableau_of b) (proper_of c.second) w (omega (arith, c.wide, width_of_lem b)) q (letter_of l) below
-
-        pub composite_applies : AppliesString a s' k
-        composite_applies = record {
-          tableau = c.first;
-          string = encoded_formed w image es_w;
-          wide = omega (arith, o.work, c.wide);
-          reach = omega (arith, o.work, long_s);
-          narrow = omega (arith, o.work, c.wide, c.first.narrow, c.second.narrow);
-        }
-
-        pub composite_row : {k' : List ℕ} → k' ≡ encode_string (letters_in k) (apply (tableau_of a) (string_in s'))
-            → k' ≡ encode_string w (row_of (compose (tableau_of a) (tableau_of b)) r)
-        composite_row ek =
-            let A : Tableau = tableau_of a in
-            let B : Tableau = tableau_of b in
-            held ek
-            (ap (apply A) (encoded_row w image long_s es_w image_in_lem)
-            ∙ by_letter (compose A B) (λ q l. apply A (image_of B q l)) (row-compose A B of_x) (row-compose A B of_z) (composes_width c))
-
-      module _ {t : List ℕ} (d : Spans t w) where
-        pub pauli_here : PauliRow t q l k
-        pauli_here = record {
-          string = d.string;
-          letter = generator-is w r el;
-          place = omega (arith, o.work, below);
-          narrow = omega (arith, o.work, d.wide.small);
-        }
-
-        pub pauli_made : {k' : List ℕ} → k' ≡ encode_string (letters_in k) (conjugated (string_of t) (single (letter_of l) q))
-            → k' ≡ encode_string w (row_of (pauli_tableau (string_of t)) r)
-        pauli_made ek =
-            held ek (ap (conjugated (string_of t)) (ap₂ single (letter_of-row w r el) eq) ∙ sym (row_pauli (string_of t) w r d.wide.is own))
-
-      pub row_generator : IsGenerator l
-      row_generator = generator-is w r el
-
-      module _ {g p v : ℕ} (h : GateInside g p v w) where
-        module _ {x : RowImage} (im : RowImageOf (max (gate_width g p v) (suc q)) (image_of (gate_tableau g p v) q (letter_of l)) x) where
-          pub gate_puts : PutsImage x k
-          gate_puts = record {
-            sign = im.sign;
-            first = omega (arith, im.first, h.wide, below, o.work);
-            second = omega (arith, im.second, h.wide, below, o.work);
-            narrow = omega (arith, o.work, h.narrow);
-          }
-
-          pub gate_row : {k' : List ℕ} → k' ≡ encode_string (letters_in k) (row_image_string x) → k' ≡ encode_string w (row_of (widen w (gate_tableau g p v)) r)
-          unfolding widen
-          gate_row ek =
-              held ek
-              (im.string ∙ by_letter (widen w (gate_tableau g p v)) (image_of (gate_tableau g p v)) (λ q. refl) (λ q. refl) (gate_inside_width h))
+      gate_row ek =
+          let same : letters_in k ≡ w = omega (arith, o.work) in
+          ek
+          ∙ ap₂ encode_string same (im.string
+          ∙ by_letter (widen w (gate_tableau g p v)) (image_of (gate_tableau g p v)) (λ q. refl) (λ q. refl) (gate_inside_width h))
 
 pub ruleset made_rows = (
+  row_work,
   widened_letter,
   widened_row,
   composite_letter,
   composite_applies,
   composite_row,
   inverse_back,
-  pauli_here,
   pauli_made,
-  row_generator,
   gate_puts,
   gate_row,
   rules,

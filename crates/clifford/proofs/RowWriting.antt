@@ -1,5 +1,5 @@
 -- Records written row by row: what a loop over the rows has written before row r, and a row written from a work row.
-use Rattle.std.proofs.Common.{◌≡◌, ℕ, zero, suc, ◌+◌, ◌-◌, ◌*◌, ◌<◌, ◌≤◌, cond, ltb, List, ◌∷◌, ◌++◌, length, take, drop, set, sym, refl, ap, ◌∙◌, subst, ap₂, le_refl, arith, length-set, get_or-set_same, drop-set-lt, le-ltb, lt-ltb, Ok}
+use Rattle.std.proofs.Common.{◌≡◌, ℕ, zero, suc, ◌+◌, ◌-◌, ◌*◌, ◌<◌, ◌≤◌, Bool, true, false, cond, ltb, List, ◌∷◌, ◌++◌, length, take, drop, set, sym, refl, ap, ◌∙◌, subst, ap₂, le_refl, arith, length-set, get_or-set_same, drop-set-lt, le-ltb, lt-ltb, Ok}
 use native.Mathlib.Decide.{dec_lt}
 use borrow.Rule.Slice.PartMut.{put_mid}
 use Rattle.pauli_group.specs.Letter.{Letter, X, Z}
@@ -79,6 +79,20 @@ rows_end t {w} {d₀} et long m =
 -- ---- the generator of row r, and rows that are made from generators
 pub letter_of-row : (w r : ℕ) {l : ℕ} → l ≡ letter_byte (row_letter w r) → letter_of l ≡ row_letter w r
 letter_of-row w r e = ap letter_of e ∙ letter-back (row_letter w r)
+
+-- the byte of X or of Z
+pub record IsGenerator (l : ℕ) : Type 0 where
+  pub some : 0 < l
+  pub small : l < 3
+
+generator_of : (b : Bool) {l : ℕ} → l ≡ letter_byte (cond b X Z) → IsGenerator l
+unfolding letter_byte
+generator_of true e = record { some = omega arith; small = omega arith }
+generator_of false e = record { some = omega arith; small = omega arith }
+
+pub generator-is : (w r : ℕ) {l : ℕ} → l ≡ letter_byte (row_letter w r) → IsGenerator l
+unfolding row_letter
+generator-is w r e = generator_of (ltb r w) e
 
 pub qubit-below : (w r : ℕ) {q : ℕ} → q ≡ row_qubit w r → r < 2 * w → q < w
 unfolding row_qubit

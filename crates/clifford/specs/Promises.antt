@@ -62,10 +62,10 @@ OneQubitGateWritten g q d e r = Written (on_qubit_answer g q (length d)) (one_qu
 abbrev pub SingleQubitCliffordWritten : (k q : ℕ) (d e : List ℕ) (r : Outcome) → Type 0
 SingleQubitCliffordWritten k q d e r = Written (on_qubit_answer k q (length d)) (single_qubit_clifford_record k q) d e r
 
-abbrev pub GatesComposed : (g h : ℕ) (r : Answer (Option ℕ)) → Type 0
+abbrev pub GatesComposed : (g h : ℕ) (r : Answer ℕ) → Type 0
 GatesComposed g h r = GateAnswered (compose_gate_questions g h) (compose_gate g h) r
 
-abbrev pub GateInverted : (g : ℕ) (r : Answer (Option ℕ)) → Type 0
+abbrev pub GateInverted : (g : ℕ) (r : Answer ℕ) → Type 0
 GateInverted g r = GateAnswered (gate_question 38 g) (inverse_gate g) r
 
 abbrev pub GateNamed : (t : List ℕ) (r : Answer (Option ℕ)) → Type 0

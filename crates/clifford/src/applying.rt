@@ -5,10 +5,10 @@ ghost use Rattle.pauli_group.specs.Letter.{Y};
 ghost use Rattle.pauli_group.specs.PauliString.{single};
 ghost use Rattle.clifford_group.specs.Tableau.{image_of, row_image, apply};
 ghost use Rattle.pauli.specs.Layout.{encode_string, letter_of};
-ghost use Rattle.clifford.specs.Layout.{tableau_of};
+ghost use Rattle.clifford.specs.Layout.{tableau_of, row_qubit, row_letter};
 ghost use Rattle.clifford.specs.Inside.Rows.{WorkRow, WorkOnQubit, WorkPlace, AppliesString, AppliesLetter, ClearRow, cleared_row, row_times, letters_in, string_in};
 
-use crate::layout::{multiply_by, width};
+use crate::layout::{RowPlace, multiply_by, width};
 use crate::tableau::Qubit;
 use pauli::algebra::multiply_paulis;
 use pauli::rows::phase_times;
@@ -87,11 +87,11 @@ pub(crate) fn apply_string(t: &[u8], s: &[u8], work: &mut [u8])
     }
 }
 
-// The image of one letter, as a work row.
-pub(crate) fn apply_letter(t: &[u8], q: usize, letter: u8, work: &mut [u8])
-    requires { AppliesLetter t.now work.old q }
-    ensures { work.new ≡ encode_string (letters_in work.old) (image_of (tableau_of t.now) q (letter_of letter)) }
+// The image of the row's letter on its qubit, as a work row; the row may be one of a wider record.
+pub(crate) fn apply_letter(t: &[u8], row: RowPlace, work: &mut [u8])
+    requires { AppliesLetter t.now row.width work.old }
+    ensures { work.new ≡ encode_string row.width (image_of (tableau_of t.now) (row_qubit row.width row.r) (row_letter row.width row.r)) }
 {
     clear_row(work, 0);
-    multiply_image(work, t, q, letter);
+    multiply_image(work, t, row.qubit(), row.letter());
 }

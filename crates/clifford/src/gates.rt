@@ -6,14 +6,15 @@ ghost use Rattle.clifford_gates.specs.GateTableaux.{image_string};
 ghost use Rattle.clifford_gates.specs.GateNumbers.{one_qubit_gate, two_qubit_gate, gate_tableau, product_gates, inverse_numbers};
 ghost use Rattle.clifford_gates.specs.Updates.{letter_image, sent_image};
 ghost use Rattle.pauli.specs.Layout.{letter_of, encode_string};
+ghost use Rattle.clifford.specs.Layout.{row_qubit, row_letter};
 ghost use Rattle.clifford.specs.Inside.Rows.{letters_in};
 ghost use Rattle.clifford.specs.GateQuestions.{gate_width};
 ghost use Rattle.clifford.specs.GateAnswers.{named};
 ghost use Rattle.clifford.specs.GateRows.{image_bytes, y_bytes, ImageOf};
-ghost use Rattle.clifford.specs.Inside.Writing.{IsGenerator};
 ghost use Rattle.clifford.specs.Inside.GateRows.{pair_bytes, image_held, first_entry, entry_pair, OneRow, RowImageOf, row_image_string, GateSpan, PutsImage};
 
 use crate::applying::{clear_row, multiply_letter};
+use crate::layout::RowPlace;
 use crate::numbering::{Gate, OneQubitGate, PlacedGate, TwoQubitGate};
 use pauli::algebra::{PhasedLetter, multiply_paulis};
 use pauli::rows::phase_times;
@@ -218,11 +219,12 @@ impl PlacedGate {
         }
     }
 
-    // Its image of X or of Z on qubit k, also where its tableau is narrower.
-    pub(crate) fn image(self, k: usize, letter: u8) -> RowImage
-        requires { IsGenerator letter }
-        ensures { RowImageOf (max (gate_width self.number self.first self.second) (suc k)) (image_of (gate_tableau self.number self.first self.second) k (letter_of letter)) result }
+    // The image that this row has, also where its tableau is narrower.
+    pub(crate) fn image(self, row: RowPlace) -> RowImage
+        ensures { RowImageOf (max (gate_width self.number self.first self.second) (suc (row_qubit row.width row.r))) (image_of (gate_tableau self.number self.first self.second) (row_qubit row.width row.r) (row_letter row.width row.r)) result }
     {
+        let k = row.qubit();
+        let letter = row.letter();
         match Gate::numbered(self.number) {
             Gate::One(own) => {
                 if k == self.first {
@@ -232,11 +234,11 @@ impl PlacedGate {
                 }
             }
             Gate::Two(own) => {
-                let row = 6 * usize::from(letter);
+                let at = 6 * usize::from(letter);
                 if k == self.first {
-                    own.row_image(row - 6, self.first, self.second)
+                    own.row_image(at - 6, self.first, self.second)
                 } else if k == self.second {
-                    own.row_image(row - 3, self.first, self.second)
+                    own.row_image(at - 3, self.first, self.second)
                 } else {
                     IDENTITY.row_image(k, letter)
                 }

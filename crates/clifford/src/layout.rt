@@ -141,7 +141,8 @@ pub(crate) struct RowPlace {
 impl RowPlace {
     #[tactic(auto, using(pauli::proofs::Asking::by_tests, pauli::proofs::Asking::by_questions), unfolding(crate::specs::Layout::row_qubit))]
     pub(crate) fn qubit(self) -> usize
-        ensures { result ≡ row_qubit self.width self.r }
+        ensures is { result ≡ row_qubit self.width self.r }
+        ensures below { result < self.width }
     {
         if self.r < self.width {
             self.r
@@ -152,8 +153,11 @@ impl RowPlace {
 
     #[tactic(auto, using(pauli::proofs::Asking::by_tests, pauli::proofs::Asking::by_questions), unfolding(crate::specs::Layout::row_letter, pauli::specs::Layout::letter_byte))]
     pub(crate) fn letter(self) -> u8
-        ensures { result ≡ letter_byte (row_letter self.width self.r) }
+        ensures is { result ≡ letter_byte (row_letter self.width self.r) }
+        ensures some { 0 < result }
+        ensures small { result < 3 }
     {
+        // A byte and no type of its own: which of the two it is, the number of the row tells.
         if self.r < self.width { 1 } else { 2 }
     }
 }

@@ -1,44 +1,43 @@
 // The tableau of a Pauli string. Ports `From<PauliString>` of clifford_rep.rs of PECOS, changed:
 // Copyright 2024 The PECOS Developers, Apache License, Version 2.0.
-ghost use Rattle.std.specs.Prelude.{◌≡◌};
+ghost use Rattle.std.specs.Prelude.{◌≡◌, ◌+◌, length};
 ghost use Rattle.pauli_group.specs.PauliString.{single};
-ghost use Rattle.pauli.specs.Layout.{letter_of, encode_string, string_of, WellFormed};
-ghost use Rattle.clifford.specs.Inside.Rows.{sign_byte, letters_in};
-ghost use Rattle.clifford.specs.Inside.Writing.{Span, IsGenerator, PauliRow, conjugated};
+ghost use Rattle.pauli.specs.Layout.{letter_byte, encode_string, string_of, WellFormed};
+ghost use Rattle.clifford.specs.Layout.{row_qubit, row_letter};
+ghost use Rattle.clifford.specs.Inside.Rows.{sign_byte};
+ghost use Rattle.clifford.specs.Inside.Writing.{Span, conjugated};
 
 use crate::applying::{clear_row, multiply_letter};
+use crate::layout::RowPlace;
 use pauli::QUBITS;
 
 // The width: 1 + the highest qubit that has a letter, and 1 where none has.
-#[tactic(auto, using(crate::proofs::PauliTableau::spans))]
 pub(crate) fn span(s: &[u8]) -> usize
     requires { WellFormed 128 s.now }
     ensures { Span s.now result }
 {
-    for q in (0..QUBITS).rev() {
-        if s[q + 1] != 0 {
-            return q + 1;
-        }
+    match s[1..].iter().rev().position(|letter| *letter != 0) {
+        Some(after) => QUBITS - after,
+        None => 1,
     }
-    1
 }
 
-// The sign of X or Z next to the letter a: -1 where the two anticommute. The letter is a byte here: which of the two it is, the place of
-// the row tells, so a type for each would have to be chosen by that byte.
+// The sign of the row's letter next to the letter a: -1 where the two anticommute.
 #[tactic(auto, using(crate::proofs::PauliTableau::sign_bytes))]
-fn sign_byte(a: u8, letter: u8) -> u8
-    requires { IsGenerator letter }
-    ensures { result ≡ sign_byte a letter }
+fn sign_byte(a: u8, row: RowPlace) -> u8
+    ensures { result ≡ sign_byte a (letter_byte (row_letter row.width row.r)) }
 {
-    u8::from(a != 0 && a != letter)
+    u8::from(a != 0 && a != row.letter())
 }
 
-// X or Z on qubit q conjugated by the string s, as a work row.
-pub(crate) fn pauli_row(s: &[u8], q: usize, letter: u8, work: &mut [u8])
-    requires { PauliRow s.now q letter work.old }
-    ensures { work.new ≡ encode_string (letters_in work.old) (conjugated (string_of s.now) (single (letter_of letter) q)) }
+// The row's letter on its qubit, conjugated by the string s, as a work row.
+pub(crate) fn pauli_row(s: &[u8], row: RowPlace, work: &mut [u8])
+    requires string { WellFormed 128 s.now }
+    requires work { length work.old ≡ row.width + 1 }
+    ensures { work.new ≡ encode_string row.width (conjugated (string_of s.now) (single (row_letter row.width row.r) (row_qubit row.width row.r))) }
 {
-    let sign = sign_byte(s[q + 1], letter);
+    let q = row.qubit();
+    let sign = sign_byte(s[q + 1], row);
     clear_row(work, sign);
-    multiply_letter(work, q, letter);
+    multiply_letter(work, q, row.letter());
 }

@@ -54,7 +54,7 @@ impl<'a> RowMaker for Widened<'a> {
 
     #[tactic(auto, using(crate::proofs::Made::made_rows))]
     fn make_row(&self, row: RowPlace, _source: &mut [u8], work: &mut [u8]) {
-        apply_letter(self.t, row.qubit(), row.letter(), work);
+        apply_letter(self.t, row, work);
     }
 }
 
@@ -77,7 +77,7 @@ impl<'a> RowMaker for Composite<'a> {
     }
 
     fn make_row(&self, row: RowPlace, source: &mut [u8], work: &mut [u8]) {
-        apply_letter(self.b, row.qubit(), row.letter(), source);
+        apply_letter(self.b, row, source);
         apply_string(self.a, source, work);
     }
 }
@@ -123,7 +123,7 @@ impl<'a> RowMaker for OfPauli<'a> {
 
     #[tactic(auto, using(crate::proofs::Made::made_rows))]
     fn make_row(&self, row: RowPlace, _source: &mut [u8], work: &mut [u8]) {
-        pauli_row(self.s, row.qubit(), row.letter(), work);
+        pauli_row(self.s, row, work);
     }
 }
 
@@ -146,7 +146,7 @@ impl RowMaker for OfGate {
 
     #[tactic(auto, using(crate::proofs::Made::made_rows))]
     fn make_row(&self, row: RowPlace, _source: &mut [u8], work: &mut [u8]) {
-        put_image(self.gate.image(row.qubit(), row.letter()), work);
+        put_image(self.gate.image(row), work);
     }
 }
 

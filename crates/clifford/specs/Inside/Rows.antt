@@ -145,12 +145,11 @@ pub record AppliesString (b s d : List ℕ) : Type 0 where
   pub reach : length s ≤ length d
   pub narrow : length d ≤ 129
 
--- the same, to a letter on qubit q
-pub record AppliesLetter (b d : List ℕ) (q : ℕ) : Type 0 where
+-- the same, to a letter on a qubit of some record of width w, with a work row of that width
+pub record AppliesLetter (b : List ℕ) (w : ℕ) (d : List ℕ) : Type 0 where
   pub tableau : FormedTableau b
-  pub wide : width_of b < length d
-  pub place : q + 1 < length d
-  pub narrow : length d ≤ 129
+  pub wide : width_of b ≤ w
+  pub work : length d ≡ w + 1
 
 -- a string record, and a width of a tableau
 pub record Beside (s : List ℕ) (w : ℕ) : Type 0 where

@@ -1,5 +1,5 @@
 -- What a function that writes may count on once the questions have let it by.
-use Rattle.std.specs.Prelude.{◌≡◌, ℕ, ◌+◌, ◌*◌, ◌<◌, ◌≤◌, List, length}
+use Rattle.std.specs.Prelude.{◌≡◌, ℕ, ◌*◌, ◌<◌, ◌≤◌, List}
 use Rattle.pauli_group.specs.PauliString.{PauliString, scale, commutation_sign, Within}
 use Rattle.pauli.specs.Layout.{string_of, WellFormed}
 use Rattle.clifford.specs.Layout.{width_of, FormedTableau}
@@ -30,18 +30,6 @@ pub record Span (s : List ℕ) (r : ℕ) : Type 0 where
   pub is : r ≡ pauli_width (string_of s)
   pub small : r ≤ 128
 
--- the byte of X or of Z
-pub record IsGenerator (l : ℕ) : Type 0 where
-  pub some : 0 < l
-  pub small : l < 3
-
 -- conjugation by s keeps the letter x up to the sign by which the two change places
 unfoldable pub conjugated : PauliString → PauliString → PauliString
 conjugated s x = scale (commutation_sign s x) x
-
--- a string, X or Z on a qubit, and a work row of any content that has the qubit
-pub record PauliRow (s : List ℕ) (q l : ℕ) (k : List ℕ) : Type 0 where
-  pub string : WellFormed 128 s
-  pub letter : IsGenerator l
-  pub place : q + 1 < length k
-  pub narrow : length k ≤ 129
