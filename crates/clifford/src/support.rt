@@ -25,7 +25,7 @@ impl Row<'_> {
         ensures { result ≡ is_single (width_of self.now.bytes.now) (generator G.letter) q (row_of (tableau_of self.now.bytes.now) self.now.r) }
     {
         let letters = self.letters();
-        // By number: which letter is wanted goes by the qubit.
+        // By number, since which letter is wanted depends on the qubit.
         self.phase() == 0 && (0..letters.len()).all(|c| letters[c] == single_byte::<G>(q, c))
     }
 

@@ -76,6 +76,7 @@ impl<'a> RowMaker for Composite<'a> {
         self.width
     }
 
+    #[tactic(auto, using(crate::proofs::Made::made_rows))]
     fn make_row(&self, row: RowPlace, source: &mut [u8], work: &mut [u8]) {
         apply_letter(self.b, row, source);
         apply_string(self.a, source, work);

@@ -2,11 +2,5 @@
 use Rattle.clifford.proofs.Made.{made_rows}
 use Rattle.clifford.proofs.writing.CompositeRowMaker.make_row.Goals as goal
 
-pub apply_letter-requires : goal.apply_letter-requires
-apply_letter-requires c = search made_rows
-
 pub apply_string-requires : goal.apply_string-requires
 apply_string-requires c = search made_rows
-
-pub returns : goal.returns
-returns c = search made_rows
