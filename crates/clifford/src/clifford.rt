@@ -33,7 +33,7 @@ fn check_own_qubit(width: usize, qubit: usize) -> Result<(), Refusal>
     Err(Refusal::Qubit { qubit })
 }
 
-// The qubits of a gate, of any number; the second is not looked at for gates 0 to 23.
+// The qubits of a gate, of any number, so before there is a `PlacedGate`; the second is not looked at for gates 0 to 23.
 #[tactic(auto, using(pauli::proofs::Asking::by_questions), unfolding(crate::specs::GateQuestions::qubits_questions))]
 pub fn check_qubits(width: usize, gate: usize, q: usize, r: usize) -> Result<(), Refusal>
     ensures { result ≡ qubits_questions width gate q r }
