@@ -246,14 +246,14 @@ pub extern "C" fn rc_on_qubit(gate: u8, q: usize, dst: &mut [u8]) -> Reply
 
 #[unsafe(no_mangle)]
 pub extern "C" fn rc_gate_compose(g: u8, h: u8) -> Reply
-    ensures { Replied gate_value (GatesComposed g h) result }
+    ensures { Replied number_value (GatesComposed g h) result }
 {
     Reply::from(gates::compose(g, h))
 }
 
 #[unsafe(no_mangle)]
 pub extern "C" fn rc_gate_inverse(g: u8) -> Reply
-    ensures { Replied gate_value (GateInverted g) result }
+    ensures { Replied number_value (GateInverted g) result }
 {
     Reply::from(gates::inverse(g))
 }
