@@ -84,10 +84,6 @@ pub ruleset name_answers = (checked, answered-done, answered-exit, rules)
 
 -- ---- gates by number
 module _ (g h : ℕ) where
-  pub gates_first : {x : Refusal} → Err x ≡ gate_question 24 g → Err x ≡ compose_gate_questions g h
-  unfolding compose_gate_questions
-  gates_first e = first_not _ e
-
   pub gates_asked : {x : Outcome} → Ok tt ≡ gate_question 24 g → x ≡ gate_question 24 h → x ≡ compose_gate_questions g h
   unfolding compose_gate_questions
   gates_asked eg eh = first_done eg eh

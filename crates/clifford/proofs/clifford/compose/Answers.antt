@@ -1,6 +1,5 @@
 -- `clifford::compose` meets its contract.
-use Rattle.pauli.proofs.Answers.{answered-exit}
-use Rattle.clifford.proofs.GateAnswers.{gates_first, gates_asked, gate-products}
+use Rattle.clifford.proofs.GateAnswers.{gate-products}
 use Rattle.clifford.proofs.clifford.compose.Goals as goal
 
 pub invariant_of-composed : goal.invariant_of-composed
