@@ -201,4 +201,4 @@ module _ (s : List ℕ) where
   unfolding pauli_answer
   pauli-refused d h e = refused-answer _ _ d h e
 
-pub ruleset pauli-tableaux = (pauli-made, pauli-string, pauli-spans, pauli-written, pauli-refused, rules)
+pub ruleset pauli_tableaux = (pauli-made, pauli-string, pauli-spans, pauli-written, pauli-refused, rules)

@@ -61,7 +61,7 @@ pub ruleset letter-images = (image_I, image_X, image_Z, image_Y, rules)
 
 -- ---- images of two-qubit gates
 pub pair_read : (g k q r : ℕ) {e : List ℕ} → e ≡ pair_bytes (two_qubit_gate g)
-    → record { sign = get_or e k 0; first = get_or e (k + 1) 0; place = q; second = get_or e (k + 2) 0; other = r } ≡ entry_pair (pair_bytes (two_qubit_gate g)) k q r
+    → record { sign = get_or e k 0; first_letter = get_or e (k + 1) 0; first_qubit = q; second_letter = get_or e (k + 2) 0; second_qubit = r } ≡ entry_pair (pair_bytes (two_qubit_gate g)) k q r
 unfolding entry_pair
 pair_read g k q r h = ap (λ (l : List ℕ). entry_pair l k q r) h
 

@@ -1,5 +1,5 @@
 -- Gates found by their images, and the answers that name a gate.
-use Rattle.std.proofs.Common.{◌≡◌, ℕ, zero, suc, ◌+◌, ◌-◌, ◌<◌, ◌≤◌, max, Bool, true, false, cond, ◌&&◌, eqb, ltb, List, [], ◌∷◌, length, get_or, sym, refl, ap, ◌∙◌, ap₂, le_of_suc-le-suc, not-suc-le-zero, arith, rules, eq-eqb, ne_eqb, ltb-true, lt-ltb, le-ltb, Option, Some, None}
+use Rattle.std.proofs.Common.{◌≡◌, ℕ, zero, suc, ◌+◌, ◌-◌, ◌<◌, ◌≤◌, max, Bool, true, false, cond, ◌&&◌, eqb, ltb, List, [], ◌∷◌, length, get_or, sym, refl, ap, ◌∙◌, ap₂, le_of_suc-le-suc, not-suc-le-zero, arith, rules, eq-eqb, ne_eqb, ltb-true, lt-ltb, le-ltb, Option, Some, None, IsSome, is_some}
 use mathlib.Core.Path.{fun_ext}
 use mathlib.Core.Bool.{and-true, and_assoc}
 use native.Mathlib.Decide.{ℕ_discrete}
@@ -182,4 +182,17 @@ name_composed {g} {h} {r} {i} {j} {x} {z} first second hi hj hx hz n =
         (λ n. hx.phase n ∷ hx.letter n ∷ hz.phase n ∷ hz.letter n ∷ [])
         ∙ ap₂ (λ (a c : Image). image_bytes (one_qubit (sent_image (one_qubit_gate g) a) (sent_image (one_qubit_gate g) c))) (held_image _ i hi) (held_image _ j hj)
 
-pub ruleset composed_names = (name_composed, rules)
+-- one is found, and it is the gate
+pub composed_found : {g h : ℕ} {r : Option ℕ} {i j x z : PhasedLetter} → g < 24 → h < 24
+    → ImageOf (letter_image (one_qubit_gate h) (letter_of 1)) i → ImageOf (letter_image (one_qubit_gate h) (letter_of 2)) j
+    → ImageOf (sent_image (one_qubit_gate g) (image_held i)) x → ImageOf (sent_image (one_qubit_gate g) (image_held j)) z
+    → r ≡ named (first_entry (x.0 ∷ x.1 ∷ z.0 ∷ z.1 ∷ [])) → IsSome r
+composed_found first second hi hj hx hz n = ap is_some (name_composed first second hi hj hx hz n)
+
+pub composed_number : {g h k : ℕ} {r : Option ℕ} {i j x z : PhasedLetter} → g < 24 → h < 24
+    → ImageOf (letter_image (one_qubit_gate h) (letter_of 1)) i → ImageOf (letter_image (one_qubit_gate h) (letter_of 2)) j
+    → ImageOf (sent_image (one_qubit_gate g) (image_held i)) x → ImageOf (sent_image (one_qubit_gate g) (image_held j)) z
+    → r ≡ named (first_entry (x.0 ∷ x.1 ∷ z.0 ∷ z.1 ∷ [])) → r ≡ Some k → k ≡ compose_gate g h
+composed_number first second hi hj hx hz n e = let both = name_composed first second hi hj hx hz n in cc
+
+pub ruleset composed_names = (composed_found, composed_number, rules)

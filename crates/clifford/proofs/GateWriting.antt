@@ -49,11 +49,11 @@ image_string_lem i k {r} h =
     (ap₂ mul (ap (λ (l : ℕ). single (letter_of l) k) h.letter ∙ ap (λ l. single l k) (letter-back i.letter)) (single-I k) ∙ mul-identity (single i.letter k))
 
 pub one_made : (i : Image) (k : ℕ) {r : PhasedLetter} → ImageOf i r
-    → OneRow (image_string i k) k (record { sign = r.0; first = r.1; place = k; second = 0; other = k })
+    → OneRow (image_string i k) k (record { sign = r.0; first_letter = r.1; first_qubit = k; second_letter = 0; second_qubit = k })
 unfolding row_image_string letter_of
 one_made i k {r} h = record { string = image_string_lem i k h; sign = omega (arith, h.phase, phase-small i.phase); first = refl; second = refl }
 
-pair_made : (i : PairImage) {q r : ℕ} {x : RowImage} → PairOf i x → x.place ≡ q → x.other ≡ r → row_image_string x ≡ pair_string i q r
+pair_made : (i : PairImage) {q r : ℕ} {x : RowImage} → PairOf i x → x.first_qubit ≡ q → x.second_qubit ≡ r → row_image_string x ≡ pair_string i q r
 unfolding row_image_string pair_string
 pair_made i {q} {r} {x} h ep eo =
     ap₂ scale (ap phase_of h.phase ∙ phase-back i.phase)
@@ -287,10 +287,10 @@ module _ {i : RowImage} {d : List ℕ} (o : PutsImage i d) where
   sign = phase_of i.sign
 
   abbrev one : PauliString
-  one = single (letter_of i.first) i.place
+  one = single (letter_of i.first_letter) i.first_qubit
 
   abbrev two : PauliString
-  two = single (letter_of i.second) i.other
+  two = single (letter_of i.second_letter) i.second_qubit
 
   module _ {k₁ : List ℕ} (e₁ : k₁ ≡ cleared_row (length d) i.sign) where
     some : 0 < length d
@@ -299,14 +299,14 @@ module _ {i : RowImage} {d : List ℕ} (o : PutsImage i d) where
     long₁ : length k₁ ≡ length d
     long₁ = length_cleared i.sign some e₁
 
-    pub put_first : WorkPlace k₁ i.place
+    pub put_first : WorkPlace k₁ i.first_qubit
     put_first = record { row = cleared_formed i.sign some e₁; place = omega (arith, long₁, o.first); narrow = omega (arith, long₁, o.narrow) }
 
     module _ {k₂ : List ℕ} (e₂ : k₂ ≡ row_times k₁ one) where
       long₂ : length k₂ ≡ length d
       long₂ = length-times k₂ one (cleared_formed i.sign some e₁) e₂ ∙ long₁
 
-      pub put_second : WorkPlace k₂ i.other
+      pub put_second : WorkPlace k₂ i.second_qubit
       put_second = record { row = times-formed one (cleared_formed i.sign some e₁) e₂; place = omega (arith, long₂, o.second); narrow = omega (arith, long₂, o.narrow) }
 
       cleared_is : k₁ ≡ encode_string w (scale sign identity_string)
@@ -317,7 +317,7 @@ module _ {i : RowImage} {d : List ℕ} (o : PutsImage i d) where
       within-clear = within-scale w sign identity_string (within-identity w)
 
       within-one : Within w (mul (scale sign identity_string) one)
-      within-one = within-mul w (scale sign identity_string) one within-clear (within-single w (letter_of i.first) i.place (omega (arith, o.first)))
+      within-one = within-mul w (scale sign identity_string) one within-clear (within-single w (letter_of i.first_letter) i.first_qubit (omega (arith, o.first)))
 
       pub put_made : {k₃ : List ℕ} → k₃ ≡ row_times k₂ two → k₃ ≡ encode_string w (row_image_string i)
       unfolding row_image_string

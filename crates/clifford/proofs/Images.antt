@@ -1,7 +1,6 @@
 -- Images handed out: the row's own part of the record, and where it starts.
 use Rattle.std.specs.Result.{result_unwrap_or}
 use Rattle.std.proofs.Common.{◌≡◌, ℕ, ◌+◌, ◌*◌, ◌<◌, List, [], length, sym, refl, ap, ◌∙◌, arith, rules, w64, Fits, Result, Ok, Err, IsErrAnd}
-use Rattle.std.specs.Result.{result_map_both}
 use Rattle.clifford_group.specs.Conjugation.{Generator, of_x, of_z, row}
 use Rattle.pauli.specs.declared.refusal.Refusal.{Refusal}
 use Rattle.pauli.specs.Questions.{◌and_then◌}
@@ -70,14 +69,7 @@ module _ (t : List ℕ) (slot : ℕ) (h : Ok tt ≡ image_questions t slot) wher
       ∙ ap {B = Result (List ℕ) Refusal} Ok
       (sym (row_there (own_row own)) ∙ ap (encode_row (width_of t)) (sym (row_part_lem t _ own.own) ∙ row-generator g t below))
 
--- ---- where they refuse
-module _ (g : Generator) (t : List ℕ) (slot : ℕ) {x : Refusal} (h : Err x ≡ image_questions t slot) where
-  pub image-refused : {R : Type 0} (f : R → List ℕ) (r : Result R Refusal) → IsErrAnd r (λ e. e ≡ x) → result_map_both f (λ e. e) r ≡ image_part g t slot
-  unfolding image_part answer_to
-  image-refused f (Ok y) e = absurd e
-  image-refused f (Err y) e = ap {B = Result (List ℕ) Refusal} Err e ∙ ap (λ q. answer_to q (row_part t (generator_row g (width_of t) slot))) h
-
-pub ruleset images = (image-slot, image-inside, image-handed, image-refused, rules)
+pub ruleset images = (image-slot, image-inside, image-handed, rules)
 
 pub ruleset image_offsets = (generator_index, image-slot, image-offset, answered-exit, rules)
 

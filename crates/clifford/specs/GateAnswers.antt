@@ -3,15 +3,15 @@ use Rattle.std.specs.Prelude.{ℕ, cond, List, nat_lt, Some, None, Option}
 use Rattle.clifford_group.specs.Tableau.{widen}
 use Rattle.clifford_gates.specs.GateTableaux.{on_qubit}
 use Rattle.clifford_gates.specs.GateNumbers.{one_qubit_gate, gate_tableau, single_qubit_clifford, name_of}
-use Rattle.pauli.specs.Answers.{Outcome, Answer, gate_value, Answered}
+use Rattle.pauli.specs.Answers.{Outcome, Answer, number_value, gate_value, Answered}
 use Rattle.clifford.specs.Layout.{tableau_of, tableau_record}
 
 -- the gate of a number below 24; 24 is none
 unfoldable pub named : ℕ → Option ℕ
 named n = cond (nat_lt n 24) (Some n) None
 
-abbrev pub GateAnswered : (q : Outcome) (g : ℕ) (r : Answer (Option ℕ)) → Type 0
-GateAnswered q g r = Answered gate_value q (Some g) r
+abbrev pub GateAnswered : (q : Outcome) (g : ℕ) (r : Answer ℕ) → Type 0
+GateAnswered q g r = Answered number_value q g r
 
 abbrev pub NameAnswered : (q : Outcome) (n : ℕ) (r : Answer (Option ℕ)) → Type 0
 NameAnswered q n r = Answered gate_value q (named n) r

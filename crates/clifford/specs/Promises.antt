@@ -1,7 +1,7 @@
 -- What each public function on tableaux and on gates promises of its answer r: the questions, the answer, and the destination, which
 -- held d at entry and holds e at exit. a, b and t are tableau records, s is a string record.
 use Rattle.std.specs.Prelude.{ℕ, List, length, Option, Bool}
-use Rattle.clifford_group.specs.Conjugation.{Generator, of_x, of_z}
+use Rattle.clifford_group.specs.Conjugation.{Generator}
 use Rattle.clifford_gates.specs.GateNumbers.{compose_gate, inverse_gate}
 use Rattle.pauli.specs.Answers.{Outcome, Answer, number_value, one_or_zero, Answered, Written, CountWritten}
 use Rattle.clifford.specs.Layout.{width_of, row_offset, generator_row}
@@ -16,20 +16,8 @@ use Rattle.clifford.specs.GateAnswers.{GateAnswered, NameAnswered, gate_record, 
 abbrev pub ImageAt : (g : Generator) (t : List ℕ) (q : ℕ) (r : Answer ℕ) → Type 0
 ImageAt g t q r = Answered number_value (image_questions t q) (row_offset (width_of t) (generator_row g (width_of t) q)) r
 
-abbrev pub XImageAt : (t : List ℕ) (q : ℕ) (r : Answer ℕ) → Type 0
-XImageAt t q r = ImageAt of_x t q r
-
-abbrev pub ZImageAt : (t : List ℕ) (q : ℕ) (r : Answer ℕ) → Type 0
-ZImageAt t q r = ImageAt of_z t q r
-
 abbrev pub ImageSet : (g : Generator) (q : ℕ) (s t e : List ℕ) (r : Outcome) → Type 0
 ImageSet g q s t e r = Written (set_questions t q s) (set_record g t q s) t e r
-
-abbrev pub XImageSet : (q : ℕ) (s t e : List ℕ) (r : Outcome) → Type 0
-XImageSet q s t e r = ImageSet of_x q s t e r
-
-abbrev pub ZImageSet : (q : ℕ) (s t e : List ℕ) (r : Outcome) → Type 0
-ZImageSet q s t e r = ImageSet of_z q s t e r
 
 -- ---- tableaux
 
@@ -74,10 +62,10 @@ OneQubitGateWritten g q d e r = Written (on_qubit_answer g q (length d)) (one_qu
 abbrev pub SingleQubitCliffordWritten : (k q : ℕ) (d e : List ℕ) (r : Outcome) → Type 0
 SingleQubitCliffordWritten k q d e r = Written (on_qubit_answer k q (length d)) (single_qubit_clifford_record k q) d e r
 
-abbrev pub GatesComposed : (g h : ℕ) (r : Answer (Option ℕ)) → Type 0
+abbrev pub GatesComposed : (g h : ℕ) (r : Answer ℕ) → Type 0
 GatesComposed g h r = GateAnswered (compose_gate_questions g h) (compose_gate g h) r
 
-abbrev pub GateInverted : (g : ℕ) (r : Answer (Option ℕ)) → Type 0
+abbrev pub GateInverted : (g : ℕ) (r : Answer ℕ) → Type 0
 GateInverted g r = GateAnswered (gate_question 38 g) (inverse_gate g) r
 
 abbrev pub GateNamed : (t : List ℕ) (r : Answer (Option ℕ)) → Type 0

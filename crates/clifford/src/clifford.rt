@@ -1,8 +1,9 @@
 // Gates by number: their tableaux, their names, their products and inverses. Ports clifford.rs of PECOS, changed:
 // Copyright 2026 The PECOS Developers, Apache License, Version 2.0.
-ghost use Rattle.std.specs.Prelude.{◌≡◌, Some};
+ghost use Rattle.std.specs.Prelude.{◌≡◌, suc, ◌<◌};
 ghost use Rattle.clifford_group.specs.Tableau.{widen};
-ghost use Rattle.clifford_gates.specs.GateNumbers.{gate_tableau, compose_gate};
+ghost use Rattle.clifford_gates.specs.GateTableaux.{on_qubit};
+ghost use Rattle.clifford_gates.specs.GateNumbers.{one_qubit_gate, gate_tableau, compose_gate};
 ghost use Rattle.clifford.specs.Layout.{FormedTableau};
 ghost use Rattle.clifford.specs.GateQuestions.{own_qubit_question, qubits_questions};
 ghost use Rattle.clifford.specs.GateAnswers.{named, record_name};
@@ -32,7 +33,7 @@ fn check_own_qubit(width: usize, qubit: usize) -> Result<(), Refusal>
     Err(Refusal::Qubit { qubit })
 }
 
-// The qubits of a gate, of any number; the second is not looked at for gates 0 to 23.
+// The qubits of a gate, of any number, so before there is a `PlacedGate`; the second is not looked at for gates 0 to 23.
 #[tactic(auto, using(pauli::proofs::Asking::by_questions), unfolding(crate::specs::GateQuestions::qubits_questions))]
 pub fn check_qubits(width: usize, gate: usize, q: usize, r: usize) -> Result<(), Refusal>
     ensures { result ≡ qubits_questions width gate q r }
@@ -56,8 +57,23 @@ fn write_gate(gate: PlacedGate, width: usize, dst: &mut [u8]) -> Result<(), Refu
     write_made(&OfGate { gate, width }, dst)
 }
 
+// The record of a one-qubit gate on its qubit, at its own width.
+#[tactic(auto, using(crate::proofs::GateAnswers::one_qubit_writes))]
+fn write_on_qubit(number: usize, qubit: usize, dst: &mut [u8]) -> Result<(), Refusal>
+    requires small { number < 24 }
+    requires below { qubit < 128 }
+    ensures { TableauWritten (suc qubit) (on_qubit (one_qubit_gate number) qubit) dst.old dst.new result }
+{
+    let placed = PlacedGate {
+        number,
+        first: qubit,
+        second: qubit,
+    };
+    write_gate(placed, placed.width(), dst)
+}
+
 // A gate on its qubits; the second is not looked at for gates 0 to 23.
-#[tactic(auto, using(crate::proofs::GateAsking::gate_answers))]
+#[tactic(auto, using(pauli::proofs::Asking::by_questions, crate::proofs::GateAsking::gate_answers), unfolding(crate::specs::GateQuestions::on_qubits_answer, crate::specs::GateQuestions::on_qubits_questions, pauli_group::specs::PauliString::qubits))]
 pub fn on_qubits(gate: u8, q0: usize, q1: usize, dst: &mut [u8]) -> Result<(), Refusal>
     ensures { GateWritten gate q0 q1 dst.old dst.new result }
 {
@@ -73,7 +89,7 @@ pub fn on_qubits(gate: u8, q0: usize, q1: usize, dst: &mut [u8]) -> Result<(), R
 }
 
 // A gate on its qubits, at the width n; the second is not looked at for gates 0 to 23.
-#[tactic(auto, using(crate::proofs::GateAsking::width_answers))]
+#[tactic(auto, using(pauli::proofs::Asking::by_questions, crate::proofs::GateAsking::width_answers), unfolding(crate::specs::GateQuestions::on_width_answer, crate::specs::GateQuestions::on_width_questions))]
 pub fn on_width(n: usize, gate: u8, q0: usize, q1: usize, dst: &mut [u8]) -> Result<(), Refusal>
     ensures { WidthGateWritten n gate q0 q1 dst.old dst.new result }
 {
@@ -90,34 +106,24 @@ pub fn on_width(n: usize, gate: u8, q0: usize, q1: usize, dst: &mut [u8]) -> Res
 }
 
 // A one-qubit gate on its qubit.
-#[tactic(auto, using(crate::proofs::GateAnswers::one_qubit_answers))]
+#[tactic(auto, using(pauli::proofs::Asking::by_questions, crate::proofs::GateAnswers::one_qubit_answers), unfolding(crate::specs::GateQuestions::on_qubit_answer, crate::specs::GateQuestions::on_qubit_questions))]
 pub fn on_qubit(gate: u8, q: usize, dst: &mut [u8]) -> Result<(), Refusal>
     ensures { OneQubitGateWritten gate q dst.old dst.new result }
 {
     let g = usize::from(gate);
     check_gate(24, g)?;
     check_qubit(q)?;
-    let placed = PlacedGate {
-        number: g,
-        first: q,
-        second: q,
-    };
-    write_gate(placed, q + 1, dst)
+    write_on_qubit(g, q, dst)
 }
 
 // One of the 24 products of H and SZ, by its index.
-#[tactic(auto, using(crate::proofs::GateAnswers::one_qubit_answers))]
+#[tactic(auto, using(pauli::proofs::Asking::by_questions, crate::proofs::GateAnswers::one_qubit_answers), unfolding(crate::specs::GateQuestions::on_qubit_answer, crate::specs::GateQuestions::on_qubit_questions))]
 pub fn single_qubit_clifford(index: usize, qubit: usize, dst: &mut [u8]) -> Result<(), Refusal>
     ensures { SingleQubitCliffordWritten index qubit dst.old dst.new result }
 {
     check_gate(24, index)?;
     check_qubit(qubit)?;
-    let placed = PlacedGate {
-        number: product_number(index),
-        first: qubit,
-        second: qubit,
-    };
-    write_gate(placed, qubit + 1, dst)
+    write_on_qubit(product_number(index), qubit, dst)
 }
 
 // ---- names
@@ -140,7 +146,7 @@ fn name_of(t: &[u8]) -> Option<u8>
 }
 
 // The first of the 24 gates, by number, whose tableau on qubit 0 this is. None, unless it has width 1 and is valid.
-#[tactic(auto, using(crate::proofs::GateAnswers::name_answers))]
+#[tactic(auto, using(pauli::proofs::Asking::by_questions, crate::proofs::GateAnswers::name_answers), unfolding(pauli::specs::Answers::answer_to, pauli::specs::Answers::reply_of, pauli::specs::Answers::reply_to))]
 pub fn from_clifford_rep(t: &[u8]) -> Result<Option<u8>, Refusal>
     ensures { GateNamed t.now result }
 {
@@ -152,16 +158,17 @@ pub fn from_clifford_rep(t: &[u8]) -> Result<Option<u8>, Refusal>
 
 // The number of the gate that g after h is.
 #[tactic(auto, using(crate::proofs::GateNaming::composed_names))]
-fn composed(g: OneQubitGate, h: OneQubitGate) -> Option<u8>
-    ensures { result ≡ Some (compose_gate g.number h.number) }
+fn composed(g: OneQubitGate, h: OneQubitGate) -> u8
+    ensures { result ≡ compose_gate g.number h.number }
 {
     let x = g.sent_image(h.letter_image(1));
     let z = g.sent_image(h.letter_image(2));
-    first_gate([x.0, x.1, z.0, z.1])
+    first_gate([x.0, x.1, z.0, z.1]).unwrap()
 }
 
 // g composed with h: h acts first.
-pub fn compose(g: u8, h: u8) -> Result<Option<u8>, Refusal>
+#[tactic(auto, using(pauli::proofs::Asking::by_questions), unfolding(crate::specs::GateQuestions::compose_gate_questions, pauli::specs::Answers::answer_to, pauli::specs::Answers::reply_of, pauli::specs::Answers::reply_to))]
+pub fn compose(g: u8, h: u8) -> Result<u8, Refusal>
     ensures { GatesComposed g h result }
 {
     let first = usize::from(g);
@@ -175,11 +182,11 @@ pub fn compose(g: u8, h: u8) -> Result<Option<u8>, Refusal>
 }
 
 // The inverse of a gate.
-#[tactic(auto, using(crate::proofs::GateAnswers::gate_numbers))]
-pub fn inverse(g: u8) -> Result<Option<u8>, Refusal>
+#[tactic(auto, using(pauli::proofs::Asking::by_questions, crate::proofs::GateAnswers::gate_numbers), unfolding(pauli::specs::Answers::answer_to, pauli::specs::Answers::reply_of, pauli::specs::Answers::reply_to))]
+pub fn inverse(g: u8) -> Result<u8, Refusal>
     ensures { GateInverted g result }
 {
     let gate = usize::from(g);
     check_gate(38, gate)?;
-    Ok(Some(inverse_number(gate)))
+    Ok(inverse_number(gate))
 }

@@ -88,7 +88,7 @@ fn check_image(t: &[u8], slot: usize) -> Result<(), Refusal>
 }
 
 // The image of X or Z on this qubit, the row's own part of the record.
-#[tactic(auto, using(crate::proofs::Images::images))]
+#[tactic(auto, using(pauli::proofs::Asking::by_questions, crate::proofs::Images::images), unfolding(crate::specs::Tableaux::image_part, pauli::specs::Answers::answer_to))]
 pub fn image<G: Generator>(t: &[u8], slot: usize) -> Result<&[u8], Refusal>
     ensures { result_map_both (λ part. part.now) (λ why. why) result ≡ image_part G.letter t.now slot }
 {
@@ -96,7 +96,7 @@ pub fn image<G: Generator>(t: &[u8], slot: usize) -> Result<&[u8], Refusal>
     Ok(row(t, image_row::<G>(width(t), slot)))
 }
 
-// That part; no bytes where there is none to hand out.
+// The row's part of the record, or no bytes where there is none to hand out.
 pub fn image_or_none<G: Generator>(t: &[u8], slot: usize) -> &[u8]
     ensures { result.now ≡ result_unwrap_or (image_part G.letter t.now slot) [] }
 {
@@ -104,7 +104,7 @@ pub fn image_or_none<G: Generator>(t: &[u8], slot: usize) -> &[u8]
 }
 
 // Where in the record that image starts.
-#[tactic(auto, using(crate::proofs::Images::image_offsets))]
+#[tactic(auto, using(pauli::proofs::Asking::by_questions, crate::proofs::Images::image_offsets), unfolding(pauli::specs::Answers::answer_to, pauli::specs::Answers::reply_of, pauli::specs::Answers::reply_to))]
 pub fn image_offset<G: Generator>(t: &[u8], slot: usize) -> Result<usize, Refusal>
     ensures { ImageAt G.letter t.now slot result }
 {
@@ -137,7 +137,7 @@ pub fn set_image<G: Generator>(t: &mut [u8], slot: usize, s: &[u8]) -> Result<()
 // ---- identity
 
 // The identity of width n: the tableau of width 0 widened.
-#[tactic(auto, using(crate::proofs::Answers::identities))]
+#[tactic(auto, using(pauli::proofs::Asking::by_questions, crate::proofs::Answers::identities), unfolding(crate::specs::Questions::identity_answer))]
 pub fn identity(n: usize, dst: &mut [u8]) -> Result<(), Refusal>
     ensures { IdentityWritten n dst.old dst.new result }
 {
@@ -150,7 +150,7 @@ pub fn identity(n: usize, dst: &mut [u8]) -> Result<(), Refusal>
 // ---- apply
 
 // The image of the string s.
-#[tactic(auto, using(crate::proofs::Answers::applying))]
+#[tactic(auto, using(pauli::proofs::Asking::by_questions, crate::proofs::Answers::applying), unfolding(crate::specs::Questions::apply_answer, crate::specs::Questions::apply_questions))]
 pub fn apply(t: &[u8], s: &[u8], dst: &mut [u8]) -> Result<(), Refusal>
     ensures { Applied t.now s.now dst.old dst.new result }
 {
@@ -164,7 +164,7 @@ pub fn apply(t: &[u8], s: &[u8], dst: &mut [u8]) -> Result<(), Refusal>
 // ---- compose
 
 // a composed with b: b acts first.
-#[tactic(auto, using(crate::proofs::Answers::compositions))]
+#[tactic(auto, using(pauli::proofs::Asking::by_questions, crate::proofs::Answers::compositions), unfolding(crate::specs::Questions::compose_answer))]
 pub fn compose(a: &[u8], b: &[u8], dst: &mut [u8]) -> Result<(), Refusal>
     ensures { Composed a.now b.now dst.old dst.new result }
 {
@@ -178,7 +178,7 @@ pub fn compose(a: &[u8], b: &[u8], dst: &mut [u8]) -> Result<(), Refusal>
 // ---- extended_to
 
 // The tableau widened to n; a smaller n gives a copy.
-#[tactic(auto, using(crate::proofs::Answers::extensions))]
+#[tactic(auto, using(pauli::proofs::Asking::by_questions, crate::proofs::Answers::extensions), unfolding(crate::specs::Questions::extend_answer, crate::specs::Questions::extend_questions))]
 pub fn extended_to(t: &[u8], n: usize, dst: &mut [u8]) -> Result<(), Refusal>
     ensures { Extended t.now n dst.old dst.new result }
 {
@@ -192,7 +192,7 @@ pub fn extended_to(t: &[u8], n: usize, dst: &mut [u8]) -> Result<(), Refusal>
 // ---- inverse
 
 // The inverse. Of an invalid tableau, what the same rule gives.
-#[tactic(auto, using(crate::proofs::Answers::inverses))]
+#[tactic(auto, using(pauli::proofs::Asking::by_questions, crate::proofs::Answers::inverses), unfolding(crate::specs::Questions::inverse_answer))]
 pub fn inverse(t: &[u8], dst: &mut [u8]) -> Result<(), Refusal>
     ensures { Inverted t.now dst.old dst.new result }
 {
@@ -204,7 +204,7 @@ pub fn inverse(t: &[u8], dst: &mut [u8]) -> Result<(), Refusal>
 // ---- is_valid
 
 // Whether the tableau is valid.
-#[tactic(auto, using(crate::proofs::IsValid::validity))]
+#[tactic(auto, using(pauli::proofs::Asking::by_questions, crate::proofs::IsValid::validity), unfolding(pauli::specs::Answers::answer_to, pauli::specs::Answers::reply_of, pauli::specs::Answers::reply_to))]
 pub fn is_valid(t: &[u8]) -> Result<bool, Refusal>
     ensures { ValidityTold t.now result }
 {
@@ -215,6 +215,7 @@ pub fn is_valid(t: &[u8]) -> Result<bool, Refusal>
 // ---- the tableau of a Pauli string
 
 // The string as a tableau, of width 1 where it has no letters.
+#[tactic(auto, using(pauli::proofs::Asking::by_questions, crate::proofs::Answers::pauli_tableaux), unfolding(crate::specs::Questions::pauli_answer))]
 pub fn from_pauli_string(s: &[u8], dst: &mut [u8]) -> Result<(), Refusal>
     ensures { FromPauliString s.now dst.old dst.new result }
 {
@@ -226,7 +227,7 @@ pub fn from_pauli_string(s: &[u8], dst: &mut [u8]) -> Result<(), Refusal>
 // ---- support_qubits
 
 // The qubits of the support, rising, and their number.
-#[tactic(auto, using(crate::proofs::SupportQubits::support_answers))]
+#[tactic(auto, using(pauli::proofs::Asking::by_questions, crate::proofs::SupportQubits::support_answers), unfolding(crate::specs::Questions::support_answer, pauli::specs::Answers::answer_to, pauli::specs::Answers::reply_of, pauli::specs::Answers::reply_to))]
 pub fn support_qubits(t: &[u8], dst: &mut [u8]) -> Result<usize, Refusal>
     ensures { SupportWritten t.now dst.old dst.new result }
 {
@@ -250,7 +251,7 @@ fn check_display(t: &[u8], room: usize) -> Result<(), Refusal>
 }
 
 // The text that shows a tableau; the answer is its length.
-#[tactic(auto, using(crate::proofs::Display::displays))]
+#[tactic(auto, using(pauli::proofs::Asking::by_questions, crate::proofs::Display::displays), unfolding(pauli::specs::Answers::answer_to, pauli::specs::Answers::reply_of, pauli::specs::Answers::reply_to))]
 pub fn display(t: &[u8], dst: &mut [u8]) -> Result<usize, Refusal>
     ensures { Displayed t.now dst.old dst.new result }
 {

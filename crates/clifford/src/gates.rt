@@ -82,10 +82,10 @@ const IDENTITY: OneQubitGate = OneQubitGate { number: 0 };
 #[derive(Clone, Copy)]
 pub(crate) struct RowImage {
     sign: u8,
-    first: u8,
-    place: usize,
-    second: u8,
-    other: usize,
+    first_letter: u8,
+    first_qubit: usize,
+    second_letter: u8,
+    second_qubit: usize,
 }
 
 // ---- images
@@ -107,16 +107,16 @@ impl OneQubitGate {
         IMAGES_1Q[self.number]
     }
 
-    // What it makes of a letter.
+    // What it makes of a letter, which is a byte as records hold it.
     pub(crate) fn letter_image(self, letter: u8) -> PhasedLetter
         ensures { ImageOf (letter_image (one_qubit_gate self.number) (letter_of letter)) result }
     {
-        let e = self.images();
+        let images = self.images();
         match letter {
             0 => PhasedLetter(0, 0),
-            1 => PhasedLetter(e[0], e[1]),
-            2 => PhasedLetter(e[2], e[3]),
-            _ => y_image(e),
+            1 => PhasedLetter(images[0], images[1]),
+            2 => PhasedLetter(images[2], images[3]),
+            _ => y_image(images),
         }
     }
 
@@ -124,25 +124,26 @@ impl OneQubitGate {
     pub(crate) fn sent_image(self, image: PhasedLetter) -> PhasedLetter
         ensures { ImageOf (sent_image (one_qubit_gate self.number) (image_held image)) result }
     {
-        let i = self.letter_image(image.1);
-        PhasedLetter(phase_times(image.0, i.0), i.1)
+        let sent = self.letter_image(image.1);
+        PhasedLetter(phase_times(image.0, sent.0), sent.1)
     }
 
     // Its image of X or of Z on qubit k.
     fn row_image(self, k: usize, letter: u8) -> RowImage
         ensures { OneRow (image_string (letter_image (one_qubit_gate self.number) (letter_of letter)) k) k result }
     {
-        let i = self.letter_image(letter);
+        let image = self.letter_image(letter);
         RowImage {
-            sign: i.0,
-            first: i.1,
-            place: k,
-            second: 0,
-            other: k,
+            sign: image.0,
+            first_letter: image.1,
+            first_qubit: k,
+            second_letter: 0,
+            second_qubit: k,
         }
     }
 }
 
+// Beside the functions of one-qubit gates, not one for both: an image has two letters here, and one there.
 impl TwoQubitGate {
     fn images(self) -> [u8; 12]
         ensures { result ≡ pair_bytes (two_qubit_gate self.number) }
@@ -156,20 +157,21 @@ impl TwoQubitGate {
         requires { at ≤ 9 }
         ensures { result ≡ entry_pair (pair_bytes (two_qubit_gate self.number)) at q r }
     {
-        let e = self.images();
+        let images = self.images();
         RowImage {
-            sign: e[at],
-            first: e[at + 1],
-            place: q,
-            second: e[at + 2],
-            other: r,
+            sign: images[at],
+            first_letter: images[at + 1],
+            first_qubit: q,
+            second_letter: images[at + 2],
+            second_qubit: r,
         }
     }
 }
 
 // ---- gates found by their images or by number
 
-// The first gate, by number, whose images of X and of Z, phase and letter, are these.
+// The first gate, by number, whose images of X and of Z, phase and letter, are these. The scope document fixes its form: a loop left
+// with the number by break.
 #[tactic(auto, using(crate::proofs::GateNaming::gate_searches))]
 pub(crate) fn first_gate(images: [u8; 4]) -> Option<u8>
     ensures { result ≡ named (first_entry images) }
@@ -226,19 +228,19 @@ impl PlacedGate {
         let k = row.qubit();
         let letter = row.letter();
         match Gate::numbered(self.number) {
-            Gate::One(own) => {
+            Gate::One(gate) => {
                 if k == self.first {
-                    own.row_image(k, letter)
+                    gate.row_image(k, letter)
                 } else {
                     IDENTITY.row_image(k, letter)
                 }
             }
-            Gate::Two(own) => {
+            Gate::Two(gate) => {
                 let at = 6 * usize::from(letter);
                 if k == self.first {
-                    own.row_image(at - 6, self.first, self.second)
+                    gate.row_image(at - 6, self.first, self.second)
                 } else if k == self.second {
-                    own.row_image(at - 3, self.first, self.second)
+                    gate.row_image(at - 3, self.first, self.second)
                 } else {
                     IDENTITY.row_image(k, letter)
                 }
@@ -254,6 +256,6 @@ pub(crate) fn put_image(image: RowImage, work: &mut [u8])
     ensures { work.new ≡ encode_string (letters_in work.old) (row_image_string image) }
 {
     clear_row(work, image.sign);
-    multiply_letter(work, image.place, image.first);
-    multiply_letter(work, image.other, image.second);
+    multiply_letter(work, image.first_qubit, image.first_letter);
+    multiply_letter(work, image.second_qubit, image.second_letter);
 }

@@ -21,7 +21,8 @@ pub(crate) enum Gate {
     Two(TwoQubitGate),
 }
 
-// A gate on its qubits; the second is not looked at for gates 0 to 23.
+// A gate on its qubits; the second is not looked at for gates 0 to 23. One struct for both kinds: `gate_tableau`, its width and its
+// questions are defined by a number and two qubits, which an enum would have to give again in each promise.
 #[derive(Clone, Copy)]
 pub(crate) struct PlacedGate {
     pub(crate) number: usize,
@@ -33,6 +34,7 @@ pub(crate) struct PlacedGate {
 impl Gate {
     ghost use Rattle.clifford.specs.Inside.Numbering.{gate_number};
 
+    // No `From`, which would take any number, and no `TryFrom`, whose failure would never come: the number was asked about before.
     #[tactic(auto, unfolding(crate::specs::Inside::Numbering::gate_number))]
     pub(crate) fn numbered(number: usize) -> Self
         requires { number < 38 }

@@ -5,7 +5,7 @@
 
 ghost use Rattle.pauli.specs.Answers.{no_value, number_value, one_or_zero, letter_value, gate_value};
 ghost use Rattle.pauli.specs.Promises.{PhasesMultiplied, PhaseConjugated, PhaseIsReal, LettersMultiplied, PhaseOfString, LetterOfString, PlacesCounted, StringsMultiplied, FromEntries, FromSparseText, FromDenseText, FromText, SparseTextWritten};
-ghost use Rattle.clifford.specs.Promises.{IdentityWritten, XImageAt, ZImageAt, XImageSet, ZImageSet, Applied, Composed, Extended, Inverted, ValidityTold, SupportWritten, FromPauliString, Displayed, SingleQubitCliffordWritten, GateWritten, OneQubitGateWritten, GatesComposed, GateInverted, GateNamed};
+ghost use Rattle.clifford.specs.Promises.{IdentityWritten, ImageAt, ImageSet, Applied, Composed, Extended, Inverted, ValidityTold, SupportWritten, FromPauliString, Displayed, SingleQubitCliffordWritten, GateWritten, OneQubitGateWritten, GatesComposed, GateInverted, GateNamed};
 ghost use Rattle.clifford_group.specs.Conjugation.{of_x, of_z};
 ghost use Rattle.preview.specs.Promises.{Previewed};
 ghost use Rattle.gate_play.specs.Promises.{Played};
@@ -125,28 +125,28 @@ pub extern "C" fn rc_identity(n: usize, dst: &mut [u8]) -> Reply
 
 #[unsafe(no_mangle)]
 pub extern "C" fn rc_x_image(t: &[u8], slot: usize) -> Reply
-    ensures { Replied number_value (XImageAt t.now slot) result }
+    ensures { Replied number_value (ImageAt of_x t.now slot) result }
 {
     Reply::from(clifford_rep::image_offset::<X>(t, slot))
 }
 
 #[unsafe(no_mangle)]
 pub extern "C" fn rc_z_image(t: &[u8], slot: usize) -> Reply
-    ensures { Replied number_value (ZImageAt t.now slot) result }
+    ensures { Replied number_value (ImageAt of_z t.now slot) result }
 {
     Reply::from(clifford_rep::image_offset::<Z>(t, slot))
 }
 
 #[unsafe(no_mangle)]
 pub extern "C" fn rc_set_x_image(t: &mut [u8], slot: usize, s: &[u8]) -> Reply
-    ensures { Replied no_value (XImageSet slot s.now t.old t.new) result }
+    ensures { Replied no_value (ImageSet of_x slot s.now t.old t.new) result }
 {
     Reply::from(clifford_rep::set_image::<X>(t, slot, s))
 }
 
 #[unsafe(no_mangle)]
 pub extern "C" fn rc_set_z_image(t: &mut [u8], slot: usize, s: &[u8]) -> Reply
-    ensures { Replied no_value (ZImageSet slot s.now t.old t.new) result }
+    ensures { Replied no_value (ImageSet of_z slot s.now t.old t.new) result }
 {
     Reply::from(clifford_rep::set_image::<Z>(t, slot, s))
 }
@@ -246,14 +246,14 @@ pub extern "C" fn rc_on_qubit(gate: u8, q: usize, dst: &mut [u8]) -> Reply
 
 #[unsafe(no_mangle)]
 pub extern "C" fn rc_gate_compose(g: u8, h: u8) -> Reply
-    ensures { Replied gate_value (GatesComposed g h) result }
+    ensures { Replied number_value (GatesComposed g h) result }
 {
     Reply::from(gates::compose(g, h))
 }
 
 #[unsafe(no_mangle)]
 pub extern "C" fn rc_gate_inverse(g: u8) -> Reply
-    ensures { Replied gate_value (GateInverted g) result }
+    ensures { Replied number_value (GateInverted g) result }
 {
     Reply::from(gates::inverse(g))
 }

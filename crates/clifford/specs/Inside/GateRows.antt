@@ -21,8 +21,8 @@ pair_bytes g =
 -- an image on two qubits as a phase byte and two letter bytes
 pub record PairOf (i : PairImage) (x : RowImage) : Type 0 where
   pub phase : x.sign ≡ phase_byte i.phase
-  pub first : x.first ≡ letter_byte i.first
-  pub second : x.second ≡ letter_byte i.second
+  pub first : x.first_letter ≡ letter_byte i.first
+  pub second : x.second_letter ≡ letter_byte i.second
 
 -- the image of the letter byte 1, X, or of another, Z
 unfoldable pub generator_image : PairImage → PairImage → ℕ → PairImage
@@ -48,25 +48,25 @@ first_entry e = first_with (λ g. same_entry (image_bytes g) e) one_qubit_gates
 
 -- a sign, a letter on a qubit and one more letter on a qubit, as a string
 unfoldable pub row_image_string : RowImage → PauliString
-row_image_string i = scale (phase_of i.sign) (mul (single (letter_of i.first) i.place) (single (letter_of i.second) i.other))
+row_image_string i = scale (phase_of i.sign) (mul (single (letter_of i.first_letter) i.first_qubit) (single (letter_of i.second_letter) i.second_qubit))
 
 -- i is the string s, which has letters on qubit k alone
 pub record OneRow (s : PauliString) (k : ℕ) (i : RowImage) : Type 0 where
   pub string : row_image_string i ≡ s
   pub sign : i.sign ≤ 3
-  pub first : i.place ≡ k
-  pub second : i.other ≡ k
+  pub first : i.first_qubit ≡ k
+  pub second : i.second_qubit ≡ k
 
 -- the image that starts at the place k of an entry, on the qubits q and r
 unfoldable pub entry_pair : List ℕ → ℕ → ℕ → ℕ → RowImage
-entry_pair e k q r = record { sign = slice_index e k; first = slice_index e (k + 1); place = q; second = slice_index e (k + 2); other = r }
+entry_pair e k q r = record { sign = slice_index e k; first_letter = slice_index e (k + 1); first_qubit = q; second_letter = slice_index e (k + 2); second_qubit = r }
 
 -- i is the string s, of w letters
 pub record RowImageOf (w : ℕ) (s : PauliString) (i : RowImage) : Type 0 where
   pub string : row_image_string i ≡ s
   pub sign : i.sign ≤ 3
-  pub first : i.place < w
-  pub second : i.other < w
+  pub first : i.first_qubit < w
+  pub second : i.second_qubit < w
 
 -- ---- what the functions that write them may count on
 
@@ -80,8 +80,8 @@ pub record GateOn (g q r : ℕ) : Type 0 where
 -- an image, and a work row of any content that it fits
 pub record PutsImage (i : RowImage) (d : List ℕ) : Type 0 where
   pub sign : i.sign ≤ 3
-  pub first : i.place + 1 < length d
-  pub second : i.other + 1 < length d
+  pub first : i.first_qubit + 1 < length d
+  pub second : i.second_qubit + 1 < length d
   pub narrow : length d ≤ 129
 
 -- w is the width of a gate's tableau

@@ -2,8 +2,5 @@
 use Rattle.clifford.proofs.GateAnswers.{name_answers}
 use Rattle.clifford.proofs.clifford.from_clifford_rep.Goals as goal
 
-pub returns-in_err-check_tableau : goal.returns-in_err-check_tableau
-returns-in_err-check_tableau c = search (name_answers, c.in_err-check_tableau.ensures)
-
 pub returns : goal.returns
 returns c = search (name_answers, c.in_ok-check_tableau.ensures)

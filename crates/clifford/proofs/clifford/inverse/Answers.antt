@@ -2,8 +2,5 @@
 use Rattle.clifford.proofs.GateAnswers.{gate_numbers}
 use Rattle.clifford.proofs.clifford.inverse.Goals as goal
 
-pub returns-in_err-check_gate : goal.returns-in_err-check_gate
-returns-in_err-check_gate c = rw (← c.from-gate.ensures) (search (gate_numbers, c.in_err-check_gate.ensures))
-
 pub returns : goal.returns
 returns c = rw (← c.from-gate.ensures) (search (gate_numbers, c.in_ok-check_gate.ensures))

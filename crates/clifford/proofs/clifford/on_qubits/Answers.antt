@@ -5,8 +5,5 @@ use Rattle.clifford.proofs.clifford.on_qubits.Goals as goal
 pub returns-in_err-check_gate : goal.returns-in_err-check_gate
 returns-in_err-check_gate c = rw (← c.from-g.ensures) (search (gate_answers, c.in_err-check_gate.ensures))
 
-pub returns-in_err-check_qubits : goal.returns-in_err-check_qubits
-returns-in_err-check_qubits c = rw (← c.from-g.ensures) (search (gate_answers, c.in_err-check_qubits.ensures, c.in_ok-check_gate.ensures))
-
 pub returns : goal.returns
 returns c = rw (← c.from-g.ensures) (search (gate_answers, c.in_ok-check_gate.ensures, c.in_ok-check_qubits.ensures))

@@ -8,8 +8,5 @@ returns-in_err-check_width c = search (width_answers, c.in_err-check_width.ensur
 pub returns-in_err-check_gate : goal.returns-in_err-check_gate
 returns-in_err-check_gate c = rw (← c.from-g.ensures) (search (width_answers, c.in_err-check_gate.ensures, c.in_ok-check_width.ensures))
 
-pub returns-in_err-check_qubits : goal.returns-in_err-check_qubits
-returns-in_err-check_qubits c = rw (← c.from-g.ensures) (search (width_answers, c.in_err-check_qubits.ensures, c.in_ok-check_width.ensures, c.in_ok-check_gate.ensures))
-
 pub returns : goal.returns
 returns c = rw (← c.from-g.ensures) (search (width_answers, c.in_ok-check_width.ensures, c.in_ok-check_gate.ensures, c.in_ok-check_qubits.ensures))

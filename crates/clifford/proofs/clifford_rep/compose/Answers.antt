@@ -2,8 +2,5 @@
 use Rattle.clifford.proofs.Answers.{compositions}
 use Rattle.clifford.proofs.clifford_rep.compose.Goals as goal
 
-pub returns-in_err-check_tableaux : goal.returns-in_err-check_tableaux
-returns-in_err-check_tableaux c = search (compositions, c.in_err-check_tableaux.ensures)
-
 pub returns : goal.returns
 returns c = search (compositions, c.in_ok-check_tableaux.ensures)

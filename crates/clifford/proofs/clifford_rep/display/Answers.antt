@@ -2,8 +2,5 @@
 use Rattle.clifford.proofs.Display.{displays}
 use Rattle.clifford.proofs.clifford_rep.display.Goals as goal
 
-pub returns-in_err-check_display : goal.returns-in_err-check_display
-returns-in_err-check_display c = search (displays, c.in_err-check_display.ensures)
-
 pub returns : goal.returns
 returns c = search (displays, c.in_ok-check_display.ensures)

@@ -5,8 +5,5 @@ use Rattle.clifford.proofs.clifford_rep.extended_to.Goals as goal
 pub returns-in_err-check_tableau : goal.returns-in_err-check_tableau
 returns-in_err-check_tableau c = search (extensions, c.in_err-check_tableau.ensures)
 
-pub returns-in_err-check_width : goal.returns-in_err-check_width
-returns-in_err-check_width c = search (extensions, c.in_err-check_width.ensures, c.in_ok-check_tableau.ensures)
-
 pub returns : goal.returns
 returns c = search (extensions, c.in_ok-check_tableau.ensures, c.in_ok-check_width.ensures)

@@ -2,8 +2,5 @@
 use Rattle.clifford.proofs.Answers.{identities}
 use Rattle.clifford.proofs.clifford_rep.identity.Goals as goal
 
-pub returns-in_err-check_width : goal.returns-in_err-check_width
-returns-in_err-check_width c = search (identities, c.in_err-check_width.ensures)
-
 pub returns : goal.returns
 returns c = search (identities, c.in_ok-check_width.ensures)

@@ -2,8 +2,5 @@
 use Rattle.clifford.proofs.Images.{image_offsets}
 use Rattle.clifford.proofs.clifford_rep.image_offset.Goals as goal
 
-pub returns-in_err-check_image : goal.returns-in_err-check_image
-returns-in_err-check_image g c = search (image_offsets, c.in_err-check_image.ensures)
-
 pub returns : goal.returns
 returns g c = search (image_offsets, c.in_ok-check_image.ensures)

@@ -2,8 +2,5 @@
 use Rattle.clifford.proofs.Answers.{inverses}
 use Rattle.clifford.proofs.clifford_rep.inverse.Goals as goal
 
-pub returns-in_err-check_tableau : goal.returns-in_err-check_tableau
-returns-in_err-check_tableau c = search (inverses, c.in_err-check_tableau.ensures)
-
 pub returns : goal.returns
 returns c = search (inverses, c.in_ok-check_tableau.ensures)

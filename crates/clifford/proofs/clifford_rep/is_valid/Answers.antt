@@ -2,8 +2,5 @@
 use Rattle.clifford.proofs.IsValid.{validity}
 use Rattle.clifford.proofs.clifford_rep.is_valid.Goals as goal
 
-pub returns-in_err-check_tableau : goal.returns-in_err-check_tableau
-returns-in_err-check_tableau c = search (validity, c.in_err-check_tableau.ensures)
-
 pub returns : goal.returns
 returns c = search (validity, c.in_ok-check_tableau.ensures)
