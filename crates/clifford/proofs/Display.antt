@@ -16,14 +16,15 @@ use Rattle.pauli.specs.Layout.{phase_byte, phase_of, letter_byte, letter_of}
 use Rattle.pauli.specs.Questions.{room_question}
 use Rattle.pauli.specs.Rows.{letter_at}
 use Rattle.pauli.specs.SparseText.{digits_to, decimal, prefix_text, letter_text, entry_word, words_at, body_text, entry_words, sparse_text_to, sparse_text, row_string, row_text, spaced}
-use Rattle.pauli.specs.TextWriting.{Stored}
+use Rattle.pauli.specs.declared.text_writer.TextWriter.{TextWriter}
+use Rattle.pauli.specs.TextWriters.{Put}
 use Rattle.pauli.specs.Inside.TextWriting.{TextWritten}
 use Rattle.pauli.proofs.Answers.{number-done, number-exit}
 use Rattle.pauli.proofs.Asking.{exit_not, first_not, first_done, done_first, done_second, room-is}
 use Rattle.pauli.proofs.Decimals.{decimal-most}
 use Rattle.pauli.proofs.SparseTexts.{text-length}
 use Rattle.pauli.proofs.StringTexts.{words_ext, text-within, copied-whole, text_same}
-use Rattle.pauli.proofs.TextWrites.{stored-none, stored_join, stored_as, stored_same, whole-text}
+use Rattle.pauli.proofs.TextWriters.{put_none, put_join, put_as, put_whole}
 use Rattle.clifford.specs.Display.{name_text, qubits_text, arrow_text, header_text, generator_text, label_text, line_text, display_row, lines_text, display_text, text_of_tableau, display_answer, starts_with}
 use Rattle.clifford.specs.Layout.{letter_place, letter_in, row_length, row_offset, encode_row, decode_row, tableau_record, row_of, row_part, joined, width_of, tableau_of, FormedTableau, row_qubit, row_letter}
 use Rattle.clifford.specs.Questions.{tableau_questions}
@@ -58,21 +59,15 @@ module _ (t : List ℕ) (r : ℕ) (narrow : width_of t ≤ 128) (p : ℕ) {l : L
       ∙ ap₂ (λ x ws. prefix_text x ++ body_text ws) (ap phase_of ep ∙ phase-back S.phase) (words_ext w (letter_at l) S.letters letter) ∙ text-within w S narrow (row_inside t r)
 
 -- ---- the header
-pub header_made : (n : ℕ) {a b c : ℕ} {d e f g : List ℕ} → Stored 0 name_text d e a → Stored a (decimal n) e f b
-    → Stored b qubits_text f g c → Stored 0 (header_text n) d g c
+pub header_put : (n : ℕ) {s t u v : TextWriter} → Put name_text s t → Put (decimal n) t u → Put qubits_text u v → Put (header_text n) s v
 unfolding header_text
-header_made n x y z = stored_join x (stored_join y z)
-
-pub ruleset headers = (header_made, stored_same, rules)
+header_put n x y z = put_join x (put_join y z)
 
 -- ---- a label
-pub label_made : (w r : ℕ) {k q a b c s : ℕ} {d e f g h : List ℕ} → q ≡ row_qubit w r → Stored k (32 ∷ 32 ∷ []) d e a
-    → Stored a (letter_text (row_letter w r) ∷ 95 ∷ []) e f b → Stored b (decimal q) f g c → Stored c arrow_text g h s → Stored k (label_text (row_letter w r) (row_qubit w r)) d h s
+pub label_put : (w r : ℕ) {q : ℕ} {s t u v x : TextWriter} → q ≡ row_qubit w r → Put (32 ∷ 32 ∷ []) s t
+    → Put (letter_text (row_letter w r) ∷ 95 ∷ []) t u → Put (decimal q) u v → Put arrow_text v x → Put (label_text (row_letter w r) (row_qubit w r)) s x
 unfolding label_text generator_text
-label_made w r eq x y z u =
-    stored_join x (stored_join (stored_as (ap (λ (q : ℕ). letter_text (row_letter w r) ∷ 95 ∷ decimal q) eq) (stored_join y z)) u)
-
-pub ruleset labels = (label_made, stored_same, rules)
+label_put w r e a b c d = put_join a (put_join (put_as (ap (λ (q : ℕ). letter_text (row_letter w r) ∷ 95 ∷ decimal q) e) (put_join b c)) d)
 
 -- ---- a line
 pub line_place : {b : List ℕ} {r n : ℕ} → OwnRow b r → n ≡ width_of b → RowIndex n r
@@ -80,14 +75,14 @@ line_place o e = record { narrow = omega (arith, o.tableau.narrow); own = omega 
 
 pub ruleset line_places = (line_place, rules)
 
-pub line_made : (t : List ℕ) (r : ℕ) {d e f g l : List ℕ} {k n a b s : ℕ} (p : ℕ) → OwnRow t r → n ≡ width_of t → p ≡ phase_byte (row_of (tableau_of t) r).phase
-    → l ≡ letter_bytes (tableau_of t) r → Stored k (label_text (row_letter n r) (row_qubit n r)) d e a → Stored a (row_text p l) e f b → Stored b (10 ∷ []) f g s
-    → Stored k (line_text (tableau_of t) r) d g s
+pub line_put : {t : List ℕ} {r n p : ℕ} {l : List ℕ} {s u v x : TextWriter} → OwnRow t r → n ≡ width_of t → p ≡ phase_byte (row_of (tableau_of t) r).phase
+    → l ≡ letter_bytes (tableau_of t) r → Put (label_text (row_letter n r) (row_qubit n r)) s u → Put (row_text p l) u v → Put (10 ∷ []) v x
+    → Put (line_text (tableau_of t) r) s x
 unfolding line_text
-line_made t r p o en ep el x y z =
-    stored_as
+line_put {t} {r} {n} {p} o en ep el a b c =
+    put_as
     (ap (λ (j : ℕ). label_text (row_letter j r) (row_qubit j r) ++ (sparse_text (row_of (tableau_of t) r) ++ (10 ∷ []))) (en ∙ sym (width_of_lem t)))
-    (stored_join x (stored_join (stored_as (row_is t r o.tableau.narrow p ep el) y) z))
+    (put_join a (put_join (put_as (row_is t r o.tableau.narrow p ep el) b) c))
 
 -- ---- the order of the lines
 pub order_even : (w i : ℕ) → i % 2 ≡ 0 → i / 2 ≡ display_row w i
@@ -177,19 +172,18 @@ display_short t h =
     let w = t.width in
     omega (arith, length-append (header_text w) (10 ∷ lines_text t (2 * w)), header_short w h, lines_short t h (2 * w) (omega arith))
 
--- ---- the loop that writes the lines of each qubit from place a on: those of q qubits so far, place k reached
-pub record Lines (t d : List ℕ) (a q k : ℕ) (e : List ℕ) : Type 0 where
-  pub text : Stored a (lines_text (tableau_of t) (2 * q)) d e k
+-- ---- the loop that writes the lines of each qubit: those of q qubits so far
+pub record Lines (t : List ℕ) (q : ℕ) (s u : TextWriter) : Type 0 where
+  pub text : Put (lines_text (tableau_of t) (2 * q)) s u
 
-pub lines_none : (t : List ℕ) {e f : List ℕ} {w : List ℕ} {h a : ℕ} → Stored h w e f a → Lines t f a 0 a f
+pub lines_none : (t : List ℕ) {s : TextWriter} → Lines t 0 s s
 unfolding lines_text joined
-lines_none t y = record { text = stored-none (record { fits = omega (arith, y.place) }) }
+lines_none t = record { text = put_none }
 
-module _ {t d e : List ℕ} {a q k : ℕ} (m : Lines t d a q k e) where
-  two_more : {f g : List ℕ} {s u : ℕ} → Stored k (line_text (tableau_of t) q) e f s → Stored s (line_text (tableau_of t) (width_of t + q)) f g u
-      → Lines t d a (q + 1) u g
+module _ {t : List ℕ} {q : ℕ} {s u : TextWriter} (m : Lines t q s u) where
+  two_more : {v x : TextWriter} → Put (line_text (tableau_of t) q) u v → Put (line_text (tableau_of t) (width_of t + q)) v x → Lines t (q + 1) s x
   unfolding lines_text
-  two_more x y = record { text = stored_as more (stored_join (stored_join m.text x) y) }
+  two_more a b = record { text = put_as more (put_join (put_join m.text a) b) }
     where
       T : Tableau
       T = tableau_of t
@@ -207,23 +201,20 @@ module _ {t d e : List ℕ} {a q k : ℕ} (m : Lines t d a q k e) where
 
   -- of the rows of a qubit p of b
   module _ {b x z : List ℕ} {p i j : ℕ} (eb : b ≡ t) (ep : p ≡ q) (ex : x ≡ b) (ei : i ≡ p) (ez : z ≡ b) (ej : j ≡ width_of b + p) where
-    pub lines_more : {f g : List ℕ} {s u : ℕ} → Stored k (line_text (tableau_of x) i) e f s → Stored s (line_text (tableau_of z) j) f g u → Lines t d a (q + 1) u g
-    lines_more v w =
-        two_more (stored_as (ap₂ (λ (l : List ℕ) (r : ℕ). line_text (tableau_of l) r) (ex ∙ eb) (ei ∙ ep)) v)
-        (stored_as (ap₂ (λ (l : List ℕ) (r : ℕ). line_text (tableau_of l) r) (ez ∙ eb) (ej ∙ ap₂ (λ (l : List ℕ) (r : ℕ). width_of l + r) eb ep)) w)
+    pub lines_more : {v w : TextWriter} → Put (line_text (tableau_of x) i) u v → Put (line_text (tableau_of z) j) v w → Lines t (q + 1) s w
+    lines_more a c =
+        two_more (put_as (ap₂ (λ (l : List ℕ) (r : ℕ). line_text (tableau_of l) r) (ex ∙ eb) (ei ∙ ep)) a)
+        (put_as (ap₂ (λ (l : List ℕ) (r : ℕ). line_text (tableau_of l) r) (ez ∙ eb) (ej ∙ ap₂ (λ (l : List ℕ) (r : ℕ). width_of l + r) eb ep)) c)
 
-pub lines_all : {t d e f g : List ℕ} {n h a q k : ℕ} → n ≡ width_of t → n ≤ 128 → q ≤ n → n ≤ q → Stored 0 (header_text n) d e h → Stored h (10 ∷ []) e f a
-    → Lines t f a q k g → TextWritten (text_of_tableau t) d g k
+pub lines_written : {t d e : List ℕ} {n q r : ℕ} {s u v w : TextWriter} → n ≡ width_of t → n ≤ 128 → q ≤ n → n ≤ q → s.at ≡ 0 → s.dst.now ≡ d
+    → Put (header_text n) s u → Put (10 ∷ []) u v → Lines t q v w → e ≡ w.dst.now → r ≡ w.at → TextWritten (text_of_tableau t) d e r
 unfolding text_of_tableau display_text
-lines_all {t} {n = n} {q = q} e narrow u l x y m =
+lines_written {t} {n = n} {q} e narrow l m f i a b c =
     let w = (tableau_of t).width in
     let en : n ≡ w = e ∙ sym (width_of_lem t) in
     let end : 2 * q ≡ 2 * w = omega arith in
-    whole-text
-    (omega (arith, display_short (tableau_of t) (omega arith)))
-    (stored_as (ap₂ (λ (j : ℕ) (v : ℕ). header_text j ++ (10 ∷ lines_text (tableau_of t) v)) en end) (stored_join x (stored_join y m.text)))
-
-pub ruleset line_loops = (lines_none, lines_more, lines_all, stored_same, rules)
+    put_whole (omega (arith, display_short (tableau_of t) (omega arith))) f i
+    (put_as (ap₂ (λ (j : ℕ) (k : ℕ). header_text j ++ (10 ∷ lines_text (tableau_of t) k)) en end) (put_join a (put_join b c.text)))
 
 -- ---- the questions, and what is written
 pub display_refused : (t : List ℕ) {x : Refusal} (room : ℕ) → Err x ≡ tableau_questions t → Err x ≡ display_answer t room

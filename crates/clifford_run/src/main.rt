@@ -2,7 +2,7 @@
 // written: what is handed to `write` is said by the contracts of the functions on slices.
 #![tactic(auto)]
 
-ghost use Rattle.std.specs.Prelude.{length, take};
+ghost use Rattle.clifford_run.specs.Program.{input_most};
 ghost use Rattle.clifford_run.specs.Inside.Program.{Buffers, InputRead, ReportRoom, ReportWritten, Owed};
 
 use gate_list::gate_list::report;
@@ -39,23 +39,12 @@ fn make_report(list: &[u8], text: &mut [u8]) -> usize
     report(list, text).unwrap_or(0)
 }
 
-// Whether the whole text was written.
-fn write_whole<W: Write>(to: &mut W, text: &[u8]) -> bool {
-    to.write_all(text).is_ok()
-}
-
-// Writes the text that is owed to the first n bytes of the input.
-fn write_report<W: Write, E: Write>(
-    output: &mut W,
-    errors: &mut E,
-    input: &[u8],
-    n: usize,
-    text: &[u8],
-)
-    requires { Owed (length input.now) (take n input.now) text.now }
+// Writes the text that is owed to what was read. Where that fails and the error cannot be written either, nobody can be told.
+fn write_report<W: Write, E: Write>(output: &mut W, errors: &mut E, read: &[u8], text: &[u8])
+    requires { Owed input_most read.now text.now }
 {
-    if !write_whole(output, text) {
-        write_whole(errors, b"clifford_run: standard output cannot be written\n");
+    if output.write_all(text).is_err() {
+        let _ = errors.write_all(b"clifford_run: standard output cannot be written\n");
     }
 }
 
@@ -70,11 +59,12 @@ fn answer_input<R: Read, W: Write, E: Write>(
     requires { Buffers input.old text.old }
 {
     let Ok(n) = read_input(from, input) else {
-        write_whole(errors, b"clifford_run: standard input cannot be read\n");
+        let _ = errors.write_all(b"clifford_run: standard input cannot be read\n");
         return;
     };
-    let length = make_report(&input[..n], text);
-    write_report(output, errors, input, n, &text[..length]);
+    let read = &input[..n];
+    let length = make_report(read, text);
+    write_report(output, errors, read, &text[..length]);
 }
 
 fn main(rt: HostRuntime) {

@@ -4,15 +4,15 @@ use mathlib.Core.List.{List, [], ◌∷◌, ◌++◌}
 use Prim.Native.Nat.{ℕ, ◌+◌, ◌^◌, ◌<◌, ◌≤◌}
 use native.Mathlib.Omega.{arith}
 use lib.ListN.{length, length-append}
-use borrow.Author.Rules.{rules}
 use Rattle.pauli.specs.declared.refusal.Refusal.{Refusal}
 use Rattle.pauli.specs.declared.refusal.Refusal.TheVariants.{Width, Length, BadByte, Gate, Qubit, SameQubit, Room, NotAscii, NotLetter, NoIndex, NotNumeral, Duplicate, TextQubit, ImageWidth, Slot, ListLength, ListRecord, StepGate, StepQubit, StepSameQubit, Link, Loop, FalseWeight}
 use Rattle.pauli.specs.Answers.{refusal_number, refusal_detail}
 use Rattle.pauli.specs.SparseText.{decimal}
-use Rattle.pauli.specs.TextWriting.{Stored}
+use Rattle.pauli.specs.declared.text_writer.TextWriter.{TextWriter}
+use Rattle.pauli.specs.TextWriters.{Put}
 use Rattle.pauli.specs.Inside.TextWriting.{TextWritten}
 use Rattle.pauli.proofs.Decimals.{decimal-most}
-use Rattle.pauli.proofs.TextWrites.{stored_join, stored_as, stored_same, whole-text}
+use Rattle.pauli.proofs.TextWriters.{put_join, put_as, put_whole}
 use Rattle.clifford.specs.Display.{newline}
 use Rattle.gate_list.specs.Reports.{refused_text, at_text, refusal_text}
 
@@ -55,15 +55,15 @@ refusal-length r =
     omega (arith, length-append n (at_text ++ (d ++ (newline ∷ []))), length-append d (newline ∷ []))
 
 -- ---- its parts, one after another
-pub refusal_made : (r : Refusal) {n m a b c s k : ℕ} {d e f g h i : List ℕ} → n ≡ refusal_number r → m ≡ refusal_detail r → m < 2 ^ 64
-    → Stored 0 refused_text d e a
-    → Stored a (decimal n) e f b → Stored b at_text f g c → Stored c (decimal m) g h s → Stored s (newline ∷ []) h i k → TextWritten (refusal_text r) d i k
+pub refusal_written : (x : Refusal) {n m r : ℕ} {s t u v w y : TextWriter} {d e : List ℕ} → n ≡ refusal_number x → m ≡ refusal_detail x → m < 2 ^ 64 → s.at ≡ 0
+    → s.dst.now ≡ d → Put refused_text s t → Put (decimal n) t u → Put at_text u v → Put (decimal m) v w → Put (newline ∷ []) w y → e ≡ y.dst.now → r ≡ y.at
+    → TextWritten (refusal_text x) d e r
 unfolding refusal_text
-refusal_made r {m = m} en em fits x y z u v =
-    whole-text
-    (omega (arith, refusal-length r, number_short r, ap (λ (j : ℕ). length (decimal j)) em, decimal-most 19 m (omega arith)))
-    (stored_as
-    (ap₂ (λ (j l : ℕ). refused_text ++ (decimal j ++ (at_text ++ (decimal l ++ (newline ∷ []))))) en em)
-    (stored_join x (stored_join y (stored_join z (stored_join u v)))))
-
-pub ruleset refusal_texts = (refusal_made, stored_same, rules)
+refusal_written x {m = m} en em fits f i a b c l k =
+    put_whole
+    (omega (arith, refusal-length x, number_short x, ap (λ (j : ℕ). length (decimal j)) em, decimal-most 19 m (omega arith)))
+    f
+    i
+    (put_as
+    (ap₂ (λ (j h : ℕ). refused_text ++ (decimal j ++ (at_text ++ (decimal h ++ (newline ∷ []))))) en em)
+    (put_join a (put_join b (put_join c (put_join l k)))))

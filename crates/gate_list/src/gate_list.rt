@@ -27,7 +27,7 @@ pub fn check_list(list: &[u8]) -> Result<(), Refusal>
 
 // The questions of a run: those of the list, and room for the record last.
 #[tactic(auto, using(pauli::proofs::Asking::by_questions, crate::proofs::RunAnswers::run_asks), unfolding(crate::specs::Runs::run_answer))]
-fn run_answer(list: &[u8], room: usize) -> Result<(), Refusal>
+fn check_run(list: &[u8], room: usize) -> Result<(), Refusal>
     ensures { result ≡ run_answer list.now room }
 {
     check_list(list)?;
@@ -38,7 +38,7 @@ fn run_answer(list: &[u8], room: usize) -> Result<(), Refusal>
 pub fn run(list: &[u8], dst: &mut [u8]) -> Result<usize, Refusal>
     ensures { ListRun list.now dst.old dst.new result }
 {
-    run_answer(list, dst.len())?;
+    check_run(list, dst.len())?;
     Ok(write_run(list, dst))
 }
 

@@ -7,7 +7,7 @@ ghost use Rattle.gate_list.specs.Inside.Reading.{step_different_question, two_qu
 use crate::reading::{LONGEST_LIST, RECORD_SIZE, Record, record_count, width};
 use pauli::refusal::Refusal;
 
-// Gates 0 to 23 are on one qubit, and those from there on below 38 on two. A byte of a list names a gate by its number.
+// Gates 0 to 23 are on one qubit, 24 to 37 on two. A byte of a list names a gate by its number.
 const ONE_QUBIT_GATES: u8 = 24;
 
 const GATES: u8 = 38;

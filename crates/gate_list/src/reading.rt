@@ -15,7 +15,7 @@ pub(crate) fn record_count(list: &[u8]) -> usize
     list.len() / RECORD_SIZE
 }
 
-// The width that the head names; bytes too few for it are read as width 0.
+// The width that the head names; bytes too few for it are read as width 0, as `list_width` has it.
 #[tactic(auto, unfolding(crate::specs::Lists::list_width, crate::specs::Lists::byte_of))]
 pub(crate) fn width(list: &[u8]) -> usize
     ensures { result ≡ list_width list.now }

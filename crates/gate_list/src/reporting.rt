@@ -14,23 +14,26 @@ use clifford::layout::LONGEST_RECORD;
 use clifford::questions::record_size;
 use pauli::questions::check_room;
 use pauli::refusal::Refusal;
-use pauli::text_writer::{put_decimal, put_text};
+use pauli::text_writer::TextWriter;
 
 // The text of a refusal; the answer is its length.
 fn write_refusal(why: Refusal, dst: &mut [u8]) -> usize
     ensures { TextWritten (refusal_text why) dst.old dst.new result }
 {
-    let word = put_text(dst, 0, b"refused ");
-    let at = put_decimal(dst, word, why.number());
-    let place = put_text(dst, at, b" at ");
-    let end = put_decimal(dst, place, why.detail());
-    put_text(dst, end, b"\n")
+    let mut writer = TextWriter::new(dst);
+    writer.put_text(b"refused ");
+    writer.put_decimal(why.number());
+    writer.put_text(b" at ");
+    writer.put_decimal(why.detail());
+    writer.put_text(b"\n");
+    writer.place()
 }
 
 // The text of a refusal, where there is room for it.
 pub(crate) fn report_refusal(why: Refusal, out: &mut [u8]) -> Result<usize, Refusal>
     ensures { TextReported (refusal_text why) out.old out.new result }
 {
+    // A refusal writes nothing, so the length is found first.
     check_room(write_refusal(why, &mut []), out.len())?;
     Ok(write_refusal(why, out))
 }

@@ -12,12 +12,12 @@ use clifford::questions::{check_gate, check_tableau};
 use pauli::refusal::Refusal;
 
 #[tactic(auto, using(pauli::proofs::Asking::by_questions), unfolding(crate::specs::PlayQuestions::play_questions))]
-fn check_play(t: &[u8], gate: usize, q: usize, r: usize) -> Result<(), Refusal>
-    ensures { result ≡ play_questions t.now gate q r }
+fn check_play(t: &[u8], gate: usize, q0: usize, q1: usize) -> Result<(), Refusal>
+    ensures { result ≡ play_questions t.now gate q0 q1 }
 {
     check_tableau(t)?;
     check_gate(38, gate)?;
-    check_qubits(width(t), gate, q, r)
+    check_qubits(width(t), gate, q0, q1)
 }
 
 // The gate's tableau on q0 and q1 composed on the left of the tableau t: t acts first. q1 is not looked at for gates 0 to 23.

@@ -23,6 +23,7 @@ pub mod StringTexts
 pub mod TextAnswers
 pub mod TextBytes
 pub mod TextRoundTrip
+pub mod TextWriters
 pub mod TextWrites
 pub mod Tokens
 pub mod Turns

@@ -1,5 +1,5 @@
 -- The text of a row: word by word, its length, and the loop that writes it.
-use Rattle.std.proofs.Common.{◌≡◌, ℕ, zero, suc, ◌+◌, ◌-◌, ◌<◌, ◌≤◌, min, Bool, true, false, cond, eqb, List, [], ◌∷◌, ◌++◌, length, get_or, take, sym, refl, ap, ◌∙◌, append_assoc, append-nil, add-one, arith, length-append, length-take, get_or-take, rules, eq-eqb, ne_eqb}
+use Rattle.std.proofs.Common.{◌≡◌, ℕ, zero, suc, ◌+◌, ◌-◌, ◌<◌, ◌≤◌, min, Bool, true, false, cond, ◌&&◌, eqb, List, [], ◌∷◌, ◌++◌, length, get_or, take, sym, refl, ap, ap₂, ◌∙◌, append_assoc, append-nil, add-one, arith, length-append, length-take, get_or-take, ne_eqb}
 use native.Mathlib.Decide.{ℕ_discrete}
 use borrow.Author.Tests.{eqb-false}
 use Rattle.pauli_group.specs.Phase.{Phase, PlusOne, MinusOne, PlusI, MinusI}
@@ -8,9 +8,10 @@ use Rattle.pauli_group.specs.PauliString.{PauliString, qubits}
 use Rattle.pauli.specs.Layout.{phase_of, letter_of}
 use Rattle.pauli.specs.Rows.{letter_at}
 use Rattle.pauli.specs.SparseText.{decimal, digits_to, prefix_text, letter_text, entry_word, words_at, entry_words, spaced, body_text, sparse_text_to, sparse_text, row_string, row_text}
-use Rattle.pauli.specs.TextWriting.{Stored}
+use Rattle.pauli.specs.declared.text_writer.TextWriter.{TextWriter}
+use Rattle.pauli.specs.TextWriters.{Put}
 use Rattle.pauli.specs.Inside.TextWriting.{TextWritten, added, more_text}
-use Rattle.pauli.proofs.TextWrites.{stored-none, stored_join, stored_as, stored_same, whole-text}
+use Rattle.pauli.proofs.TextWriters.{put_none, put_as, put_join, put_whole}
 
 -- ---- words, spaced; nothing where there are none
 abbrev pub words_text : List (List ℕ) → List ℕ
@@ -146,82 +147,79 @@ row_text-length : (p : ℕ) (a : List ℕ) → length (row_text p a) ≤ 531
 unfolding row_text qubits
 row_text-length p a = text_length_to (min (length a) 128) (row_string p a) (omega arith)
 
--- ---- the loop that writes a row's words from place `first` on: n qubits in all, q so far, place k reached
-pub record Wording (a d : List ℕ) (n first q k : ℕ) (e : List ℕ) : Type 0 where
+-- ---- the loop that writes a row's words after its prefix: n qubits in all, q so far
+no_words_more : (ws : List (List ℕ)) (l q : ℕ) → no_words (ws ++ words_at (letter_of l) q) ≡ (no_words ws && eqb l 0)
+unfolding words_at letter_of
+no_words_more (w ∷ ws) l q = refl
+no_words_more [] zero q = refl
+no_words_more [] (suc zero) q = refl
+no_words_more [] (suc (suc zero)) q = refl
+no_words_more [] (suc (suc (suc l))) q = sym (ne_eqb (suc (suc (suc l))) 0 (λ e. never e))
+  where
+    never : suc (suc (suc l)) ≡ 0 → ⊥
+    never e = omega arith
+
+pub record Wording (a : List ℕ) (p n q : ℕ) (first : Bool) (s t : TextWriter) : Type 0 where
   pub within : q ≤ n
   pub row : n ≤ length a
   pub most : n ≤ 128
-  pub start : first ≤ 2
-  pub text : Stored first (words_text (entry_words q (letter_at a))) d e k
+  pub none : first ≡ no_words (entry_words q (letter_at a))
+  pub text : Put (prefix_text (phase_of p) ++ words_text (entry_words q (letter_at a))) s t
 
--- the text is short, so the place is no cap
-place_is : {a d e : List ℕ} {n first q k : ℕ} → Wording a d n first q k e → k ≡ first + length (words_text (entry_words q (letter_at a)))
-place_is {a} {d} {e} {n} {first} {q} {k} m =
-    omega (arith, m.text.place, m.start, (words_to q (letter_at a)).short, span_most q (omega (arith, m.within, m.most)))
-
-none_is : {a d e : List ℕ} {n first q k : ℕ} → Wording a d n first q k e → eqb k first ≡ no_words (entry_words q (letter_at a))
-none_is {a} {d} {e} {n} {first} {q} {k} m = elim (ℕ_discrete (length (words_text (entry_words q (letter_at a)))) 0) [
-  | yes z ↦ eq-eqb k first (omega (arith, place_is m)) ∙ sym (eq-eqb _ 0 z) ∙ (words_to q (letter_at a)).none
-  | no z ↦ ne_eqb k first (λ e. z (omega (arith, place_is m))) ∙ sym (ne_eqb _ 0 z) ∙ (words_to q (letter_at a)).none
-]
-
-pub wording-none : {a d e : List ℕ} {n first : ℕ} (p : ℕ) → n ≡ min (length a) 128 → Stored 0 (prefix_text (phase_of p)) d e first → Wording a e n first 0 first e
+pub wording_none : {a : List ℕ} {n p : ℕ} {s t : TextWriter} → n ≡ min (length a) 128 → Put (prefix_text (phase_of p)) s t → Wording a p n 0 true s t
 unfolding entry_words
-wording-none p h s = record {
+wording_none h x = record {
   within = omega arith;
   row = omega arith;
   most = omega arith;
-  start = omega (arith, s.place, prefix-length (phase_of p));
-  text = stored-none (record { fits = omega (arith, s.place) });
+  none = refl;
+  text = put_as (sym (append-nil _)) x;
 }
 
-pub wording-step : {a d e f : List ℕ} {n first q k r : ℕ} → Wording a d n first q k e → q < length (take n a)
-    → Stored k (more_text (eqb k first) (letter_of (get_or (take n a) q 0)) q) e f r → Wording a d n first (q + 1) r f
+pub wording_step : {a : List ℕ} {p n q : ℕ} {first next : Bool} {s t u : TextWriter} → Wording a p n q first s t → q < length (take n a)
+    → Put (more_text first (letter_of (get_or (take n a) q 0)) q) t u → next ≡ (first && eqb (get_or (take n a) q 0) 0) → Wording a p n (q + 1) next s u
 unfolding entry_words letter_at
-wording-step {a} {d} {e} {f} {n} {first} {q} {k} {r} m h s = record {
+wording_step {a} {p} {n} {q} {first} {s = s} {t} {u} m h x e = record {
   within = omega (arith, h, length-take n a);
   row = m.row;
   most = m.most;
-  start = m.start;
-  text = stored_as more (stored_join m.text (stored_as here s));
+  none = e ∙ ap₂ (λ b c. b && eqb c 0) m.none at ∙ sym (no_words_more ws (get_or a q 0) q) ∙ ap (λ (j : ℕ). no_words (entry_words j (letter_at a))) (sym (add-one q));
+  text = put_as more (put_join m.text x);
 }
   where
-    here : more_text (eqb k first) (letter_of (get_or (take n a) q 0)) q ≡ more_text (eqb k first) (letter_of (get_or a q 0)) q
-    here = ap (λ (c : ℕ). more_text (eqb k first) (letter_of c) q) (get_or-take n a q 0 (omega (arith, h, length-take n a)))
+    ws : List (List ℕ)
+    ws = entry_words q (letter_at a)
 
-    more : words_text (entry_words q (letter_at a)) ++ more_text (eqb k first) (letter_of (get_or a q 0)) q ≡ words_text (entry_words (q + 1) (letter_at a))
-    more =
-        ap (λ b. words_text (entry_words q (letter_at a)) ++ more_text b (letter_of (get_or a q 0)) q) (none_is m)
-        ∙ sym (words_more (entry_words q (letter_at a)) (letter_of (get_or a q 0)) q) ∙ ap (λ (j : ℕ). words_text (entry_words j (letter_at a))) (sym (add-one q))
+    at : get_or (take n a) q 0 ≡ get_or a q 0
+    at = get_or-take n a q 0 (omega (arith, h, length-take n a))
 
-pub wording-same : {a d e f v : List ℕ} {n first q k : ℕ} → Stored 0 v d e first → Wording a e n first q k f → length f ≡ length d
-wording-same s m = stored_same m.text ∙ stored_same s
+    added-words : words_text ws ++ more_text first (letter_of (get_or (take n a) q 0)) q ≡ words_text (entry_words (q + 1) (letter_at a))
+    added-words =
+        ap₂ (λ b c. words_text ws ++ more_text b (letter_of c) q) m.none at
+        ∙ sym (words_more ws (letter_of (get_or a q 0)) q) ∙ ap (λ (j : ℕ). words_text (entry_words j (letter_at a))) (sym (add-one q))
 
-pub wording_end : {a d e f g v w : List ℕ} {n first q k r : ℕ} → Stored 0 v d e first → Wording a e n first q k f → Stored k w f g r → length g ≡ length d
-wording_end s m t = stored_same t ∙ wording-same s m
+    more : (prefix_text (phase_of p) ++ words_text ws) ++ more_text first (letter_of (get_or (take n a) q 0)) q
+        ≡ prefix_text (phase_of p) ++ words_text (entry_words (q + 1) (letter_at a))
+    more = append_assoc (prefix_text (phase_of p)) (words_text ws) _ ∙ ap (λ (x : List ℕ). prefix_text (phase_of p) ++ x) added-words
 
-wording_all : {a d e f g : List ℕ} {n first q k r : ℕ} (p : ℕ) → n ≡ min (length a) 128 → n ≤ q → Stored 0 (prefix_text (phase_of p)) d e first
-    → Wording a e n first q k f → Stored k (end_text (eqb k first)) f g r → TextWritten (row_text p a) d g r
-unfolding row_text row_string sparse_text_to qubits
-wording_all {a} {d} {e} {f} {g} {n} {first} {q} {k} {r} p h l s m t =
-    let all : q ≡ min (length a) 128 = omega (arith, m.within) in
-    let ws = entry_words q (letter_at a) in
-    let ends : words_text ws ++ end_text (eqb k first) ≡ body_text (entry_words (min (length a) 128) (letter_at a)) =
-    ap (λ b. words_text ws ++ end_text b) (none_is m) ∙ words_end ws ∙ ap (λ (j : ℕ). body_text (entry_words j (letter_at a))) all in
-    whole-text
-    (omega (arith, row_text-length p a))
-    (stored_as (ap (λ (x : List ℕ). prefix_text (phase_of p) ++ x) ends) (stored_join s (stored_join m.text t)))
+module _ {a : List ℕ} {p n q : ℕ} {first : Bool} {s t : TextWriter} (h : n ≡ min (length a) 128) (end : length (take n a) ≤ q) (m : Wording a p n q first s t) where
+  wording_all : {u : TextWriter} → Put (end_text first) t u → Put (row_text p a) s u
+  unfolding row_text row_string sparse_text_to qubits
+  wording_all x =
+      let all : q ≡ min (length a) 128 = omega (arith, end, m.within, m.row, h, length-take n a) in
+      let ws = entry_words q (letter_at a) in
+      let ends : words_text ws ++ end_text first ≡ body_text (entry_words (min (length a) 128) (letter_at a)) =
+      ap (λ b. words_text ws ++ end_text b) m.none ∙ words_end ws ∙ ap (λ (j : ℕ). body_text (entry_words j (letter_at a))) all in
+      put_as (append_assoc (prefix_text (phase_of p)) (words_text ws) _ ∙ ap (λ (x : List ℕ). prefix_text (phase_of p) ++ x) ends) (put_join m.text x)
 
-module _ {a d e f : List ℕ} {n first q k : ℕ} (p : ℕ) (h : n ≡ min (length a) 128) (end : length (take n a) ≤ q) (s : Stored 0 (prefix_text (phase_of p)) d e first)
-    (m : Wording a e n first q k f) where
-  l : n ≤ q
-  l = omega (arith, end, m.row, length-take n a)
-
-  pub wording_empty : {g : List ℕ} {r : ℕ} → k ≡ first → Stored k (73 ∷ []) f g r → TextWritten (row_text p a) d g r
+  pub wording_empty : {u : TextWriter} → first ≡ true → Put (73 ∷ []) t u → Put (row_text p a) s u
   unfolding letter_text
-  wording_empty z t = wording_all p h l s m (stored_as (sym (ap end_text (eq-eqb k first z))) t)
+  wording_empty z x = wording_all (put_as (sym (ap end_text z)) x)
 
-  pub wording-some : (k ≡ first → ⊥) → TextWritten (row_text p a) d f k
-  wording-some z = wording_all p h l s m (stored_as (sym (ap end_text (ne_eqb k first z))) (stored-none (record { fits = omega (arith, m.text.place) })))
+  pub wording_some : first ≡ false → Put (row_text p a) s t
+  wording_some z = wording_all (put_as (sym (ap end_text z)) put_none)
 
-pub ruleset wordings = (wording-none, wording-step, wording-same, wording_end, wording_empty, wording-some, rules)
+-- ---- the whole text over the front of a destination
+pub row_whole : (p : ℕ) (a : List ℕ) {s t : TextWriter} {d f : List ℕ} {r : ℕ} → s.at ≡ 0 → s.dst.now ≡ d → Put (row_text p a) s t → f ≡ t.dst.now
+    → r ≡ t.at → TextWritten (row_text p a) d f r
+row_whole p a = put_whole (omega (arith, row_text-length p a))

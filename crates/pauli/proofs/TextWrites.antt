@@ -1,15 +1,14 @@
 -- Text written from a place on, as far as the destination reaches.
-use Rattle.std.proofs.Common.{◌≡◌, ℕ, zero, suc, ◌+◌, ◌-◌, ◌/◌, ◌%◌, ◌^◌, ◌<◌, ◌≤◌, min, eqb, List, [], ◌∷◌, ◌++◌, length, take, drop, set, sym, refl, ap, ◌∙◌, ap₂, append-nil, le_of_suc-le-suc, not-suc-le-zero, arith, length-append, length-drop, length-set, drop_of_length-le, w64, Fits, rules, eq-eqb, ne_eqb}
+use Rattle.std.proofs.Common.{◌≡◌, ℕ, zero, suc, ◌+◌, ◌-◌, ◌^◌, ◌<◌, ◌≤◌, min, List, [], ◌∷◌, ◌++◌, length, take, drop, set, sym, refl, ap, ◌∙◌, append-nil, le_of_suc-le-suc, not-suc-le-zero, arith, length-append, length-drop, length-set, drop_of_length-le, w64, Fits}
 use native.Mathlib.Nat.{zero-min, min-zero, suc-min-suc}
 use native.Mathlib.Decide.{dec_lt}
 use lib.Seq.{set_out}
 use borrow.Rule.Slice.PartMut.{put_mid}
 use Rattle.pauli.specs.Layout.{letter_of}
 use Rattle.pauli.specs.Rows.{copied}
-use Rattle.pauli.specs.SparseText.{decimal, letter_text, entry_word, words_at}
+use Rattle.pauli.specs.SparseText.{entry_word, words_at}
 use Rattle.pauli.specs.TextWriting.{last_place, place_after, stored, Stored}
-use Rattle.pauli.specs.Inside.TextWriting.{TextWritten, added, more_text}
-use Rattle.pauli.proofs.Decimals.{decimal-one, decimal-more}
+use Rattle.pauli.specs.Inside.TextWriting.{TextWritten}
 use Rattle.pauli.proofs.Places.{from, from_is}
 
 -- ---- places: those from the last on are one
@@ -43,13 +42,9 @@ stored_as {d} {e} {v} {w} {k} {r} p a = record {
   place = a.place ∙ ap (λ (x : List ℕ). place_after k (length x)) p;
 }
 
-stored-length : (k : ℕ) (w d : List ℕ) → length (stored k w d) ≡ length d
-unfolding stored
-stored-length k [] d = refl
-stored-length k (c ∷ w) d = stored-length (suc k) w (set d (min k last_place) c) ∙ length-set d (min k last_place) c
-
-pub stored_same : {d e w : List ℕ} {k r : ℕ} → Stored k w d e r → length e ≡ length d
-stored_same {d} {e} {w} {k} a = ap length a.bytes ∙ stored-length k w d
+-- the places may be read as the last, where they are above it
+pub stored-capped : {d e w : List ℕ} {k r : ℕ} → Stored k w d e r → Stored (min k last_place) w d e (min r last_place)
+stored-capped {d} {e} {w} {k} a = record { bytes = a.bytes ∙ stored-from k (min k last_place) w d (omega arith); place = omega (arith, a.place) }
 
 -- ---- the same with every place its own, which it is in a destination of the machine, and for a text that ends before the last place
 unfoldable placed : ℕ → List ℕ → List ℕ → List ℕ
@@ -130,51 +125,14 @@ module _ (k : ℕ) {s : ℕ} (d : List ℕ) (l : length d < 2 ^ 64) (e : s ≡ m
       ap (λ (b : List ℕ). take s d ++ (ys ++ b)) rest ∙ ap (λ (y : List ℕ). take s d ++ y) (append-nil ys ∙ h ∙ ap (copied w) (from_is s d)) in
       record { bytes = made ∙ sym (placed_at s w d part_start) ∙ sym (placed_reached k s w d e) ∙ sym (placed_into k w d (omega arith)); place = p }
 
-  pub text_put : {w ys : List ℕ} {n r : ℕ} → TextWritten w (from s d) ys n → r ≡ place_after k n → Stored k w d (put_mid s (length d - s) d ys) r
-  text_put a p = part_put a.bytes (p ∙ ap (place_after k) a.count)
-
-pub ruleset part_puts = (part_put, text_put, rules)
-
--- ---- a numeral: one digit, or that of the tenth and a digit
-pub number-one : {d e : List ℕ} {k n c r : ℕ} → n < 10 → c ≡ 48 + n → Stored k (c ∷ []) d e r → Stored k (decimal n) d e r
-number-one {n = n} h p a = stored_as (ap (λ (x : ℕ). x ∷ []) p ∙ sym (decimal-one n h)) a
-
-pub number_more : {d e f : List ℕ} {k m n c r : ℕ} → 10 ≤ n → c ≡ 48 + n % 10 → Stored k (decimal (n / 10)) d e m
-    → Stored m (c ∷ []) e f r → Stored k (decimal n) d f r
-number_more {n = n} h p a b = stored_as (ap (λ (x : ℕ). decimal (n / 10) ++ (x ∷ [])) p ∙ sym (decimal-more n h)) (stored_join a b)
-
-pub ruleset numbers = (number-one, number_more, stored_same, rules)
-
--- ---- an entry, with the space before it
-pub entry-stored : {d e f : List ℕ} {k m c r : ℕ} (l q : ℕ) → c ≡ letter_text (letter_of l) → Stored k (c ∷ []) d e m → Stored m (decimal q) e f r
-    → Stored k (entry_word (letter_of l) q) d f r
-unfolding entry_word
-entry-stored l q h a b = stored_as (ap (λ (x : ℕ). x ∷ decimal q) h) (stored_join a b)
-
-words-none : (l q : ℕ) → l ≡ 0 → words_at (letter_of l) q ≡ []
+-- ---- the words of a letter
+pub words-none : (l q : ℕ) → l ≡ 0 → words_at (letter_of l) q ≡ []
 unfolding words_at letter_of
 words-none l q h = ap (λ (x : ℕ). words_at (letter_of x) q) h
 
-words-some : (l q : ℕ) → (l ≡ 0 → ⊥) → words_at (letter_of l) q ≡ entry_word (letter_of l) q ∷ []
+pub words-some : (l q : ℕ) → (l ≡ 0 → ⊥) → words_at (letter_of l) q ≡ entry_word (letter_of l) q ∷ []
 unfolding words_at letter_of
 words-some zero q h = absurd (h refl)
 words-some (suc zero) q h = refl
 words-some (suc (suc zero)) q h = refl
 words-some (suc (suc (suc l))) q h = refl
-
-module _ {d : List ℕ} {k l : ℕ} (first q : ℕ) where
-  pub place_none : Fits w64 k → l ≡ 0 → Stored k (more_text (eqb k first) (letter_of l) q) d d k
-  unfolding more_text added
-  place_none i h = stored_as (sym (ap (added (eqb k first)) (words-none l q h))) (stored-none i)
-
-  pub place-first : {e : List ℕ} {r : ℕ} → (l ≡ 0 → ⊥) → k ≡ first → Stored k (entry_word (letter_of l) q) d e r
-      → Stored k (more_text (eqb k first) (letter_of l) q) d e r
-  unfolding more_text added
-  place-first h p a = stored_as (sym (ap₂ added (eq-eqb k first p) (words-some l q h))) a
-
-  pub place-next : {e f : List ℕ} {m r : ℕ} → (l ≡ 0 → ⊥) → (k ≡ first → ⊥) → Stored k (32 ∷ []) d e m → Stored m (entry_word (letter_of l) q) e f r
-      → Stored k (more_text (eqb k first) (letter_of l) q) d f r
-  unfolding more_text added
-  place-next h p a b = stored_as (sym (ap₂ added (ne_eqb k first p) (words-some l q h))) (stored_join a b)
-
-pub ruleset text_parts = (entry-stored, place_none, place-first, place-next, stored_same, rules)

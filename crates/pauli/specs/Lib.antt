@@ -8,6 +8,7 @@ pub mod Strings
 pub mod Text
 pub mod QuotedText
 pub mod SparseText
+pub mod TextWriters
 pub mod TextWriting
 pub mod Promises
 pub mod Inside

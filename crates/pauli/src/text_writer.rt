@@ -1,41 +1,63 @@
-// Text, written into a destination from a place on, as far as the destination reaches. The answer is the place after it, also where
-// the destination ends before: the same code counts and writes, and asks nothing of a caller. The largest place stands for all beyond.
-// No struct of destination and place: the public functions take the two, and each write is one line, `at = f(dst, at, ..)`.
+// Text, written into a destination from a place on, as far as the destination reaches. The place after it is told also where the
+// destination ends before: the same code counts and writes, and asks nothing of a caller. The largest place stands for all beyond.
 ghost use Rattle.std.specs.Prelude.{◌≡◌, [], ◌∷◌};
 ghost use Rattle.pauli.specs.SparseText.{decimal};
-ghost use Rattle.pauli.specs.TextWriting.{Stored};
+ghost use Rattle.pauli.specs.TextWriters.{Put};
 
 use crate::rows::copy;
 
-// One byte.
-#[tactic(auto, using(crate::proofs::TextWrites::put_in, crate::proofs::TextWrites::put_out))]
-pub(crate) fn put(dst: &mut [u8], at: usize, c: u8) -> usize
-    ensures { Stored at (c ∷ []) dst.old dst.new result }
-{
-    if at < dst.len() {
-        dst[at] = c;
-    }
-    at.saturating_add(1)
+// A destination, and the place where the next text goes.
+#[derive(Drop)]
+pub struct TextWriter<'a> {
+    dst: &'a mut [u8],
+    at: usize,
 }
 
-// A text, through the part of the destination that starts at the place: an empty part where it does not reach.
-#[tactic(auto, using(crate::proofs::TextWrites::part_puts))]
-pub fn put_text(dst: &mut [u8], at: usize, text: &[u8]) -> usize
-    ensures { Stored at text.now dst.old dst.new result }
-{
-    let start = at.min(dst.len());
-    copy(text, &mut dst[start..]);
-    at.saturating_add(text.len())
-}
-
-// The decimal numeral of a number: that of its tenth, and its last digit. By hand: `write!` into a slice fails where the slice ends, and
-// here the place after it is answered all the same. A u64 has no From into u8; `as` is proved to keep the value.
-pub fn put_decimal(dst: &mut [u8], at: usize, n: u64) -> usize
-    ensures { Stored at (decimal n) dst.old dst.new result }
-{
-    if n < 10 {
-        return put(dst, at, b'0' + n as u8);
+impl<'a> TextWriter<'a> {
+    // At the front of the destination.
+    pub fn new(dst: &'a mut [u8]) -> TextWriter<'a>
+        ensures same_reference { result.dst.ghost_name ≡ dst.entry.ghost_name }
+        ensures same_bytes { result.dst.now ≡ dst.old }
+        ensures front { result.at ≡ 0 }
+    {
+        TextWriter { dst, at: 0 }
     }
-    let next = put_decimal(dst, at, n / 10);
-    put(dst, next, b'0' + (n % 10) as u8)
+
+    // From the front on, the length of what was written.
+    pub fn place(&self) -> usize
+        ensures { result ≡ self.now.at }
+    {
+        self.at
+    }
+
+    // One byte.
+    pub(crate) fn put(&mut self, c: u8)
+        ensures { Put (c ∷ []) self.old self.new }
+    {
+        if self.at < self.dst.len() {
+            self.dst[self.at] = c;
+        }
+        self.at = self.at.saturating_add(1);
+    }
+
+    // A text, through the part of the destination that starts at the place: an empty part where it does not reach.
+    #[tactic(auto, using(crate::proofs::TextWriters::part_puts))]
+    pub fn put_text(&mut self, text: &[u8])
+        ensures { Put text.now self.old self.new }
+    {
+        let start = self.at.min(self.dst.len());
+        copy(text, &mut self.dst[start..]);
+        self.at = self.at.saturating_add(text.len());
+    }
+
+    // The decimal numeral of a number: that of its tenth, and its last digit. By hand: `write!` into a slice fails where the
+    // slice ends, and here the place after it is told all the same. A u64 has no From into u8; `as` is proved to keep the value.
+    pub fn put_decimal(&mut self, n: u64)
+        ensures { Put (decimal n) self.old self.new }
+    {
+        if n >= 10 {
+            self.put_decimal(n / 10);
+        }
+        self.put(b'0' + (n % 10) as u8);
+    }
 }

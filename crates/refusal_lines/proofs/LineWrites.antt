@@ -1,18 +1,17 @@
 -- The line of a refusal, written part by part.
 use mathlib.Core.Path.{◌≡◌, refl, sym, ap, ◌∙◌}
-use mathlib.Core.Bool.{Bool, true, false, cond, not}
+use mathlib.Core.Bool.{Bool, true, false, cond}
 use mathlib.Core.List.{List, [], ◌∷◌, ◌++◌}
 use Prim.Native.Nat.{ℕ, ◌^◌, ◌<◌}
 use native.Mathlib.Omega.{arith}
-use mir.Syntax.{w64}
-use mir.Val.{Fits}
 use borrow.Author.Rules.{rules}
-use borrow.Author.Tests.{not-true, not-false, ne_eqb}
+use borrow.Author.Tests.{ne_eqb}
 use Rattle.pauli.specs.QuotedText.{bytes_of}
 use Rattle.pauli.specs.SparseText.{decimal}
-use Rattle.pauli.specs.TextWriting.{Stored}
+use Rattle.pauli.specs.declared.text_writer.TextWriter.{TextWriter}
+use Rattle.pauli.specs.TextWriters.{Put}
 use Rattle.pauli.specs.Inside.TextWriting.{TextWritten}
-use Rattle.pauli.proofs.TextWrites.{stored-none, stored_join, stored_as, stored_same, whole-text}
+use Rattle.pauli.proofs.TextWriters.{put_none, put_join, put_as, put_whole}
 use Rattle.refusal_wording.specs.RefusalLines.{Sentence, sentences, sentence_among, sentence, has_detail, detail_text, is_width_error, width_error_text, wording, refusal_line}
 use Rattle.refusal_wording.proofs.LineParts.{worded, detailed}
 use Rattle.refusal_wording.proofs.LineText.{line-most}
@@ -38,38 +37,28 @@ sentence_unknown n h = none_of sentences n h
 pub ruleset sentence_arms = (sentence_arm, sentence_unknown, rules)
 
 -- ---- the detail
-module _ {d : List ℕ} {k : ℕ} {b : Bool} (n m : ℕ) (e : b ≡ has_detail n) where
-  pub detail-none : Fits w64 k → not b ≡ true → Stored k (detail_text n m) d d k
-  detail-none i h = stored_as (sym (detailed n m (sym e ∙ not-true b h))) (stored-none i)
+module _ {s : TextWriter} {b : Bool} (n m : ℕ) (e : b ≡ has_detail n) where
+  pub detail_none : b ≡ false → Put (detail_text n m) s s
+  detail_none h = put_as (sym (detailed n m (sym e ∙ h))) put_none
 
-  pub detail-some : {f g : List ℕ} {j r : ℕ} → not b ≡ false → Stored k (bytes_of " ") d f j → Stored j (decimal m) f g r → Stored k (detail_text n m) d g r
-  detail-some h x y = stored_as (sym (detailed n m (sym e ∙ not-false b h))) (stored_join x y)
-
-pub ruleset details = (detail-none, detail-some, stored_same, rules)
+  pub detail_some : {t u : TextWriter} → b ≡ true → Put (bytes_of " ") s t → Put (decimal m) t u → Put (detail_text n m) s u
+  detail_some h x y = put_as (sym (detailed n m (sym e ∙ h))) (put_join x y)
 
 -- ---- the wording of 14 and 15, and of the others
-pub error_made : {a b c d e f : List ℕ} {k l p q s r : ℕ} (m w : ℕ) → Stored k (bytes_of "qubit ") a b l → Stored l (decimal m) b c p
-    → Stored p (bytes_of " is outside num_qubits ") c d q → Stored q (decimal w) d e s
-    → Stored s (bytes_of "; pass a width greater than the maximum qubit index (max qubit + 1)") e f r → Stored k (width_error_text m w) a f r
+pub error_put : {s t u v w x : TextWriter} (m n : ℕ) → Put (bytes_of "qubit ") s t → Put (decimal m) t u → Put (bytes_of " is outside num_qubits ") u v
+    → Put (decimal n) v w → Put (bytes_of "; pass a width greater than the maximum qubit index (max qubit + 1)") w x → Put (width_error_text m n) s x
 unfolding width_error_text
-error_made m w x y z u v = stored_join x (stored_join y (stored_join z (stored_join u v)))
+error_put m n a b c d e = put_join a (put_join b (put_join c (put_join d e)))
 
-pub ruleset errors = (error_made, stored_same, rules)
+module _ {b : Bool} {s : TextWriter} (n m w : ℕ) (e : b ≡ is_width_error n) where
+  pub wording_error : {t : TextWriter} → b ≡ true → Put (width_error_text m w) s t → Put (wording n m w) s t
+  wording_error h a = put_as (sym (worded n m w (sym e ∙ h))) a
 
-module _ {b : Bool} {d : List ℕ} {k : ℕ} (n m w : ℕ) (e : b ≡ is_width_error n) where
-  pub wording_error : {f : List ℕ} {r : ℕ} → b ≡ true → Stored k (width_error_text m w) d f r → Stored k (wording n m w) d f r
-  wording_error h a = stored_as (sym (worded n m w (sym e ∙ h))) a
-
-  pub wording-sentence : {f g s : List ℕ} {j r : ℕ} → b ≡ false → s ≡ sentence n → Stored k s d f j → Stored j (detail_text n m) f g r
-      → Stored k (wording n m w) d g r
-  wording-sentence h es x y = stored_as (ap (λ (t : List ℕ). t ++ detail_text n m) es ∙ sym (worded n m w (sym e ∙ h))) (stored_join x y)
-
-pub ruleset wordings = (wording_error, wording-sentence, stored_same, rules)
+  pub wording_sentence : {t u : TextWriter} {x : List ℕ} → b ≡ false → x ≡ sentence n → Put x s t → Put (detail_text n m) t u → Put (wording n m w) s u
+  wording_sentence h i x y = put_as (ap (λ (l : List ℕ). l ++ detail_text n m) i ∙ sym (worded n m w (sym e ∙ h))) (put_join x y)
 
 -- ---- the whole line
-pub line_made : {d e f g : List ℕ} {k j r : ℕ} {n m w : ℕ} → n < 2 ^ 64 → m < 2 ^ 64 → w < 2 ^ 64 → Stored 0 (decimal n) d e k → Stored k (bytes_of ": ") e f j
-    → Stored j (wording n m w) f g r → TextWritten (refusal_line n m w) d g r
+pub line_written : {s t u v : TextWriter} {d e : List ℕ} {n m w r : ℕ} → n < 2 ^ 64 → m < 2 ^ 64 → w < 2 ^ 64 → s.at ≡ 0 → s.dst.now ≡ d
+    → Put (decimal n) s t → Put (bytes_of ": ") t u → Put (wording n m w) u v → e ≡ v.dst.now → r ≡ v.at → TextWritten (refusal_line n m w) d e r
 unfolding refusal_line
-line_made hn hm hw x y z = whole-text (omega (arith, line-most hn hm hw)) (stored_join x (stored_join y z))
-
-pub ruleset lines = (line_made, stored_same, rules)
+line_written hn hm hw f i x y z = put_whole (omega (arith, line-most hn hm hw)) f i (put_join x (put_join y z))

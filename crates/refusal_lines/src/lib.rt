@@ -3,16 +3,16 @@
 #![tactic(auto)]
 
 ghost use Rattle.std.specs.Prelude.{◌≡◌};
-ghost use Rattle.pauli.specs.TextWriting.{Stored};
+ghost use Rattle.pauli.specs.TextWriters.{Put};
 ghost use Rattle.pauli.specs.Inside.TextWriting.{TextWritten};
 ghost use Rattle.refusal_wording.specs.RefusalLines.{sentence, has_detail, detail_text, is_width_error, width_error_text, wording, refusal_line};
 ghost use Rattle.refusal_lines.specs.Promises.{LineWritten};
 
 use pauli::questions::check_room;
 use pauli::refusal::Refusal;
-use pauli::text_writer::{put_decimal, put_text};
+use pauli::text_writer::TextWriter;
 
-// The sentence of a number; one that has none is unknown.
+// The sentence of a number; one that has none is unknown. No `Refusal`: C hands in numbers, and any three have a line.
 #[tactic(auto, using(crate::proofs::LineWrites::sentence_arms), unfolding(refusal_wording::specs::RefusalLines::sentence, refusal_wording::specs::RefusalLines::sentences, refusal_wording::specs::RefusalLines::sentence_among))]
 fn sentence(number: u64) -> &'static [u8]
     ensures { result.now ≡ sentence number }
@@ -65,49 +65,46 @@ struct Line {
 
 impl Line {
     // A space and the detail, where it has a meaning.
-    fn put_detail(self, dst: &mut [u8], at: usize) -> usize
-        ensures { Stored at (detail_text self.number self.detail) dst.old dst.new result }
+    fn put_detail(self, writer: &mut TextWriter<'_>)
+        ensures { Put (detail_text self.number self.detail) writer.old writer.new }
     {
-        if !has_detail(self.number) {
-            return at;
+        if has_detail(self.number) {
+            writer.put_text(b" ");
+            writer.put_decimal(self.detail);
         }
-        let next = put_text(dst, at, b" ");
-        put_decimal(dst, next, self.detail)
     }
 
     // The wording of 14 and 15.
-    fn put_width_error(self, dst: &mut [u8], at: usize) -> usize
-        ensures { Stored at (width_error_text self.detail self.width) dst.old dst.new result }
+    fn put_width_error(self, writer: &mut TextWriter<'_>)
+        ensures { Put (width_error_text self.detail self.width) writer.old writer.new }
     {
-        let qubit = put_text(dst, at, b"qubit ");
-        let outside = put_decimal(dst, qubit, self.detail);
-        let num_qubits = put_text(dst, outside, b" is outside num_qubits ");
-        let advice = put_decimal(dst, num_qubits, self.width);
-        put_text(
-            dst,
-            advice,
-            b"; pass a width greater than the maximum qubit index (max qubit + 1)",
-        )
+        writer.put_text(b"qubit ");
+        writer.put_decimal(self.detail);
+        writer.put_text(b" is outside num_qubits ");
+        writer.put_decimal(self.width);
+        writer.put_text(b"; pass a width greater than the maximum qubit index (max qubit + 1)");
     }
 
     // What follows the number.
-    fn put_wording(self, dst: &mut [u8], at: usize) -> usize
-        ensures { Stored at (wording self.number self.detail self.width) dst.old dst.new result }
+    fn put_wording(self, writer: &mut TextWriter<'_>)
+        ensures { Put (wording self.number self.detail self.width) writer.old writer.new }
     {
         if is_width_error(self.number) {
-            return self.put_width_error(dst, at);
+            return self.put_width_error(writer);
         }
-        let end = put_text(dst, at, sentence(self.number));
-        self.put_detail(dst, end)
+        writer.put_text(sentence(self.number));
+        self.put_detail(writer);
     }
 
     // The whole line; the answer is its length.
     fn write(self, dst: &mut [u8]) -> usize
         ensures { TextWritten (refusal_line self.number self.detail self.width) dst.old dst.new result }
     {
-        let colon = put_decimal(dst, 0, self.number);
-        let words = put_text(dst, colon, b": ");
-        self.put_wording(dst, words)
+        let mut writer = TextWriter::new(dst);
+        writer.put_decimal(self.number);
+        writer.put_text(b": ");
+        self.put_wording(&mut writer);
+        writer.place()
     }
 }
 
@@ -121,6 +118,7 @@ pub fn refusal_line(number: u64, detail: u64, width: u64, dst: &mut [u8]) -> Res
         detail,
         width,
     };
+    // A refusal writes nothing, so the length is found first.
     check_room(line.write(&mut []), dst.len())?;
     Ok(line.write(dst))
 }

@@ -3,11 +3,11 @@ use Rattle.pauli.proofs.Answers.{number-exit}
 use Rattle.gate_list.proofs.RunAnswers.{run_done, run_answers}
 use Rattle.gate_list.proofs.gate_list.run.Goals as goal
 
-pub returns-in_err-run_answer : goal.returns-in_err-run_answer
-returns-in_err-run_answer c = number-exit _ _ _ c.in_err-run_answer.ensures c.from_residual.ensures.1
+pub returns-in_err-check_run : goal.returns-in_err-check_run
+returns-in_err-check_run c = number-exit _ _ _ c.in_err-check_run.ensures c.from_residual.ensures.1
 
 pub write_run-requires : goal.write_run-requires
-write_run-requires c = search (run_answers, c.in_ok-run_answer.was)
+write_run-requires c = search (run_answers, c.in_ok-check_run.was)
 
 pub returns : goal.returns
-returns c = run_done c.in_ok-run_answer.ensures c.write_run.ensures
+returns c = run_done c.in_ok-check_run.ensures c.write_run.ensures

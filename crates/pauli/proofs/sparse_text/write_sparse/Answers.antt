@@ -1,15 +1,7 @@
--- `sparse_text::write_sparse` meets its contract, by the laws of `Wording`.
-use Rattle.pauli.proofs.SparseTexts.{wordings}
+-- `sparse_text::write_sparse` meets its contract.
+use Rattle.std.proofs.Common.{rules}
+use Rattle.pauli.proofs.SparseTexts.{row_whole}
 use Rattle.pauli.proofs.sparse_text.write_sparse.Goals as goal
 
-pub loop-q-init : goal.loop-q-init
-loop-q-init c = search wordings
-
-pub loop-q-preserved : goal.loop-q-preserved
-loop-q-preserved c = search wordings
-
-pub returns-then-at-first : goal.returns-then-at-first
-returns-then-at-first c = search wordings
-
 pub returns : goal.returns
-returns c = search wordings
+returns c = row_whole c.args.phase c.args.letters.now c.new-writer.ensures.front c.new-writer.ensures.same_bytes c.put_sparse.ensures (search rules) c.place.ensures

@@ -1,13 +1,14 @@
-use Rattle.clifford.proofs.Display.{lines_more, line_loops}
+use Rattle.std.proofs.Common.{rules}
+use Rattle.clifford.proofs.Display.{lines_none, lines_more, lines_written}
 use Rattle.clifford.proofs.tableau.TableauRecord.write_display.Goals as goal
 
 pub loop-q-init : goal.loop-q-init
-loop-q-init c = search line_loops
+loop-q-init c = lines_none _
 
 pub loop-q-preserved : goal.loop-q-preserved
 loop-q-preserved c =
     lines_more c.loop-q.invariant c.qubit-qubit.ensures.bytes c.qubit-qubit.ensures.place c.x_row.ensures.bytes c.x_row.ensures.place
-    c.z_row.ensures.bytes c.z_row.ensures.place c.write_line-at.ensures c.write_line-at-in-loop-q.ensures
+    c.z_row.ensures.bytes c.z_row.ensures.place c.put_line.ensures c.put_line-in-loop-q.ensures
 
 pub returns : goal.returns
-returns c = search line_loops
+returns c = lines_written c.width-n.ensures.is c.width-n.ensures.narrow c.loop-q.auto.q-end c.loop-q-test.false c.new-writer.ensures.front c.new-writer.ensures.same_bytes c.put_header.ensures c.put_text.ensures c.loop-q.invariant (search rules) c.place.ensures
