@@ -174,7 +174,7 @@ unfolding written
 wrote_all s d {c} h m = m ∙ ap₂ (λ (l : List ℕ) (j : ℕ). l ++ drop j d) (take_all c s (omega arith)) h
 
 -- ---- the answer
-module _ {t : List ℕ} (h : Ok tt ≡ tableau_questions t) {c : ℕ} (k : c ≡ length (support_qubits (tableau_of t))) where
+module _ (t : List ℕ) (h : Ok tt ≡ tableau_questions t) {c : ℕ} (k : c ≡ length (support_qubits (tableau_of t))) where
   support_room : (room : ℕ) {q : Outcome} → q ≡ room_question c room → q ≡ support_answer t room
   unfolding support_answer
   support_room room e = first_done h (e ∙ ap (λ (j : ℕ). room_question j room) k)
