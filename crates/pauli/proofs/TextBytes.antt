@@ -1,5 +1,5 @@
 -- Bytes of text: what the tests on them find.
-use Rattle.std.proofs.Common.{◌≡◌, ℕ, zero, suc, ◌+◌, ◌<◌, ◌≤◌, Bool, true, false, cond, ◌&&◌, ◌||◌, leb, ◌⊎◌, List, length, get_or, get_or-drop, drop, sym, refl, ap, ◌∙◌, ap₂, inl, inr, arith, length-drop, ne_eqb, eqb-true, le-leb, Some, None, Ok, Err}
+use Rattle.std.proofs.Common.{◌≡◌, ℕ, zero, suc, ◌+◌, ◌<◌, ◌≤◌, Bool, true, false, cond, ◌&&◌, ◌||◌, leb, ◌⊎◌, List, length, get_or, get_or-drop, add-one, drop, sym, refl, ap, ◌∙◌, ap₂, inl, inr, arith, length-drop, ne_eqb, eqb-true, le-leb, Some, None, Ok, Err}
 use Rattle.std.specs.List.{position}
 use Rattle.std.specs.Option.{unwrap_or, is_none}
 use native.Mathlib.Decide.{dec_lt}
@@ -169,6 +169,30 @@ head_at t k e =
 pub spaces_within : (t : List ℕ) → leading_spaces t ≤ length t
 unfolding leading_spaces
 spaces_within t = first_le (length t) _
+
+phase-none : (b : ℕ) → PlusOne ≡ prefix_phase 0 b
+unfolding prefix_phase is_small_i
+phase-none b = refl
+
+pub head-none : (t : List ℕ) {k : ℕ} → k ≡ leading_spaces t → length t ≤ k → HeadRead t (record { phase = 0; at = k })
+unfolding phase_byte
+head-none t {k} e h =
+    let first : 0 ≡ get_or t k 0 = past_end t k h in
+    let second : ℕ = get_or t (suc k) 0 in
+    let phase : PlusOne ≡ text_phase t = phase-none second ∙ ap (λ (x : ℕ). prefix_phase x second) first ∙ (head_at t k e).0 in
+    let none : 0 ≡ prefix_length (get_or t k 0) second = nothing second ∙ ap (λ (x : ℕ). prefix_length x second) first in
+    record { phase = ap phase_byte phase; place = omega (arith, none, (head_at t k e).1); within = omega (arith, spaces_within t) }
+
+pub head-some : (t : List ℕ) {k b : ℕ} {p : Prefix} → k ≡ leading_spaces t → k < length t → b ≡ get_or t (k + 1) 0 → PrefixRead (get_or t k 0) b p
+    → HeadRead t (record { phase = p.phase; at = k + p.length })
+head-some t {k} {b} {p} e h eb r =
+    let second : b ≡ get_or t (suc k) 0 = eb ∙ ap (λ (j : ℕ). get_or t j 0) (add-one k) in
+    let long : p.length ≡ prefix_length (get_or t k 0) (get_or t (suc k) 0) = r.length ∙ ap (prefix_length (get_or t k 0)) second in
+    record {
+      phase = r.phase ∙ ap (λ (x : ℕ). phase_byte (prefix_phase (get_or t k 0) x)) second ∙ ap phase_byte (head_at t k e).0;
+      place = omega (arith, long, (head_at t k e).1);
+      within = omega (arith, long, prefix-within t k (omega arith));
+    }
 
 pub head_read : (t : List ℕ) {k : ℕ} {p : Prefix} → k ≡ leading_spaces t → PrefixRead (get_or (from k t) 0 0) (get_or (from k t) 1 0) p
     → HeadRead t (record { phase = p.phase; at = k + p.length })
