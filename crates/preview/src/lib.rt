@@ -45,7 +45,7 @@ fn check_preview(a: &[u8], b: &[u8], qubit: usize, room: usize) -> Result<(), Re
     check_room(STRING_LENGTH, room)
 }
 
-// The image of X or Z on this qubit under a composed with b: b acts first. After the questions `apply` refuses neither.
+// The image of X or Z on this qubit under a composed with b: b acts first. `apply` puts the questions again, and refuses nothing then.
 pub fn composed_image<G: Generator>(
     a: &[u8],
     b: &[u8],

@@ -1,4 +1,4 @@
--- `check_preview` meets its contract: the questions in their order.
+-- `check_preview` meets its contract: the questions in their order. `by_questions` leaves the first exit open.
 use Rattle.pauli.proofs.Asking.{exit_not, first_not}
 use Rattle.preview.specs.Previews.{preview_questions, preview_answer}
 use Rattle.preview.proofs.check_preview.Goals as goal

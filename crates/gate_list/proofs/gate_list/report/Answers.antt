@@ -1,4 +1,4 @@
--- `gate_list::report` meets its contract.
+-- `gate_list::report` meets its contract. An attribute with `reports` leaves both goals open.
 use Rattle.gate_list.proofs.RunReports.{reports}
 use Rattle.gate_list.proofs.gate_list.report.Goals as goal
 

@@ -1,4 +1,4 @@
--- `reporting::report_run` meets its contract.
+-- `reporting::report_run` meets its contract. An attribute with `shows` leaves the goals open.
 use Rattle.gate_list.proofs.RunReports.{shows}
 use Rattle.gate_list.proofs.reporting.report_run.Goals as goal
 
