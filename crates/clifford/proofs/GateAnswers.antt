@@ -13,6 +13,7 @@ use Rattle.pauli.proofs.Asking.{first_not, first_done, qubit-below}
 use Rattle.clifford_group.specs.Tableau.{Same, widen}
 use Rattle.clifford_group.proofs.Same.{same_sym, same_trans}
 use Rattle.clifford.specs.Inside.Made.{TableauWritten, GateInside}
+use Rattle.clifford.specs.Inside.GateRows.{GateOn}
 use Rattle.clifford.specs.GateQuestions.{gate_question, on_qubit_questions, on_qubit_answer, compose_gate_questions}
 use Rattle.pauli.proofs.Answers.{answered-done, answered-exit}
 use Rattle.clifford.specs.GateAnswers.{GateAnswered, one_qubit_record, single_qubit_clifford_record}
@@ -37,21 +38,30 @@ module _ (g q : ℕ) (hg : Ok tt ≡ gate_question 24 g) where
     next : q + 1 ≡ suc q
     next = omega arith
 
-    inside : (n : ℕ) → n < 24 → GateInside n q q (q + 1)
-    inside n small = record {
-      on = record { gate = omega arith; first = one_below; second = λ h. one_below; different = λ h. absurd (no h) };
-      wide = omega (arith, width_one n q q small);
-      narrow = omega (arith, one_below);
-    }
+    on : (n : ℕ) → n < 24 → GateOn n q q
+    on n small = record { gate = omega arith; first = one_below; second = λ h. one_below; different = λ h. absurd (no h) }
       where
         no : 24 ≤ n → ⊥
         no h = omega arith
 
+    inside : (n : ℕ) → n < 24 → GateInside n q q (q + 1)
+    inside n small = record { wide = omega (arith, width_one n q q small); narrow = omega (arith, one_below) }
+
+    pub one-on : GateOn g q q
+    one-on = on g one-small
+
     pub one-inside : GateInside g q q (q + 1)
     one-inside = inside g one-small
 
-    pub product-inside : {n : ℕ} → n ≡ get_or product_gates g 0 → GateInside n q q (q + 1)
-    product-inside {n} e = inside n (omega (arith, e, product_small g one-small))
+    module _ {n : ℕ} (e : n ≡ get_or product_gates g 0) where
+      number_small : n < 24
+      number_small = omega (arith, e, product_small g one-small)
+
+      pub product-on : GateOn n q q
+      product-on = on n number_small
+
+      pub product-inside : GateInside n q q (q + 1)
+      product-inside = inside n number_small
 
     -- at its own width
     copy : (n : ℕ) → n < 24 → Same (widen (q + 1) (gate_tableau n q q)) (on_qubit (one_qubit_gate n) q)
@@ -80,7 +90,7 @@ pub one_gate-refused : (g q : ℕ) {y : Outcome} {x : Refusal} (out d : List ℕ
 unfolding on_qubit_answer on_qubit_questions
 one_gate-refused g q out d h e = refused-answer _ out d (first_not _ h) e
 
-pub ruleset one_qubit_answers = (one-small, one-fits, one-inside, product-inside, one_written, product_written, one_qubit-refused, one_gate-refused, rules)
+pub ruleset one_qubit_answers = (one-small, one-fits, one-on, one-inside, product-on, product-inside, one_written, product_written, one_qubit-refused, one_gate-refused, rules)
 
 -- ---- names
 pub ruleset name_answers = (checked, answered-done, answered-exit, rules)

@@ -96,6 +96,9 @@ module _ (g q r : ℕ) where
   unfolding on_qubits_answer on_qubits_questions
   gate-refused d h e = refused-answer _ _ d (first_not _ h) e
 
+  pub gate-inside : {w : ℕ} → GateSpan g q r w → GateInside g q r w
+  gate-inside s = record { wide = omega (arith, s.is); narrow = s.small }
+
   module _ (hg : Ok tt ≡ gate_question 38 g) where
     pub gate_qubits-refused : {y : Outcome} {x : Refusal} (d : List ℕ) → Err x ≡ qubits_questions 128 g q r → IsErrAnd y (λ e. e ≡ x) → GateWritten g q r d d y
     unfolding on_qubits_answer on_qubits_questions qubits
@@ -104,9 +107,6 @@ module _ (g q r : ℕ) where
     module _ (hq : Ok tt ≡ qubits_questions 128 g q r) where
       pub gate-on : GateOn g q r
       gate-on = placed_on 128 g q r (omega arith) (sym (first_done hg hq))
-
-      pub gate-inside : {w : ℕ} → GateSpan g q r w → GateInside g q r w
-      gate-inside s = record { on = gate-on; wide = omega (arith, s.is); narrow = s.small }
 
       pub gate_written : {w : ℕ} {y : Outcome} (d e : List ℕ) → GateSpan g q r w → TableauWritten w (widen w (gate_tableau g q r)) d e y → GateWritten g q r d e y
       unfolding on_qubits_answer on_qubits_questions gate_record qubits
@@ -134,11 +134,14 @@ module _ (n g q r : ℕ) where
         put : (gate_question 38 g and_then qubits_questions n g q r) ≡ Ok tt
         put = sym (first_done hg hq)
 
+        pub width-on : GateOn g q r
+        width-on = placed_on n g q r (width_done hn) put
+
         pub width-inside : GateInside g q r n
-        width-inside = record { on = placed_on n g q r (width_done hn) put; wide = placed_inside n g q r (width_done hn) put; narrow = width_done hn }
+        width-inside = record { wide = placed_inside n g q r (width_done hn) put; narrow = width_done hn }
 
         pub width_written : {y : Outcome} (d e : List ℕ) → TableauWritten n (widen n (gate_tableau g q r)) d e y → WidthGateWritten n g q r d e y
         unfolding on_width_answer on_width_questions width_gate_record
         width_written d e o = made-answer (first_done hn (first_done hg hq)) refl (same_refl (widen n (gate_tableau g q r))) o
 
-pub ruleset width_answers = (width-refused, width_gate-refused, width_qubits-refused, width-inside, width_written, rules)
+pub ruleset width_answers = (width-refused, width_gate-refused, width_qubits-refused, width-on, width-inside, width_written, rules)

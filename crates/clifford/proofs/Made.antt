@@ -23,7 +23,7 @@ use Rattle.clifford.specs.GateQuestions.{gate_width}
 use Rattle.clifford.specs.Inside.Rows.{Sized, RowIndex, Finished, AppliesString, AppliesLetter, row_written, letters_in, string_in}
 use Rattle.clifford.specs.Inside.Writing.{conjugated}
 use Rattle.clifford.specs.Inside.InverseRows.{RowBack}
-use Rattle.clifford.specs.Inside.GateRows.{row_image_string, RowImageOf, PutsImage}
+use Rattle.clifford.specs.Inside.GateRows.{row_image_string, RowImageOf, GateOn, PutsImage}
 use Rattle.clifford.specs.Inside.Made.{Made, MakesRow, WritesRow, WritesAll, Widens, Spans, GateInside}
 use Rattle.clifford.proofs.Rows.{width_of_lem, rows-within, some_bytes}
 use Rattle.clifford.proofs.Records.{proper_of}
@@ -71,12 +71,12 @@ pauli-made {s} o = record {
   proper = proper_pauli (string_of s) (omega (arith, o.wide.is, o.wide.small));
 }
 
-pub gate-made : {g p v w : ℕ} → GateInside g p v w → Made w (widen w (gate_tableau g p v))
+pub gate_made : {g p v w : ℕ} → GateOn g p v → GateInside g p v w → Made w (widen w (gate_tableau g p v))
 unfolding qubits
-gate-made {g} {p} {v} {w} o = record {
+gate_made {g} {p} {v} {w} on o = record {
   wide = gate_inside_width o;
   narrow = o.narrow;
-  proper = proper-widen w o.narrow (gate_tableau g p v) (gate-proper o.on);
+  proper = proper-widen w o.narrow (gate_tableau g p v) (gate-proper on);
 }
 
 -- ---- a row made as a work row

@@ -1,20 +1,20 @@
 -- The support of a tableau, read off the rows of its record.
-use Rattle.std.proofs.Common.{◌≡◌, ℕ, zero, suc, ◌+◌, ◌-◌, ◌<◌, ◌≤◌, Bool, true, false, cond, not, ◌&&◌, ◌||◌, eqb, List, [], ◌∷◌, ◌++◌, length, get_or, take, drop, set, sym, refl, ap, ◌∙◌, subst, ap₂, append-nil, not-suc-le-zero, add-one, arith, length-append, length-drop, length-set, length-take, take_all, drop-drop, rules, eq-eqb, ne_eqb, Ok, Err, Option, Some, None}
+use Rattle.std.proofs.Common.{◌≡◌, ℕ, zero, suc, ◌+◌, ◌-◌, ◌<◌, ◌≤◌, Bool, true, false, cond, not, ◌&&◌, ◌||◌, eqb, List, [], ◌∷◌, ◌++◌, length, get_or, take, drop, set, sym, refl, ap, ◌∙◌, subst, ap₂, append-nil, not-suc-le-zero, add-one, arith, length-append, length-drop, length-set, length-take, take_all, drop-drop, rules, eq-eqb, ne_eqb, Ok, Err, IsErrAnd, Option, Some, None}
 use native.Mathlib.Decide.{dec_lt}
 use Rattle.pauli_group.specs.Letter.{Letter, I, X, Z, Y, not_i}
 use Rattle.pauli_group.specs.PauliString.{PauliString, has_letter, single}
 use Rattle.clifford_group.specs.Tableau.{all_to}
 use Rattle.pauli.specs.declared.refusal.Refusal.{Refusal}
-use Rattle.pauli.specs.Answers.{written, CountWritten, Outcome}
+use Rattle.pauli.specs.Answers.{written, CountWritten, Answer, Outcome}
 use Rattle.pauli.specs.Questions.{room_question}
-use Rattle.pauli.proofs.Asking.{exit_not, first_not, first_done, done_first, done_second, room-is}
+use Rattle.pauli.proofs.Asking.{first_not, first_done, room-is}
 use Rattle.pauli.proofs.Answers.{number-done, number-exit}
 use Rattle.clifford.specs.Questions.{tableau_questions, support_answer}
 use Rattle.clifford.specs.Tableaux.{support_bytes}
 use Rattle.clifford.proofs.Asking.{tableau-formed, checked}
 use Rattle.pauli.specs.Layout.{phase_byte, phase_of, letter_byte}
 use Rattle.pauli.proofs.Records.{phase-back}
-use Rattle.clifford.specs.Layout.{row_of, width_of, tableau_of, FormedTableau}
+use Rattle.clifford.specs.Layout.{row_of, width_of, tableau_of}
 use Rattle.clifford.specs.Inside.Rows.{letter_bytes}
 use Rattle.clifford.specs.Support.{is_plus_one, alike_at, is_single, changed_qubit, supports_qubit, some_to, places_with, in_support, support_qubits}
 use Rattle.clifford.proofs.Rows.{row_inside, width_of_lem}
@@ -174,26 +174,26 @@ unfolding written
 wrote_all s d {c} h m = m ∙ ap₂ (λ (l : List ℕ) (j : ℕ). l ++ drop j d) (take_all c s (omega arith)) h
 
 -- ---- the answer
-pub support_room : (t : List ℕ) (room : ℕ) {q : Outcome} {c : ℕ} → Ok tt ≡ tableau_questions t → c ≡ length (support_qubits (tableau_of t))
-    → q ≡ room_question c room → q ≡ support_answer t room
+module _ (t : List ℕ) (h : Ok tt ≡ tableau_questions t) {c : ℕ} (k : c ≡ length (support_qubits (tableau_of t))) where
+  support_room : (room : ℕ) {q : Outcome} → q ≡ room_question c room → q ≡ support_answer t room
+  unfolding support_answer
+  support_room room e = first_done h (e ∙ ap (λ (j : ℕ). room_question j room) k)
+
+  pub support_no_room : {r : Answer ℕ} {x : Refusal} (d : List ℕ) → Err x ≡ room_question c (length d) → IsErrAnd r (λ e. e ≡ x)
+      → CountWritten (support_answer t (length d)) (support_bytes t) d d r
+  support_no_room d e w = number-exit _ _ d (support_room (length d) e) w
+
+  pub support_done : {d e : List ℕ} → Ok tt ≡ room_question c (length d) → e ≡ written (Ok tt) (support_qubits (tableau_of t)) d
+      → CountWritten (support_answer t (length d)) (support_bytes t) d e (Ok c)
+  unfolding support_bytes
+  support_done {d} e w = number-done (support_room (length d) e) k w
+
+pub support_refused : (t : List ℕ) {r : Answer ℕ} {x : Refusal} (d : List ℕ) → Err x ≡ tableau_questions t → IsErrAnd r (λ e. e ≡ x)
+    → CountWritten (support_answer t (length d)) (support_bytes t) d d r
 unfolding support_answer
-support_room t room h k e = first_done h (e ∙ ap (λ (j : ℕ). room_question j room) k)
+support_refused t d h e = number-exit _ _ d (first_not _ h) e
 
-pub support_refused : (t : List ℕ) (room : ℕ) {x : Refusal} → Err x ≡ tableau_questions t → Err x ≡ support_answer t room
-unfolding support_answer
-support_refused t room h = first_not _ h
+pub support_fits : {n c : ℕ} (room : ℕ) → c ≡ n → Ok tt ≡ room_question c room → n ≤ room
+support_fits {c = c} room k e = omega (arith, k, room-is c room (sym e))
 
-pub support_fits : (t : List ℕ) (d : List ℕ) → Ok tt ≡ support_answer t (length d) → length (support_qubits (tableau_of t)) ≤ length d
-unfolding support_answer
-support_fits t d h = room-is (length (support_qubits (tableau_of t))) (length d) (done_second (tableau_questions t) _ (sym h))
-
-pub support_formed : {t : List ℕ} (room : ℕ) → Ok tt ≡ support_answer t room → FormedTableau t
-unfolding support_answer
-support_formed {t} room h = tableau-formed t (done_first _ _ (sym h))
-
-pub support_done : (t : List ℕ) {d e : List ℕ} {q : Outcome} {c : ℕ} → Ok tt ≡ q → e ≡ written (Ok tt) (support_qubits (tableau_of t)) d
-    → c ≡ length (support_qubits (tableau_of t)) → CountWritten q (support_bytes t) d e (Ok c)
-unfolding support_bytes
-support_done t h w k = number-done h k w
-
-pub ruleset support_answers = (checked, exit_not, support_room, support_refused, support_fits, support_formed, support_done, number-exit, rules)
+pub ruleset support_answers = (checked, support_refused, support_no_room, support_fits, support_done, rules)

@@ -48,6 +48,7 @@ pub fn check_qubits(width: usize, gate: usize, q: usize, r: usize) -> Result<(),
 // ---- tableaux of gates
 
 // The record of a gate on its qubits, at this width.
+#[tactic(auto, using(crate::proofs::Made::gate_made))]
 fn write_gate(gate: PlacedGate, width: usize, dst: &mut [u8]) -> Result<(), Refusal>
     requires { GateInside gate.number gate.first gate.second width }
     ensures { TableauWritten width (widen width (gate_tableau gate.number gate.first gate.second)) dst.old dst.new result }

@@ -6,7 +6,7 @@ ghost use Rattle.clifford_group.specs.Conjugation.{Generator, generator, of_x, o
 ghost use Rattle.pauli.specs.Layout.{letter_byte};
 ghost use Rattle.clifford.specs.Layout.{generator_row};
 ghost use Rattle.clifford.specs.Display.{name_text, display_answer, starts_with};
-ghost use Rattle.clifford.specs.Questions.{image_questions, set_questions, support_answer};
+ghost use Rattle.clifford.specs.Questions.{image_questions, set_questions};
 ghost use Rattle.clifford.specs.Tableaux.{image_part};
 ghost use Rattle.clifford.specs.Inside.Rows.{SlotIndex};
 ghost use Rattle.clifford.specs.Promises.{ImageAt, ImageSet, IdentityWritten, Applied, Composed, Extended, Inverted, ValidityTold, FromPauliString, SupportWritten, Displayed};
@@ -225,23 +225,18 @@ pub fn from_pauli_string(s: &[u8], dst: &mut [u8]) -> Result<(), Refusal>
 
 // ---- support_qubits
 
-#[tactic(auto, using(pauli::proofs::Asking::by_questions), unfolding(crate::specs::Questions::support_answer))]
-fn check_support(t: &[u8], room: usize) -> Result<(), Refusal>
-    ensures { result ≡ support_answer t.now room }
-{
-    check_tableau(t)?;
-    check_room(TableauRecord { bytes: t }.support_count(), room)
-}
-
 // The qubits of the support, rising, and their number.
 #[tactic(auto, using(crate::proofs::SupportQubits::support_answers))]
 pub fn support_qubits(t: &[u8], dst: &mut [u8]) -> Result<usize, Refusal>
     ensures { SupportWritten t.now dst.old dst.new result }
 {
-    check_support(t, dst.len())?;
+    check_tableau(t)?;
     let tableau = TableauRecord { bytes: t };
+    // They are counted before any is written, since a refusal writes nothing.
+    let count = tableau.support_count();
+    check_room(count, dst.len())?;
     tableau.write_support(dst);
-    Ok(tableau.support_count())
+    Ok(count)
 }
 
 // ---- display

@@ -35,6 +35,7 @@ impl InverseRow<'_> {
     }
 
     // The letter at qubit c of its body: its x bit is read in Z row c, its z bit in X row c.
+    #[tactic(auto, using(crate::proofs::Inverse::body_letters))]
     fn body_letter(&self, c: usize) -> u8
         requires { c < self.now.row.width }
         ensures { result ≡ letter_byte ((body_of (tableau_of self.now.t.bytes.now) self.now.row.r).letters c) }

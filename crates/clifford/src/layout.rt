@@ -199,8 +199,8 @@ pub fn letter_at(t: &[u8], r: usize, q: usize) -> u8
     read_at(t, row_offset(n, r) + 2 + q)
 }
 
-// The row at the front of b, changed on qubit q as the table says. No generic function with change_pair: a letter by itself leaves the
-// weight as it is, so one body for both would ask which of the two it is.
+// The row at the front of b, changed on qubit q as the table says. Not one generic function with change_pair: a gate on one qubit leaves
+// the weight as it is, so one body for both would have to ask which of the two it is.
 #[tactic(auto, using(crate::proofs::RowAccess::row_changes))]
 pub(crate) fn change_letter(b: &mut [u8], q: usize, table: &[[u8; 4]; 2])
     requires { q + 2 < length b.old }

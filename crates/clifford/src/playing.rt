@@ -26,8 +26,8 @@ fn is_playable(gate: usize, q: usize, r: usize, t: &[u8]) -> bool
     gate < 38 && q < n && second_fits(gate, q, r, n) && n <= QUBITS && t.len() == record_length(n)
 }
 
-// A one-qubit gate on each row, by its table. This loop and the next are no generic function: a trait of row changes would state what
-// a change may count on and that it reaches no other row, and with its two implementations be longer than both loops.
+// A one-qubit gate on each row, by its table. This loop and the next stay two: one loop over a trait of row changes would need the
+// trait with its contract, two types and two implementations, which is longer than the two loops.
 #[tactic(auto, using(crate::proofs::Play::plays))]
 fn play_letters(tables: &[[[u8; 4]; 2]; 24], gate: OneQubitGate, q: usize, t: &mut [u8])
     requires { PlaysLetters q t.old }

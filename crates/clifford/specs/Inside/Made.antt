@@ -7,7 +7,6 @@ use Rattle.pauli.specs.Layout.{WellFormed}
 use Rattle.clifford.specs.Layout.{row_length, record_length, width_of, tableau_record}
 use Rattle.clifford.specs.GateQuestions.{gate_width}
 use Rattle.clifford.specs.Inside.Writing.{Span}
-use Rattle.clifford.specs.Inside.GateRows.{GateOn}
 
 -- t has the width w, at most 128, and rows of w letters
 pub record Made (w : ℕ) (t : Tableau) : Type 0 where
@@ -46,6 +45,5 @@ pub record Spans (s : List ℕ) (w : ℕ) : Type 0 where
   pub wide : Span s w
 
 pub record GateInside (g q r w : ℕ) : Type 0 where
-  pub on : GateOn g q r
   pub wide : gate_width g q r ≤ w
   pub narrow : w ≤ 128

@@ -2,8 +2,14 @@
 use Rattle.clifford.proofs.SupportQubits.{support_answers}
 use Rattle.clifford.proofs.clifford_rep.support_qubits.Goals as goal
 
-pub returns-in_err-check_support : goal.returns-in_err-check_support
-returns-in_err-check_support c = search (support_answers, c.in_err-check_support.ensures)
+pub returns-in_err-check_tableau : goal.returns-in_err-check_tableau
+returns-in_err-check_tableau c = search (support_answers, c.in_err-check_tableau.ensures)
+
+pub returns-in_err-check_room : goal.returns-in_err-check_room
+returns-in_err-check_room c = search (support_answers, c.in_ok-check_tableau.ensures, c.in_err-check_room.ensures)
+
+pub write_support-requires : goal.write_support-requires
+write_support-requires c = search (support_answers, c.in_ok-check_room.ensures)
 
 pub returns : goal.returns
-returns c = search (support_answers, c.in_ok-check_support.ensures)
+returns c = search (support_answers, c.in_ok-check_tableau.ensures, c.in_ok-check_room.ensures)
