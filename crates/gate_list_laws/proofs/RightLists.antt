@@ -1,5 +1,5 @@
 -- The questions of a record and of a list's head let by exactly the right ones.
-use Rattle.std.specs.Prelude.{Ok, true}
+use Rattle.std.specs.Prelude.{Ok}
 use mathlib.Core.Path.{◌≡◌, refl, sym}
 use mathlib.Core.List.{List}
 use Prim.Native.Nat.{ℕ}
