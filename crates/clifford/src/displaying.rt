@@ -40,7 +40,7 @@ fn write_label(dst: &mut [u8], at: usize, row: RowPlace) -> usize
 {
     let name = put_text(dst, at, b"  ");
     let number = write_letter(dst, name, row);
-    // A qubit, as the width in write_header.
+    // No From leads from usize to u64, as in write_header.
     let arrow = put_decimal(dst, number, row.qubit() as u64);
     put_text(dst, arrow, b" -> ")
 }
