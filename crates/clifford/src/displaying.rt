@@ -39,7 +39,7 @@ fn put_label(writer: &mut TextWriter<'_>, row: RowPlace)
 {
     writer.put_text(b"  ");
     put_letter(writer, row);
-    // A qubit, as the width in put_header.
+    // No From, as of the width.
     writer.put_decimal(row.qubit() as u64);
     writer.put_text(b" -> ");
 }
