@@ -36,7 +36,6 @@ use Rattle.clifford.proofs.RowWriting.{qubit-below}
 use Rattle.clifford.proofs.Rows.{row-x, row-z, row_inside, width_of_lem}
 use Rattle.clifford.proofs.SupportQubits.{letters-long, letter-byte}
 use Rattle.pauli.proofs.Records.{phase-back, letter-back}
-use Rattle.std.specs.Cmp.Lexicographic.{pointwise}
 use Rattle.clifford.proofs.Asking.{tableau-formed, checked}
 
 -- ---- the sparse text of a row
@@ -241,18 +240,6 @@ module _ (t d : List ℕ) (h : Ok tt ≡ display_answer t (length d)) where
 pub ruleset displays = (checked, exit_not, display_refused, display_asked, display_formed, display_done, text_same, number-exit, rules)
 
 -- ---- whether a text starts with another
-eqb-sym : (x y : ℕ) → eqb x y ≡ eqb y x
-eqb-sym x y = elim (ℕ_discrete x y) [
-  | yes d ↦ eq-eqb x y d ∙ sym (eq-eqb y x (sym d))
-  | no d ↦ ne_eqb x y d ∙ sym (ne_eqb y x (λ e. d (sym e)))
-]
-
-pub starts-is : (p s : List ℕ) → pointwise eqb p (take (length p) s) ≡ starts_with p s
-unfolding starts_with
-starts-is [] s = refl
-starts-is (x ∷ p) [] = refl
-starts-is (x ∷ p) (y ∷ s) = ap₂ (λ a b. a && b) (eqb-sym x y) (starts-is p s)
-
 -- every display text starts with its name
 starts_append : (p s : List ℕ) → starts_with p (p ++ s) ≡ true
 unfolding starts_with

@@ -33,7 +33,6 @@ record_sized w h = let e : 1 + 2 * w * (w + 2) ≡ record_length w = unfolded in
     unfolded : 1 + 2 * w * (w + 2) ≡ record_length w
     unfolded = unfold record_length row_length letter_place in omega arith
 
--- it is counted without overflow
 -- ---- where rows are
 row_end : (w r : ℕ) → RowIndex w r → 1 + r * (w + 2) + (w + 2) ≤ longest_record
 unfolding row_offset record_length row_length letter_place

@@ -4,16 +4,16 @@ ghost use Rattle.std.specs.Prelude.{◌≡◌, suc, ◌<◌};
 ghost use Rattle.clifford_group.specs.Tableau.{widen};
 ghost use Rattle.clifford_gates.specs.GateTableaux.{on_qubit};
 ghost use Rattle.clifford_gates.specs.GateNumbers.{one_qubit_gate, gate_tableau, compose_gate};
-ghost use Rattle.clifford.specs.Layout.{FormedTableau};
 ghost use Rattle.clifford.specs.GateQuestions.{own_qubit_question, qubits_questions};
 ghost use Rattle.clifford.specs.GateAnswers.{named, record_name};
 ghost use Rattle.clifford.specs.Inside.Made.{GateInside, TableauWritten};
 ghost use Rattle.clifford.specs.Promises.{GateWritten, WidthGateWritten, OneQubitGateWritten, SingleQubitCliffordWritten, GateNamed, GatesComposed, GateInverted};
 
 use crate::gates::{first_gate, inverse_number, product_number};
-use crate::layout::{letter_at, phase_at, width};
+use crate::layout::{letter_at, phase_at};
 use crate::numbering::{OneQubitGate, PlacedGate};
 use crate::questions::{check_different, check_gate, check_tableau, check_width};
+use crate::tableau::TableauRecord;
 use crate::writing::{OfGate, write_made};
 use pauli::QUBITS;
 use pauli::questions::check_qubit;
@@ -88,7 +88,8 @@ pub fn on_qubits(gate: u8, q0: usize, q1: usize, dst: &mut [u8]) -> Result<(), R
     write_gate(placed, placed.width(), dst)
 }
 
-// A gate on its qubits, at the width n; the second is not looked at for gates 0 to 23.
+// A gate on its qubits, at the width n; the second is not looked at for gates 0 to 23. Not one function with `on_qubits`: the questions
+// that the two share would need a definition of their own.
 #[tactic(auto, using(pauli::proofs::Asking::by_questions, crate::proofs::GateAsking::width_answers), unfolding(crate::specs::GateQuestions::on_width_answer, crate::specs::GateQuestions::on_width_questions))]
 pub fn on_width(n: usize, gate: u8, q0: usize, q1: usize, dst: &mut [u8]) -> Result<(), Refusal>
     ensures { WidthGateWritten n gate q0 q1 dst.old dst.new result }
@@ -130,18 +131,17 @@ pub fn single_qubit_clifford(index: usize, qubit: usize, dst: &mut [u8]) -> Resu
 
 // The number of the gate that a tableau is.
 #[tactic(auto, using(crate::proofs::GateNaming::record_names))]
-fn name_of(t: &[u8]) -> Option<u8>
-    requires { FormedTableau t.now }
-    ensures { result ≡ named (record_name t.now) }
+fn name_of(t: &TableauRecord) -> Option<u8>
+    ensures { result ≡ named (record_name t.now.bytes.now) }
 {
-    if width(t) != 1 {
+    if t.width() != 1 {
         return None;
     }
     first_gate([
-        phase_at(t, 0),
-        letter_at(t, 0, 0),
-        phase_at(t, 1),
-        letter_at(t, 1, 0),
+        phase_at(t.bytes, 0),
+        letter_at(t.bytes, 0, 0),
+        phase_at(t.bytes, 1),
+        letter_at(t.bytes, 1, 0),
     ])
 }
 
@@ -151,7 +151,7 @@ pub fn from_clifford_rep(t: &[u8]) -> Result<Option<u8>, Refusal>
     ensures { GateNamed t.now result }
 {
     check_tableau(t)?;
-    Ok(name_of(t))
+    Ok(name_of(&TableauRecord { bytes: t }))
 }
 
 // ---- products and inverses by number

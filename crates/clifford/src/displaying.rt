@@ -26,7 +26,7 @@ fn put_header(writer: &mut TextWriter<'_>, width: usize)
 fn put_letter(writer: &mut TextWriter<'_>, row: RowPlace)
     ensures { Put (letter_text (row_letter row.width row.r) ∷ 95 ∷ []) writer.old writer.new }
 {
-    if row.r < row.width {
+    if row.is_x() {
         writer.put_text(b"X_")
     } else {
         writer.put_text(b"Z_")

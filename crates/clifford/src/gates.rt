@@ -47,7 +47,8 @@ const IMAGES_1Q: [[u8; 4]; 24] = [
     [1, 3, 0, 1], // 23: F4dg
 ];
 
-// Gates 24 to 37: the sign and the two letters of the images of X on the first and on the second qubit, then of Z.
+// Gates 24 to 37: the sign and the two letters of the images of X on the first and on the second qubit, then of Z, in one entry, as in
+// the table before.
 const IMAGES_2Q: [[u8; 12]; 14] = [
     [0, 1, 1, 0, 0, 1, 0, 2, 0, 0, 2, 2], // 24: CX
     [0, 1, 3, 0, 2, 1, 0, 2, 0, 0, 2, 2], // 25: CY

@@ -27,7 +27,7 @@ impl InverseRow<'_> {
         ensures { result ≡ bit_byte (bit_read (tableau_of self.now.t.bytes.now) self.now.row.r s) }
     {
         let letter = letter_in_row(&self.t, s, self.row.qubit());
-        if self.row.r < self.row.width {
+        if self.row.is_x() {
             letter / 2
         } else {
             letter % 2

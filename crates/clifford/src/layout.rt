@@ -1,5 +1,5 @@
 // Tableau records: where their rows are, and how one row is read and written. Only here does code know the bytes of a row.
-ghost use Rattle.std.specs.Prelude.{◌≡◌, ◌+◌, ◌*◌, ◌<◌, ◌≤◌, min, length, slice_index};
+ghost use Rattle.std.specs.Prelude.{◌≡◌, ◌↔◌, ◌+◌, ◌*◌, ◌<◌, ◌≤◌, IsTrue, min, length, slice_index};
 ghost use Rattle.pauli.specs.Layout.{phase_byte, letter_byte};
 ghost use Rattle.clifford.specs.Playing.{letter_table_on_row, pair_table_on_row};
 ghost use Rattle.clifford.specs.Layout.{width_of, record_length, row_offset, row_of, row_part, read_row, tableau_of, row_qubit, row_letter};
@@ -133,14 +133,20 @@ pub(crate) struct RowPlace {
     ghost own: { RowIndex width r },
 }
 
-// The qubit and the letter that it has the image of.
+// Whether it has the image of X, and of which qubit; the letter is a byte, as letters are in all rows.
 impl RowPlace {
+    pub(crate) fn is_x(self) -> bool
+        ensures { IsTrue result ↔ (self.r < self.width) }
+    {
+        self.r < self.width
+    }
+
     #[tactic(auto, using(pauli::proofs::Asking::by_tests, pauli::proofs::Asking::by_questions), unfolding(crate::specs::Layout::row_qubit))]
     pub(crate) fn qubit(self) -> usize
         ensures is { result ≡ row_qubit self.width self.r }
         ensures below { result < self.width }
     {
-        if self.r < self.width {
+        if self.is_x() {
             self.r
         } else {
             self.r - self.width
@@ -153,8 +159,7 @@ impl RowPlace {
         ensures some { 0 < result }
         ensures small { result < 3 }
     {
-        // A byte and no type of its own: which of the two it is, the number of the row tells.
-        if self.r < self.width { 1 } else { 2 }
+        if self.is_x() { 1 } else { 2 }
     }
 }
 

@@ -90,7 +90,8 @@ impl TableauRecord<'_> {
     {
         let qubits = (0..self.width()).filter(|k| self.in_support(*k));
         'writing: for (place, k) in qubits.enumerate() {
-            // A qubit is below 128: by TryFrom there would be a failure to answer, which never comes.
+            // By place: of what is written through a zip of `iter_mut` a proof knows the length alone. A qubit is below 128: by TryFrom
+            // there would be a failure to answer, which never comes.
             dst[place] = k as u8;
         }
     }

@@ -35,6 +35,7 @@ pub(crate) struct Record<'a> {
 }
 
 impl<'a> Record<'a> {
+    // By offset, as `byte_of`, the one definition of the layout, is.
     #[tactic(auto, unfolding(crate::specs::Lists::record_count, crate::specs::Lists::byte_of))]
     fn byte(&self, k: usize) -> u8
         requires { k < record_size }

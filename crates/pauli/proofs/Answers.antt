@@ -1,5 +1,5 @@
 -- Laws of answers: what each says in numbers, and what an answer made from questions is.
-use Rattle.std.proofs.Common.{◌≡◌, ℕ, List, sym, refl, ap, ◌∙◌, Ok, Err, IsErrAnd, true, is_err}
+use Rattle.std.proofs.Common.{◌≡◌, ℕ, List, refl, ap, ◌∙◌, Ok, Err, IsErrAnd, true, is_err}
 use Rattle.pauli.specs.declared.refusal.Refusal.{Refusal}
 use Rattle.pauli.specs.Answers.{Answer, Outcome, reply_to, reply_of, no_value, number_value, answer_to, written, Answered, Written, NumberWritten}
 
@@ -65,15 +65,6 @@ unfolding written
 written-exit {q} {r} out d h e =
     let answer = exit-is r e ∙ h in
     record { answer = answer; told = ap (reply_of no_value) answer ∙ outcome-told q; bytes = ap (λ z. written z out d) h }
-
--- the same of what a variable holds
-pub written-by_not : {q r : Outcome} {x : Refusal} (out d : List ℕ) → r ≡ q → r ≡ Err x → Written q out d d r
-unfolding written
-written-by_not {q} {r} out d p h = record {
-  answer = p;
-  told = ap (reply_of no_value) p ∙ outcome-told q;
-  bytes = ap (λ z. written z out d) (sym h ∙ p);
-}
 
 pub number-done : {q : Outcome} {n m : ℕ} {out d e : List ℕ} → Ok tt ≡ q → m ≡ n → e ≡ written (Ok tt) out d → NumberWritten q n out d e (Ok m)
 number-done {q} {n} {out = out} {d} h c w =

@@ -2,7 +2,6 @@
 use Rattle.std.proofs.Common.{◌≡◌, ℕ, suc, ◌+◌, ◌-◌, ◌<◌, ◌≤◌, max, Bool, true, false, Option, not, reverse, ◌||◌, ltb, List, ◌∷◌, ◌++◌, length, get_or, take, drop, set, sym, refl, ap, ◌∙◌, ap₂, append-nil, add-one, arith, length-drop, drop_of_length-le, length-take, take_all, drop-cons, rules, le-ltb, lt-ltb, ne_eqb, Ok, Err}
 use Rattle.std.specs.Option.{is_none}
 use Rattle.std.proofs.lemmas.List.{get_or-reverse, length-reverse}
-use borrow.Rule.Slice.PartMut.{put_mid}
 use Rattle.pauli_group.specs.PauliString.{qubits}
 use Rattle.pauli.specs.declared.refusal.Refusal.{Refusal}
 use Rattle.pauli.specs.declared.refusal.Refusal.TheVariants.{NotLetter, TextQubit}
@@ -16,7 +15,6 @@ use Rattle.pauli.specs.Inside.Marks.{RecordFits}
 use Rattle.pauli.specs.Text.{is_space, is_identity, letter_named, text_end, text_phase, body_start, ascii_question, dense_body, dense_letter, letter_questions, dense_questions, dense_string, from_dense_questions, dense_record}
 use Rattle.pauli.proofs.Answers.{written-done}
 use Rattle.pauli.proofs.Asking.{own_done, own_not, first_done, first_not, and_then_assoc, asked_yes, asked_no, refused, passed, room-is, record-bytes}
-use Rattle.pauli.proofs.EntryStrings.{put_record}
 use Rattle.pauli.proofs.Places.{first_of, first_ext, length-listed, get_d_listed, listed_ext, Filled, filled_none, filled_step, filled_length, filled_room, filled_all}
 use Rattle.pauli.proofs.Records.{letter_there}
 use Rattle.pauli.proofs.SparseReading.{letter-small}
@@ -127,12 +125,6 @@ named_all b {d} {e} {i} f h =
 
 pub ruleset named_fills = (named-at, named_none, named_all, filled_step, filled_length, filled_room, rules)
 
-pub dense_written : (b : List ℕ) {d ys : List ℕ} (p : ℕ) → RecordFits d → ys ≡ letters_named (length (take 128 (drop 1 d))) b
-    → set (put_mid 1 128 d ys) 0 p ≡ p ∷ letters_named 128 b ++ drop 129 d
-dense_written b {d} {ys} p f e =
-    let part : length (take 128 (drop 1 d)) ≡ 128 = length-take 128 (drop 1 d) ∙ omega (arith, f.room, length-drop 1 d) in
-    put_record d ys p f.room ∙ ap (λ (l : List ℕ). p ∷ l ++ drop 129 d) (e ∙ ap (λ (n : ℕ). letters_named n b) part)
-
 -- ---- the questions in their order
 module _ (t b : List ℕ) (k : ℕ) (at : DenseAt t b k) where
   letters_are : letter_questions k 0 b ≡ letter_questions (body_start t) 0 (dense_body t)
@@ -172,8 +164,6 @@ dense-record t d = record-bytes (dense_string t) d
 pub dense-bytes : (t b d : List ℕ) (k p : ℕ) {e : List ℕ} → DenseAt t b k → p ≡ phase_byte (text_phase t) → Ok tt ≡ from_dense_questions t (length d)
     → e ≡ p ∷ letters_named 128 b ++ drop 129 d → Written (from_dense_questions t (length d)) (dense_record t) d e (Ok tt)
 dense-bytes t b d k p at ep h w = written-done h (w ∙ ap (λ (l : List ℕ). l ++ drop 129 d) (named-record t b k p at ep) ∙ dense-record t d)
-
-pub ruleset dense_strings = (dense_written, rules)
 
 -- the body, from the prefix to the trimmed end
 pub dense-at : {t : List ℕ} {h : Head} {k e : ℕ} → HeadRead t h → EndRead t k → e ≡ max k h.at → length t < 18446744073709551616

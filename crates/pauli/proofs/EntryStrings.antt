@@ -14,8 +14,8 @@ use Rattle.pauli.specs.Entries.{entry_count, entry_letter, entries_string}
 use Rattle.pauli.specs.Inside.Marks.{marks_to, first_twice, unmarked, EntriesFit, marks_of, marks_question, letters_marked, RecordFits}
 use Rattle.pauli.specs.Questions.{ask, ◌and_then◌, byte_question, entry_questions, smallest_duplicate, duplicate_question, room_question, with_phase_questions}
 use Rattle.pauli.specs.Strings.{entries_record}
-use Rattle.pauli.proofs.Answers.{answers, written-done}
-use Rattle.pauli.proofs.Asking.{first_done, first_not, in_order, asked_yes, asked_no, ask_done, done_first, done_second, byte_small, room-is, record-bytes}
+use Rattle.pauli.proofs.Answers.{written-done}
+use Rattle.pauli.proofs.Asking.{first_done, first_not, asked_yes, asked_no, ask_done, done_first, done_second, byte_small, room-is, record-bytes}
 use Rattle.pauli.proofs.EntryMarks.{unmark_is, letters-small, qubits-below, first_duplicate, letter-byte}
 use Rattle.pauli.proofs.Places.{position-at, position-none, length-listed, get_d_listed, listed_ext, Filled, filled_none, filled_step, filled_length, filled_room, filled_all}
 use Rattle.pauli.proofs.Records.{phase_there}
@@ -79,12 +79,6 @@ pub put_record : (d ys : List ℕ) (p : ℕ) → 129 ≤ length d → set (put_m
 put_record [] ys p h = absurd (not-suc-le-zero h)
 put_record (x ∷ d) ys p h = refl
 
-pub row_fits : {d : List ℕ} → RecordFits d → length (take 128 (drop 1 d)) ≡ 128
-row_fits {d} f = length-take 128 (drop 1 d) ∙ omega (arith, f.room, length-drop 1 d)
-
-pub marked_written : {d ys : List ℕ} (m : List ℕ) (p : ℕ) → RecordFits d → ys ≡ letters_marked 128 m → set (put_mid 1 128 d ys) 0 p ≡ p ∷ letters_marked 128 m ++ drop 129 d
-marked_written {d} {ys} m p f e = put_record d ys p f.room ∙ ap (λ (l : List ℕ). p ∷ l ++ drop 129 d) e
-
 -- ---- the marks of entries that name each qubit once hold their record
 module _ (p : ℕ) (e m : List ℕ) (small : p ≤ 3) (letters : (j : ℕ) → j < entry_count e → entry_letter e j ≤ 3) (named : duplicate_question e ≡ Ok tt)
     (marks : m ≡ marks_to e (entry_count e)) where
@@ -135,5 +129,3 @@ module _ (p : ℕ) (e : List ℕ) {m : Marks} (d : List ℕ) (all : Ok tt ≡ wi
   unfolding entries_record
   entries_written w =
       written-done all (marked_bytes p e m.0 (byte_small p phase-asked) (letters-small p e entries-asked) named-asked marks-are d w)
-
-pub ruleset entry_strings = (read_refused, read_fit, read_asked, marked_written, row_fits, marks_fit, entries_written, answers, in_order, rules)

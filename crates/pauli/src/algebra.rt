@@ -159,7 +159,8 @@ fn multiply_places(s: &[u8], t: &[u8], places: usize, row: &mut [u8]) -> u8
     turns
 }
 
-// The product of two strings, written over the first 129 bytes of the destination.
+// The product of two strings, written over the first 129 bytes of the destination. No struct holds the two: each function here asks for
+// a row or a destination of its own beside them.
 fn write_product(s: &[u8], t: &[u8], places: usize, dst: &mut [u8])
     requires { Operands s.now t.now places dst.old }
     ensures { dst.new ≡ product_record s.now t.now ++ drop 129 dst.old }

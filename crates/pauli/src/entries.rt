@@ -63,8 +63,8 @@ pub(crate) fn check_entries(phase: u8, entries: &[u8]) -> Result<(), Refusal>
 // The mark of a qubit that more entries than one name.
 const TWICE: u8 = 5;
 
-// A mark for each qubit: 0 where no entry names it, 1 + its letter where one does, TWICE where more do. Bytes, and no enum: to mark three
-// entries, look for a mark of two and write the letters took 565 instructions, with an enum 999.
+// A mark for each qubit: 0 where no entry names it, 1 + its letter where one does, TWICE where more do. Bytes, and no enum: no call
+// may get slower, and to mark three entries, look for a mark of two and write the letters took 565 instructions, with an enum 999.
 #[derive(Clone, Copy)]
 pub(crate) struct Marks([u8; QUBITS]);
 
@@ -125,6 +125,7 @@ impl Marks {
         requires { length row.old ≡ 128 }
         ensures { row.new ≡ letters_marked 128 self.now.0 }
     {
+        // By place: of what is written through a zip of `iter_mut` a proof knows the length alone.
         for (q, letter) in row.iter_mut().enumerate() {
             *letter = self.0[q].saturating_sub(1);
         }

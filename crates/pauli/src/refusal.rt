@@ -108,7 +108,8 @@ pub struct Reply {
     pub value: u64,
 }
 
-// What an answer names, as the value that C is told.
+// What an answer names, as the value that C is told. A trait of its own: `()`, usize and `Option<u8>` have no From into u64, and none can
+// be written here.
 pub trait Told {
     ghost value: { Self → ℕ };
 
@@ -138,6 +139,7 @@ impl Told for usize {
     ghost value = { number_value };
 
     fn told(self) -> u64 {
+        // As in `detail`: no From, and `as` is proved to keep the value.
         self as u64
     }
 }

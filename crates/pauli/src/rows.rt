@@ -1,4 +1,5 @@
-// Kernels on rows of letter bytes. They stop at the shortest row and read a byte above 3 as 3, so they ask nothing of a caller.
+// Kernels on rows of letter bytes. They stop at the shortest row and read a byte above 3 as 3, so they ask nothing of a caller. A letter
+// is a byte and no type: rows are lent, and a row of a type would have to be a copy.
 #![tactic(auto, using(crate::proofs::Turns::places))]
 
 ghost use Rattle.std.specs.Prelude.{◌≡◌, ◌%◌, ◌<◌, ◌≤◌, length};
@@ -116,7 +117,7 @@ pub fn multiply_row(row: &mut [u8], t: &[u8])
     row[0] = phase;
 }
 
-// 1 where two letters anticommute, else 0.
+// 1 where two letters anticommute, else 0: they are counted in a byte.
 fn letters_anticommute(a: u8, b: u8) -> u8
     ensures { result ≡ anticommuting a b }
 {
@@ -137,7 +138,7 @@ pub fn count_anticommuting(a: &[u8], b: &[u8]) -> u8
     count
 }
 
-// 1 for a letter other than I, else 0.
+// 1 for a letter other than I, else 0: they are counted in a byte.
 #[tactic(auto, unfolding(crate::specs::Inside::Turns::lettered), using(crate::proofs::Turns::places))]
 fn is_letter(x: u8) -> u8
     ensures { result ≡ lettered x }

@@ -10,8 +10,8 @@ use crate::entries::Marks;
 use crate::refusal::Refusal;
 use crate::text::{letter_named, read_numeral, skip_spaces, skip_word};
 
-// One letter and its qubit, and the offset after them. A text and an offset in it are no struct: what is refused is told by its offset,
-// and an index is the text between two.
+// One letter and its qubit, and the offset after them. A text and an offset in it are no struct: most functions answer an offset, a
+// refusal's or the next, and each would have to be made a place of the text again.
 #[derive(Clone, Copy)]
 pub(crate) struct Entry {
     pub letter: u8,

@@ -6,6 +6,7 @@ ghost use Rattle.pauli.specs.Text.{is_space, letter_named, leading_spaces, ascii
 
 use crate::refusal::Refusal;
 
+// By hand: std's `is_ascii_whitespace` leaves out the vertical tab.
 #[tactic(auto, unfolding(crate::specs::Text::is_space), using(std::proofs::lemmas::Bool::Decides::nat_tests))]
 pub(crate) fn is_space(c: u8) -> bool
     ensures { result ≡ is_space c }
@@ -27,7 +28,8 @@ pub(crate) fn letter_named(c: u8) -> Option<u8>
 }
 
 // The place where white space from `at` on ends, and where a word does. Two functions and not one that takes the test: of a closure a
-// contract knows only which answers its calls may give, so each caller would have to prove the place anew.
+// contract knows only which answers its calls may give, so each caller would have to prove the place anew; a trait of tests would be
+// longer than the two.
 pub(crate) fn skip_spaces(t: &[u8], at: usize) -> usize
     requires { at ≤ length t.now }
     ensures { Skipped leading_spaces t.now at result }

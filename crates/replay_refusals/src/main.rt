@@ -8,7 +8,7 @@ const DETAIL: u64 = 5;
 
 const WIDTH: u64 = 4;
 
-// Up to here each number from 1 is that of a refusal; the later ones have gaps.
+// Up to here each number from 1 is that of a refusal; the later ones have gaps. Numbers, since the page lists 0 too, which is of none.
 const LAST: u64 = 19;
 
 const FALSE_WEIGHT: u64 = 24;

@@ -100,8 +100,8 @@ impl Room {
         }
     }
 
-    // Reads a line. A case's bytes are then in this room. What bytes a field spells, and so which
-    // lines are malformed, is tested and not promised.
+    // Reads a line. A case's bytes are then in this room. What bytes a field spells, which reply a
+    // line expects, and so which lines are malformed, is tested and not promised.
     pub fn read<'a>(&'a mut self, line: &'a [u8]) -> Line<'a, 'a>
         ensures blank { (result ≡ Line.Blank) ↔ IsBlank line.now }
         ensures fits { LineFits result }
