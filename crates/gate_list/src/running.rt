@@ -20,12 +20,12 @@ struct Tables<'a> {
 
 impl<'a> Tables<'a> {
     // The gate of a record.
-    fn play(&self, record: &Record, t: &mut [u8])
-        ensures { t.new ≡ record_played record.now.list.now record.now.i t.old }
+    fn play(&self, step: &Record, t: &mut [u8])
+        ensures { t.new ≡ record_played step.now.list.now step.now.i t.old }
     {
-        let first = usize::from(record.first());
-        let second = usize::from(record.second());
-        play_with(self.letters, self.pairs, record.gate(), first, second, t);
+        let first = usize::from(step.first());
+        let second = usize::from(step.second());
+        play_with(self.letters, self.pairs, step.gate(), first, second, t);
     }
 
     // The gates on the chain, on the identity. The answer is their number.
@@ -35,6 +35,7 @@ impl<'a> Tables<'a> {
     {
         let mut steps = 0;
         let mut i = Record { list, i: 0 }.next();
+        // The label names the goals of the proof.
         'chain: while i != 0 {
             let record = Record { list, i };
             self.play(&record, t);
