@@ -20,7 +20,7 @@ use Rattle.clifford.proofs.Asking.{width_narrow}
 use Rattle.gate_list.specs.Lists.{list_width}
 use Rattle.gate_list.specs.ListQuestions.{list_questions}
 use Rattle.gate_list.specs.Runs.{run_record, step_count, run_answer}
-use Rattle.gate_list.specs.Inside.Runs.{Begins, Ran, RunRoom, RunWritten}
+use Rattle.gate_list.specs.Inside.Runs.{Ran, RunWritten}
 use Rattle.gate_list.proofs.AdmittedChains.{admitted_narrow}
 use Rattle.gate_list.proofs.RunTableaux.{run_length}
 use Rattle.std.specs.Prelude.{Ok}
@@ -41,6 +41,13 @@ run_asked l room eq en ek er = first_done eq (er ∙ ap (λ (j : ℕ). room_ques
 pub ruleset run_asks = (run_asked, rules)
 
 -- ---- the record in the front of a destination: first the identity
+pub record RunRoom (l d : List ℕ) : Type 0 where
+  pub asked : list_questions l ≡ Ok tt
+  pub room : record_length (list_width l) ≤ length d
+
+pub room_for : {l d : List ℕ} → list_questions l ≡ Ok tt → record_length (list_width l) ≤ length d → RunRoom l d
+room_for a h = record { asked = a; room = h }
+
 module _ {l d : List ℕ} {n k : ℕ} {e : List ℕ} {r : Outcome}
     (o : RunRoom l d) (b : n ≡ list_width l) (w : Written (identity_answer n (length d)) (identity_record n) d e r) (ek : k ≡ record_length (min n 128)) where
   own : k ≡ record_length (list_width l)
@@ -68,11 +75,8 @@ module _ {l d : List ℕ} {n k : ℕ} {e : List ℕ} {r : Outcome}
   pub run_room : k ≤ length e
   run_room = omega (arith, own, o.room, begun_long)
 
-  pub run_part : Begins l (take (k - 0) e)
-  run_part = record {
-    asked = o.asked;
-    bytes = ap (take (k - 0)) begun ∙ take_at start (drop k d) (k - 0) (omega (arith, start_long));
-  }
+  pub run_part : take (k - 0) e ≡ identity_record (list_width l)
+  run_part = ap (take (k - 0)) begun ∙ take_at start (drop k d) (k - 0) (omega (arith, start_long))
 
   rest : drop (k - 0) e ≡ drop k d
   rest = ap (drop (k - 0)) begun ∙ drop_at start (drop k d) (k - 0) (omega (arith, start_long))
@@ -91,14 +95,16 @@ module _ {l d : List ℕ} {n k : ℕ} {e : List ℕ} {r : Outcome}
     pub run_ran_same : length ys ≡ length (take (k - 0) e)
     run_ran_same = omega (arith, ap length x.bytes, run_length l o.asked, own, run_room, length-take (k - 0) e)
 
-pub ruleset run_writes = (run_room, run_part, run_put, run_put_same, run_ran_same, rules)
+pub ruleset run_writes = (room_for, run_room, run_part, run_put, run_put_same, run_ran_same, rules)
 
 -- ---- the public answer
-pub run_admits : {l d : List ℕ} {q : Outcome} → q ≡ run_answer l (length d) → q ≡ Ok tt → RunRoom l d
+pub run_admits : (l : List ℕ) (room : ℕ) {q : Outcome} → q ≡ run_answer l room → q ≡ Ok tt → list_questions l ≡ Ok tt
 unfolding run_answer
-run_admits {l} {d} e h =
-    let all = sym e ∙ h in
-    record { asked = done_first _ _ all; room = room-is _ (length d) (done_second (list_questions l) _ all) }
+run_admits l room e h = done_first _ _ (sym e ∙ h)
+
+pub run_roomy : (l : List ℕ) {room : ℕ} {q : Outcome} → q ≡ run_answer l room → q ≡ Ok tt → record_length (list_width l) ≤ room
+unfolding run_answer
+run_roomy l {room} e h = room-is _ room (done_second (list_questions l) _ (sym e ∙ h))
 
 pub run_done : {l d e : List ℕ} {q : Outcome} {n : ℕ} → Ok tt ≡ q → RunWritten l d e n → NumberWritten q (step_count l) (run_record l) d e (Ok n)
 run_done h w = number-done h w.steps w.bytes
@@ -109,4 +115,4 @@ run_same {l} {d} o w =
     ap length w.bytes ∙ length-append (run_record l) (drop (length (run_record l)) d)
     ∙ omega (arith, run_length l o.asked, o.room, length-drop (length (run_record l)) d)
 
-pub ruleset run_answers = (run_admits, run_done, run_same, rules)
+pub ruleset run_answers = (run_admits, run_roomy, room_for, run_done, run_same, rules)

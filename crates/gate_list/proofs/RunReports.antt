@@ -21,17 +21,17 @@ use Rattle.gate_list.specs.ListQuestions.{list_questions}
 use Rattle.gate_list.specs.Reports.{refusal_text, text_after, report_text, report_answer}
 use Rattle.gate_list.specs.Inside.Reports.{TextReported}
 use Rattle.gate_list.specs.Runs.{run_record}
-use Rattle.gate_list.specs.Inside.Runs.{RunRoom, RunWritten}
+use Rattle.gate_list.specs.Inside.Runs.{RunWritten}
 use Rattle.gate_list.proofs.AdmittedChains.{admitted_narrow}
 use Rattle.gate_list.proofs.ListRefusals.{Listed, refusal-listed}
 use Rattle.gate_list.proofs.RefusalTexts.{number_short, refusal-length}
 use Rattle.gate_list.proofs.RunTableaux.{run_good, run_valid, run_length}
-use Rattle.gate_list.proofs.RunAnswers.{own_size, run_same}
+use Rattle.gate_list.proofs.RunAnswers.{RunRoom, room_for, own_size, run_same}
 use Rattle.std.specs.Prelude.{Ok, Err}
 
 -- ---- the run shown
-pub show_runs : {l t : List ℕ} → list_questions l ≡ Ok tt → length t ≡ longest_record → RunRoom l t
-show_runs {l} o long = record { asked = o; room = omega (arith, long, record-small (list_width l) (admitted_narrow l o)) }
+pub show_runs : (l t : List ℕ) → list_questions l ≡ Ok tt → length t ≡ longest_record → record_length (list_width l) ≤ length t
+show_runs l t o long = omega (arith, long, record-small (list_width l) (admitted_narrow l o))
 
 module _ {l t e : List ℕ} {n m k : ℕ} (o : RunRoom l t) (w : RunWritten l t e n) (b : m ≡ list_width l) (ek : k ≡ record_length (min m 128)) where
   long : k ≡ length (run_record l)
@@ -51,7 +51,7 @@ module _ {l t e : List ℕ} {n m k : ℕ} (o : RunRoom l t) (w : RunWritten l t 
       room : room_question (length (text_of_tableau (run_record l))) (length d) ≡ display_answer (run_record l) (length d)
       room = unfold display_answer in passed (sym (formed-good (run_record l) (run_good l o.asked).formed)) refl refl
 
-pub ruleset shows = (show_runs, run_same, show_part, run_shown, rules)
+pub ruleset shows = (show_runs, room_for, run_same, show_part, run_shown, rules)
 
 -- ---- the report
 module _ (l : List ℕ) {q : Outcome} (e : q ≡ list_questions l) where

@@ -20,7 +20,10 @@ use Rattle.clifford.proofs.RecordLaws.{identity-width, identity-good}
 use Rattle.gate_list.specs.Lists.{Play, record_count, byte_of, list_width, next_of, play_of, chain_of, plays_of, gates_of}
 use Rattle.gate_list.specs.OrderedLists.{PlayFits, PlaysFit, more, Chain, ends, links}
 use Rattle.gate_list.specs.Runs.{tableaux_of, run_record, step_count}
-use Rattle.gate_list.specs.Inside.Runs.{record_played, Begins, Ran}
+use Rattle.std.specs.Prelude.{Ok}
+use Rattle.clifford.specs.Tableaux.{identity_record}
+use Rattle.gate_list.specs.ListQuestions.{list_questions}
+use Rattle.gate_list.specs.Inside.Runs.{record_played, Ran}
 use Rattle.gate_list.proofs.GateOrder.{product-first}
 use Rattle.gate_list.proofs.AdmittedChains.{admitted_chain, admitted_plays, admitted_narrow, admitted_sized, step_count_lem, steps-few}
 use Rattle.gate_list.proofs.ListAdmitted.{sized_some}
@@ -56,6 +59,14 @@ pub record Running (l t : List ℕ) (n i : ℕ) : Type 0 where
   pub product : product_from t (tableaux_of (plays_of l rest)) ≡ run_record l
   pub steps : n + length rest ≡ step_count l
   pub few : step_count l ≤ 4095
+
+-- an admitted list, and the identity
+pub record Begins (l t : List ℕ) : Type 0 where
+  pub asked : list_questions l ≡ Ok tt
+  pub bytes : t ≡ identity_record (list_width l)
+
+pub begins : {l t : List ℕ} → list_questions l ≡ Ok tt → t ≡ identity_record (list_width l) → Begins l t
+begins a b = record { asked = a; bytes = b }
 
 begins-formed : {l t : List ℕ} → Begins l t → FormedTableau t
 unfolding qubits

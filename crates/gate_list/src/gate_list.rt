@@ -8,7 +8,7 @@ use crate::chain::check_chain;
 use crate::questions::{check_head, check_size};
 use crate::reading::{MOST_RECORDS, width};
 use crate::reporting::{report_refusal, report_run};
-use crate::running::write_run;
+use crate::running::Admitted;
 use clifford::questions::{check_width, record_size};
 use pauli::questions::check_room;
 use pauli::refusal::Refusal;
@@ -39,7 +39,7 @@ pub fn run(list: &[u8], dst: &mut [u8]) -> Result<usize, Refusal>
     ensures { ListRun list.now dst.old dst.new result }
 {
     check_run(list, dst.len())?;
-    Ok(write_run(list, dst))
+    Ok(Admitted { list }.write_run(dst))
 }
 
 // The display text of the run, or the text of the refusal; the answer is its length.
@@ -47,7 +47,7 @@ pub fn report(list: &[u8], out: &mut [u8]) -> Result<usize, Refusal>
     ensures { Reported list.now out.old out.new result }
 {
     match check_list(list) {
-        Ok(()) => report_run(list, out),
+        Ok(()) => report_run(&Admitted { list }, out),
         Err(why) => report_refusal(why, out),
     }
 }

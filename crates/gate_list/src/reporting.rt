@@ -1,14 +1,12 @@
 // What is written of a run: its display text, or the text of a refusal.
-ghost use Rattle.std.specs.Prelude.{◌≡◌, Ok};
 ghost use Rattle.pauli.specs.Inside.TextWriting.{TextWritten};
 ghost use Rattle.clifford.specs.Display.{text_of_tableau};
-ghost use Rattle.gate_list.specs.ListQuestions.{list_questions};
 ghost use Rattle.gate_list.specs.Reports.{refusal_text};
 ghost use Rattle.gate_list.specs.Inside.Reports.{TextReported};
 ghost use Rattle.gate_list.specs.Runs.{run_record};
 
 use crate::reading::width;
-use crate::running::write_run;
+use crate::running::Admitted;
 use clifford::clifford_rep::display;
 use clifford::layout::LONGEST_RECORD;
 use clifford::questions::record_size;
@@ -39,11 +37,10 @@ pub(crate) fn report_refusal(why: Refusal, out: &mut [u8]) -> Result<usize, Refu
 }
 
 // The display text of the run of an admitted list, where there is room for it.
-pub(crate) fn report_run(list: &[u8], out: &mut [u8]) -> Result<usize, Refusal>
-    requires { list_questions list.now ≡ Ok tt }
-    ensures { TextReported (text_of_tableau (run_record list.now)) out.old out.new result }
+pub(crate) fn report_run(admitted: &Admitted, out: &mut [u8]) -> Result<usize, Refusal>
+    ensures { TextReported (text_of_tableau (run_record admitted.now.list.now)) out.old out.new result }
 {
     let mut work = [0u8; LONGEST_RECORD];
-    write_run(list, &mut work);
-    display(&work[0..record_size(width(list))], out)
+    admitted.write_run(&mut work);
+    display(&work[0..record_size(width(admitted.list))], out)
 }

@@ -1,7 +1,11 @@
 // The run of an admitted list: each gate on the chain composed on the left of a record, in place.
-ghost use Rattle.std.specs.Prelude.{◌≡◌};
+ghost use Rattle.std.specs.Prelude.{◌≡◌, ◌≤◌, Ok, length};
+ghost use Rattle.clifford.specs.Layout.{record_length};
+ghost use Rattle.clifford.specs.Tableaux.{identity_record};
+ghost use Rattle.gate_list.specs.Lists.{list_width};
+ghost use Rattle.gate_list.specs.ListQuestions.{list_questions};
 ghost use Rattle.clifford.specs.Playing.{letter_tables, pair_tables};
-ghost use Rattle.gate_list.specs.Inside.Runs.{record_played, Begins, Ran, RunRoom, RunWritten};
+ghost use Rattle.gate_list.specs.Inside.Runs.{record_played, Ran, RunWritten};
 
 use crate::reading::{Record, width};
 use clifford::clifford_rep::identity;
@@ -29,10 +33,11 @@ impl<'a> Tables<'a> {
     }
 
     // The gates on the chain, on the identity. The answer is their number.
-    fn play_chain(&self, list: &[u8], t: &mut [u8]) -> usize
-        requires { Begins list.now t.old }
-        ensures { Ran list.now t.new result }
+    fn play_chain(&self, admitted: &Admitted, t: &mut [u8]) -> usize
+        requires { t.old ≡ identity_record (list_width admitted.now.list.now) }
+        ensures { Ran admitted.now.list.now t.new result }
     {
+        let list = admitted.list;
         let mut steps = 0;
         let mut i = Record { list, i: 0 }.next();
         // The label names the goals of the proof.
@@ -46,20 +51,29 @@ impl<'a> Tables<'a> {
     }
 }
 
-// The whole run, in the front of a destination.
-#[tactic(auto, using(crate::proofs::RunAnswers::run_writes))]
-pub(crate) fn write_run(list: &[u8], dst: &mut [u8]) -> usize
-    requires { RunRoom list.now dst.old }
-    ensures { RunWritten list.now dst.old dst.new result }
-{
-    let n = width(list);
-    // An admitted list has an identity of its width, and room for it.
-    let _ = identity(n, dst);
-    let letters = letter_tables();
-    let pairs = pair_tables();
-    let tables = Tables {
-        letters: &letters,
-        pairs: &pairs,
-    };
-    tables.play_chain(list, &mut dst[0..record_size(n)])
+// A list that can be run.
+#[derive(Clone, Copy)]
+pub(crate) struct Admitted<'a> {
+    pub(crate) list: &'a [u8],
+    ghost asked: { list_questions list.now ≡ Ok tt },
+}
+
+impl Admitted<'_> {
+    // The whole run, in the front of a destination.
+    #[tactic(auto, using(crate::proofs::RunAnswers::run_writes))]
+    pub(crate) fn write_run(&self, dst: &mut [u8]) -> usize
+        requires { record_length (list_width self.now.list.now) ≤ length dst.old }
+        ensures { RunWritten self.now.list.now dst.old dst.new result }
+    {
+        let n = width(self.list);
+        // An admitted list has an identity of its width, and there is room for it.
+        let _ = identity(n, dst);
+        let letters = letter_tables();
+        let pairs = pair_tables();
+        let tables = Tables {
+            letters: &letters,
+            pairs: &pairs,
+        };
+        tables.play_chain(self, &mut dst[0..record_size(n)])
+    }
 }
