@@ -161,6 +161,7 @@ module _ {l t : List ℕ} {n i : ℕ} (r : Running l t n i) (h : i ≡ 0 → ⊥
     }
 
 pub ruleset runs = (
+  begins,
   running_head,
   running_start,
   running_same,

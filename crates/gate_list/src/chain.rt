@@ -6,6 +6,7 @@ use crate::reading::Record;
 use pauli::refusal::Refusal;
 
 // The head's link, and then the records from there on, each marked when it is met.
+#[tactic(auto, using(crate::proofs::Chains::walks))]
 pub(crate) fn check_chain(list: &[u8], met: &mut [bool]) -> Result<(), Refusal>
     requires { BeforeChain list.now met.old }
     ensures { result ≡ links_question list.now }

@@ -56,6 +56,7 @@ impl<'a> Record<'a> {
         Ok(())
     }
 
+    // By the byte and no `Gate`: a list's may be any until this is asked.
     #[tactic(auto, using(crate::proofs::ListAsking::by_tests), unfolding(crate::specs::ListQuestions::step_gate_question))]
     fn check_gate(&self) -> Result<(), Refusal>
         ensures { result ≡ step_gate_question self.now.list.now self.now.i }

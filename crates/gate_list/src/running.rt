@@ -33,6 +33,7 @@ impl<'a> Tables<'a> {
     }
 
     // The gates on the chain, on the identity. The answer is their number.
+    #[tactic(auto, using(crate::proofs::RunSteps::runs))]
     fn play_chain(&self, admitted: &Admitted, t: &mut [u8]) -> usize
         requires { t.old ≡ identity_record (list_width admitted.now.list.now) }
         ensures { Ran admitted.now.list.now t.new result }

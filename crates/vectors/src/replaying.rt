@@ -31,6 +31,9 @@ impl fmt::Write for Output {
     }
 }
 
+// Each function below asks that its call can always be made, in a clause of its own: what a closure asks stands in clauses, and a struct
+// that held the call would ask the same in each of its methods.
+
 // What comes of a line. It is a match only where a call of its case came to what the case expects.
 fn replay_line<'a, F: FnMut(&mut Case<'_, '_>) -> Option<Reply>>(
     line: &'a [u8],

@@ -1,10 +1,7 @@
--- `chain::check_chain` meets its contract, by the laws of `Walking`.
+-- `chain::check_chain` meets its contract, by the laws of `Walking`. Its attribute leaves these goals open.
 use Rattle.pauli.proofs.Asking.{exit_not}
 use Rattle.gate_list.proofs.Chains.{walks, walking_refused}
 use Rattle.gate_list.proofs.chain.check_chain.Goals as goal
-
-pub returns-in_err-check_link : goal.returns-in_err-check_link
-returns-in_err-check_link c = search (walks, c.in_err-check_link.ensures)
 
 pub chain-init : goal.chain-init
 chain-init c = search (walks, c.in_ok-check_link.was)
@@ -20,6 +17,3 @@ returns-in_err-check c = exit_not _ (walking_refused c.chain.invariant c.next-i.
 
 pub chain-smaller : goal.chain-smaller
 chain-smaller c = search walks
-
-pub chain-preserved : goal.chain-preserved
-chain-preserved c = search walks
