@@ -14,7 +14,7 @@ use pauli::questions::check_room;
 use pauli::refusal::Refusal;
 
 // Whether a list can be run: all questions in their order, with a mark for each record.
-#[tactic(auto, using(pauli::proofs::Asking::by_questions), unfolding(crate::specs::ListQuestions::list_questions, crate::specs::Inside::Reading::links_question))]
+#[tactic(auto, using(pauli::proofs::Asking::by_questions, crate::proofs::ListAdmitted::list_asks), unfolding(crate::specs::ListQuestions::list_questions, crate::specs::Inside::Reading::links_question))]
 pub fn check_list(list: &[u8]) -> Result<(), Refusal>
     ensures { result ≡ list_questions list.now }
 {
@@ -35,6 +35,7 @@ fn check_run(list: &[u8], room: usize) -> Result<(), Refusal>
 }
 
 // The tableau of all gates on the chain, each composed on the left; the answer is their number.
+#[tactic(auto, using(crate::proofs::RunAnswers::run_answers))]
 pub fn run(list: &[u8], dst: &mut [u8]) -> Result<usize, Refusal>
     ensures { ListRun list.now dst.old dst.new result }
 {

@@ -1,14 +1,11 @@
 -- `gate_list::run` meets its contract: the questions, and the run where they let it by.
 use Rattle.std.proofs.Common.{refl}
 use Rattle.pauli.proofs.Answers.{number-exit}
-use Rattle.gate_list.proofs.RunAnswers.{run_admits, run_done, run_answers}
+use Rattle.gate_list.proofs.RunAnswers.{run_admits, run_done}
 use Rattle.gate_list.proofs.gate_list.run.Goals as goal
 
 pub returns-in_err-check_run : goal.returns-in_err-check_run
 returns-in_err-check_run c = number-exit _ _ _ c.in_err-check_run.ensures c.from_residual.ensures.1
-
-pub write_run-requires : goal.write_run-requires
-write_run-requires c = search (run_answers, c.in_ok-check_run.was)
 
 pub returns : goal.returns
 returns c = run_done c.in_ok-check_run.ensures c.write_run.ensures
