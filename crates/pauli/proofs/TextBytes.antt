@@ -7,8 +7,8 @@ use lib.ListN.{get_or-eq_default}
 use borrow.Author.Tests.{lt-leb}
 use Rattle.pauli_group.specs.Phase.{PlusOne, MinusOne, PlusI, MinusI}
 use Rattle.pauli.specs.declared.refusal.Refusal.TheVariants.{NotAscii}
-use Rattle.pauli.specs.declared.text.Prefix.{Prefix}
 use Rattle.pauli.specs.Layout.{phase_byte}
+use Rattle.pauli.specs.declared.text.Head.{Head}
 use Rattle.pauli.specs.Inside.Reading.{Skipped, PrefixRead, HeadRead, letter_if, leading_word}
 use Rattle.pauli.specs.Questions.{ask}
 use Rattle.pauli.specs.Text.{is_space, is_digit, is_sign, is_small_i, letter_named, leading_spaces, text_start, prefix_phase, prefix_length, text_phase, body_start, first_not_ascii, ascii_question}
@@ -90,15 +90,15 @@ small_i b e = eqb-true b 105 e
 
 -- ---- the prefix
 module _ {a b : ℕ} where
-  pub plus_i_lem : a ≡ 43 → b ≡ 105 → PrefixRead a b (record { phase = 2; length = 2 })
+  pub plus_i_lem : a ≡ 43 → b ≡ 105 → PrefixRead a b (record { phase = 2; at = 2 })
   unfolding prefix_phase prefix_length is_sign is_small_i phase_byte
   plus_i_lem e h = record { phase = sym (ap₂ (λ x y. phase_byte (prefix_phase x y)) e h); length = sym (ap₂ prefix_length e h); small = omega arith }
 
-  pub minus_i : a ≡ 45 → b ≡ 105 → PrefixRead a b (record { phase = 3; length = 2 })
+  pub minus_i : a ≡ 45 → b ≡ 105 → PrefixRead a b (record { phase = 3; at = 2 })
   unfolding prefix_phase prefix_length is_sign is_small_i phase_byte
   minus_i e h = record { phase = sym (ap₂ (λ x y. phase_byte (prefix_phase x y)) e h); length = sym (ap₂ prefix_length e h); small = omega arith }
 
-  pub plus : a ≡ 43 → (b ≡ 105 → ⊥) → PrefixRead a b (record { phase = 0; length = 1 })
+  pub plus : a ≡ 43 → (b ≡ 105 → ⊥) → PrefixRead a b (record { phase = 0; at = 1 })
   unfolding prefix_phase prefix_length is_sign is_small_i phase_byte
   plus e h = record {
     phase = sym (ap (λ x. phase_byte (prefix_phase x b)) e ∙ ap (λ y. phase_byte (cond y PlusI PlusOne)) (ne_eqb b 105 h));
@@ -106,7 +106,7 @@ module _ {a b : ℕ} where
     small = omega arith;
   }
 
-  pub minus : a ≡ 45 → (b ≡ 105 → ⊥) → PrefixRead a b (record { phase = 1; length = 1 })
+  pub minus : a ≡ 45 → (b ≡ 105 → ⊥) → PrefixRead a b (record { phase = 1; at = 1 })
   unfolding prefix_phase prefix_length is_sign is_small_i phase_byte
   minus e h = record {
     phase = sym (ap (λ x. phase_byte (prefix_phase x b)) e ∙ ap (λ y. phase_byte (cond y MinusI MinusOne)) (ne_eqb b 105 h));
@@ -114,11 +114,11 @@ module _ {a b : ℕ} where
     small = omega arith;
   }
 
-  pub just_i : a ≡ 105 → PrefixRead a b (record { phase = 2; length = 1 })
+  pub just_i : a ≡ 105 → PrefixRead a b (record { phase = 2; at = 1 })
   unfolding prefix_phase prefix_length is_sign is_small_i phase_byte
   just_i e = record { phase = sym (ap (λ x. phase_byte (prefix_phase x b)) e); length = sym (ap (λ x. prefix_length x b) e); small = omega arith }
 
-  pub no_prefix : (a ≡ 43 → ⊥) → (a ≡ 45 → ⊥) → (a ≡ 105 → ⊥) → PrefixRead a b (record { phase = 0; length = 0 })
+  pub no_prefix : (a ≡ 43 → ⊥) → (a ≡ 45 → ⊥) → (a ≡ 105 → ⊥) → PrefixRead a b (record { phase = 0; at = 0 })
   unfolding prefix_phase prefix_length is_sign is_small_i phase_byte
   no_prefix p q r = record {
     phase = sym (λ i. phase_byte (cond (ne_eqb a 43 p i) (cond (is_small_i b) PlusI PlusOne)
@@ -183,21 +183,21 @@ head-none t {k} e h =
     let none : 0 ≡ prefix_length (get_or t k 0) second = nothing second ∙ ap (λ (x : ℕ). prefix_length x second) first in
     record { phase = ap phase_byte phase; place = omega (arith, none, (head_at t k e).1); within = omega (arith, spaces_within t) }
 
-pub head-some : (t : List ℕ) {k b : ℕ} {p : Prefix} → k ≡ leading_spaces t → k < length t → b ≡ get_or t (k + 1) 0 → PrefixRead (get_or t k 0) b p
-    → HeadRead t (record { phase = p.phase; at = k + p.length })
+pub head-some : (t : List ℕ) {k b : ℕ} {p : Head} → k ≡ leading_spaces t → k < length t → b ≡ get_or t (k + 1) 0 → PrefixRead (get_or t k 0) b p
+    → HeadRead t (record { phase = p.phase; at = k + p.at })
 head-some t {k} {b} {p} e h eb r =
     let second : b ≡ get_or t (suc k) 0 = eb ∙ ap (λ (j : ℕ). get_or t j 0) (add-one k) in
-    let long : p.length ≡ prefix_length (get_or t k 0) (get_or t (suc k) 0) = r.length ∙ ap (prefix_length (get_or t k 0)) second in
+    let long : p.at ≡ prefix_length (get_or t k 0) (get_or t (suc k) 0) = r.length ∙ ap (prefix_length (get_or t k 0)) second in
     record {
       phase = r.phase ∙ ap (λ (x : ℕ). phase_byte (prefix_phase (get_or t k 0) x)) second ∙ ap phase_byte (head_at t k e).0;
       place = omega (arith, long, (head_at t k e).1);
       within = omega (arith, long, prefix-within t k (omega arith));
     }
 
-pub head_read : (t : List ℕ) {k : ℕ} {p : Prefix} → k ≡ leading_spaces t → PrefixRead (get_or (from k t) 0 0) (get_or (from k t) 1 0) p
-    → HeadRead t (record { phase = p.phase; at = k + p.length })
+pub head_read : (t : List ℕ) {k : ℕ} {p : Head} → k ≡ leading_spaces t → PrefixRead (get_or (from k t) 0 0) (get_or (from k t) 1 0) p
+    → HeadRead t (record { phase = p.phase; at = k + p.at })
 head_read t {k} {p} e r =
-    let long : p.length ≡ prefix_length (get_or t k 0) (get_or t (suc k) 0) = r.length ∙ ap₂ prefix_length (byte 0 k (omega arith)) (byte 1 (suc k) (omega arith)) in
+    let long : p.at ≡ prefix_length (get_or t k 0) (get_or t (suc k) 0) = r.length ∙ ap₂ prefix_length (byte 0 k (omega arith)) (byte 1 (suc k) (omega arith)) in
     record {
       phase = r.phase ∙ ap₂ (λ (x y : ℕ). phase_byte (prefix_phase x y)) (byte 0 k (omega arith)) (byte 1 (suc k) (omega arith)) ∙ ap phase_byte (head_at t k e).0;
       place = omega (arith, long, (head_at t k e).1);

@@ -130,7 +130,7 @@ impl Told for u8 {
     ghost value = { number_value };
 
     fn told(self) -> u64 {
-        u64::from(self)
+        self.into()
     }
 }
 

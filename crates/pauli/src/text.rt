@@ -58,19 +58,19 @@ pub(crate) fn check_ascii(t: &[u8]) -> Result<(), Refusal>
     }
 }
 
-// Not a `Head`: a prefix has a length and no place.
+// A phase, and where the text goes on after the prefix that gives it.
 #[derive(Clone, Copy)]
-pub(crate) struct Prefix {
+pub(crate) struct Head {
     pub phase: u8,
-    pub length: usize,
+    pub at: usize,
 }
 
 // The prefix that a text begins with.
 #[tactic(auto, using(std::proofs::lemmas::Bool::Decides::nat_tests), unfolding(crate::specs::Text::prefix_phase, crate::specs::Text::prefix_length, crate::specs::Text::is_sign, crate::specs::Text::is_small_i, crate::specs::Layout::phase_byte))]
-fn read_prefix(t: &[u8]) -> Prefix
+fn read_prefix(t: &[u8]) -> Head
     ensures { PrefixRead (slice_index t.now 0) (slice_index t.now 1) result }
 {
-    let (phase, length) = match t {
+    let (phase, at) = match t {
         [b'+', b'i', ..] => (2, 2),
         [b'+', ..] => (0, 1),
         [b'-', b'i', ..] => (3, 2),
@@ -78,24 +78,18 @@ fn read_prefix(t: &[u8]) -> Prefix
         [b'i', ..] => (2, 1),
         _ => (0, 0),
     };
-    Prefix { phase, length }
+    Head { phase, at }
 }
 
-#[derive(Clone, Copy)]
-pub(crate) struct Head {
-    pub phase: u8,
-    pub at: usize,
-}
-
-// The phase that the prefix gives, and where the text goes on after it.
+// The same after the white space that a text may begin with.
 pub(crate) fn read_head(t: &[u8]) -> Head
     ensures { HeadRead t.now result }
 {
-    let at = skip_spaces(t, 0);
-    let p = read_prefix(&t[at..]);
+    let start = skip_spaces(t, 0);
+    let prefix = read_prefix(&t[start..]);
     Head {
-        phase: p.phase,
-        at: at + p.length,
+        phase: prefix.phase,
+        at: start + prefix.at,
     }
 }
 

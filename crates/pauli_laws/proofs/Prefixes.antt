@@ -64,7 +64,7 @@ module _ (p : Phase) (r : List ℕ) where
   abbrev Read : List ℕ → Type 0
   Read pre =
       (is_real p ≡ true → is_small_i (get_or r 0 0) ≡ false) → (length pre ≡ 0 → is_sign (get_or r 0 0) ≡ false)
-      → PrefixRead (get_or (pre ++ r) 0 0) (get_or (pre ++ r) 1 0) (record { phase = phase_byte p; length = length pre })
+      → PrefixRead (get_or (pre ++ r) 0 0) (get_or (pre ++ r) 1 0) (record { phase = phase_byte p; at = length pre })
 
 reads_all : (p : Phase) (r : List ℕ) → Each (Read p r) (prefixes p)
 unfolding prefixes phase_byte is_real
@@ -75,7 +75,7 @@ reads_all PlusI r = more (λ l u. plus_i_lem refl refl) (more (λ l u. just_i re
 reads_all MinusI r = more (λ l u. minus_i refl refl) none
 
 prefix_read : {p : Phase} {pre r : List ℕ} → Prefixed p pre r
-    → PrefixRead (get_or (pre ++ r) 0 0) (get_or (pre ++ r) 1 0) (record { phase = phase_byte p; length = length pre })
+    → PrefixRead (get_or (pre ++ r) 0 0) (get_or (pre ++ r) 1 0) (record { phase = phase_byte p; at = length pre })
 prefix_read {p} {pre} {r} f = each_among (Read p r) (reads_all p r) f.written f.longest f.unsigned
 
 -- white space behind the text adds nothing to it

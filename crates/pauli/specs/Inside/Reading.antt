@@ -1,6 +1,5 @@
 -- What the functions that read text promise one another.
 use Rattle.std.specs.Prelude.{◌≡◌, ℕ, zero, suc, ◌+◌, ◌<◌, ◌≤◌, Bool, true, false, Option, Some, None, List, ◌∷◌, length, drop, slice_index, Ok, Err}
-use Rattle.pauli.specs.declared.text.Prefix.{Prefix}
 use Rattle.pauli.specs.declared.text.Head.{Head}
 use Rattle.pauli.specs.declared.sparse_reader.Entry.{Entry}
 use Rattle.pauli.specs.declared.refusal.Refusal.{Refusal}
@@ -21,10 +20,10 @@ pub record Skipped (count : List ℕ → ℕ) (t : List ℕ) (k r : ℕ) : Type 
   pub onward : k ≤ r
   pub within : r ≤ length t
 
-pub record PrefixRead (a b : ℕ) (r : Prefix) : Type 0 where
+pub record PrefixRead (a b : ℕ) (r : Head) : Type 0 where
   pub phase : r.phase ≡ phase_byte (prefix_phase a b)
-  pub length : r.length ≡ prefix_length a b
-  pub small : r.length ≤ 2
+  pub length : r.at ≡ prefix_length a b
+  pub small : r.at ≤ 2
 
 pub record HeadRead (t : List ℕ) (r : Head) : Type 0 where
   pub phase : r.phase ≡ phase_byte (text_phase t)

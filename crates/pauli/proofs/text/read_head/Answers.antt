@@ -4,4 +4,4 @@ use Rattle.pauli.proofs.TextBytes.{head_read, skipped-all}
 use Rattle.pauli.proofs.text.read_head.Goals as goal
 
 pub returns : goal.returns
-returns c = head_read _ (skipped-all leading_spaces _ c.skip_spaces-at.ensures) c.read_prefix-p.ensures
+returns c = head_read _ (skipped-all leading_spaces _ c.skip_spaces-start.ensures) c.read_prefix-prefix.ensures
