@@ -10,8 +10,10 @@ use Rattle.pauli.specs.declared.refusal.Refusal.TheVariants.{Length, BadByte, Qu
 use Rattle.pauli.specs.Places.{first_place}
 use Rattle.pauli.specs.Layout.{letter_of, letter_byte}
 use Rattle.pauli.specs.Entries.{entry_count, entry_letter, entry_qubit, occurrences, entry_of, entries_string}
+use Rattle.pauli.specs.declared.entries.Mark.{Mark}
+use Rattle.pauli.specs.declared.entries.Mark.TheVariants.{Unnamed, Once, Twice}
 use Rattle.pauli.specs.declared.entries.Marks.{Marks}
-use Rattle.pauli.specs.Inside.Marks.{mark_more, mark_to, marks_to, first_twice, unmarked, MarkFits, EntriesFit, marks_of, Paired}
+use Rattle.pauli.specs.Inside.Marks.{mark_more, mark_to, marks_to, is_twice, first_twice, unmarked, EntriesFit, marks_of, Paired}
 use Rattle.pauli.specs.Questions.{byte_question, even_question, first_bad_entry, entry_letters_question, first_high_entry, entry_qubits_question, entry_questions, smallest_duplicate}
 use Rattle.pauli.proofs.Asking.{asked_yes, asked_no, ask_done, done_first, done_second}
 use Rattle.pauli.proofs.Places.{NoneBefore, none_start, none_more, none_found, none_left_lem, length-listed, get_d_listed, first_le, first-is, first-before, first_has}
@@ -109,17 +111,6 @@ qubits-below p e h j l =
     leb-true _ _ (ask_done _ _ (done_second (entry_letters_question e) _ (done_second (even_question e) _ (done_second (byte_question p) _ h)))) in
     leb-false 128 (entry_qubit e j) (first-before (entry_count e) (λ k. leb 128 (entry_qubit e k)) j (omega arith))
 
--- ---- one more mark
-mark_again : (x l : ℕ) → (x ≡ 0 → ⊥) → 5 ≡ mark_more x l
-unfolding mark_more
-mark_again zero l h = absurd (h refl)
-mark_again (suc x) l h = refl
-
-pub unmark_is : (m : ℕ) → m - 1 ≡ unmarked m
-unfolding unmarked
-unmark_is zero = omega arith
-unmark_is (suc m) = omega arith
-
 -- ---- the marks after n entries
 pub mark_ext : (n : ℕ) (f g : ℕ → Bool) (a b : ℕ → ℕ) → ((j : ℕ) → j < n → f j ≡ g j) → ((j : ℕ) → j < n → a j ≡ b j) → mark_to f a n ≡ mark_to g b n
 unfolding mark_to
@@ -132,9 +123,9 @@ pub length-marks : (e : List ℕ) (n : ℕ) → length (marks_to e n) ≡ 128
 unfolding marks_to qubits
 length-marks e n = length-listed 128 _
 
-mark_at : (e : List ℕ) (n q : ℕ) → q < 128 → get_or (marks_to e n) q 0 ≡ mark_to (λ j. eqb (entry_qubit e j) q) (entry_letter e) n
+mark_at : (e : List ℕ) (n q : ℕ) → q < 128 → get_or (marks_to e n) q Unnamed ≡ mark_to (λ j. eqb (entry_qubit e j) q) (entry_letter e) n
 unfolding marks_to qubits
-mark_at e n q h = get_d_listed 128 _ q 0 h
+mark_at e n q h = get_d_listed 128 _ q Unnamed h
 
 module _ (names : ℕ → Bool) (letter : ℕ → ℕ) (j : ℕ) where
   mark_named : names j ≡ true → mark_to names letter (suc j) ≡ mark_more (mark_to names letter j) (letter j)
@@ -147,61 +138,58 @@ module _ (names : ℕ → Bool) (letter : ℕ → ℕ) (j : ℕ) where
 
 -- one entry more, at the qubit that it names
 pub mark_step : (e : List ℕ) (j l q : ℕ) → l ≡ entry_letter e j → q ≡ entry_qubit e j → q < 128
-    → set (marks_to e j) q (mark_more (get_or (marks_to e j) q 0) l) ≡ marks_to e (suc j)
+    → set (marks_to e j) q (mark_more (get_or (marks_to e j) q Unnamed) l) ≡ marks_to e (suc j)
 mark_step e j l q el eq h =
-    ext_get_or 0 _ (marks_to e (suc j)) (length-set (marks_to e j) q _ ∙ length-marks e j ∙ sym (length-marks e (suc j)))
-    (λ k b. at k (omega (arith, length-set (marks_to e j) q (mark_more (get_or (marks_to e j) q 0) l), length-marks e j)))
+    ext_get_or Unnamed _ (marks_to e (suc j)) (length-set (marks_to e j) q _ ∙ length-marks e j ∙ sym (length-marks e (suc j)))
+    (λ k b. at k (omega (arith, length-set (marks_to e j) q (mark_more (get_or (marks_to e j) q Unnamed) l), length-marks e j)))
   where
-    x : ℕ
-    x = mark_more (get_or (marks_to e j) q 0) l
+    x : Mark
+    x = mark_more (get_or (marks_to e j) q Unnamed) l
 
-    same : get_or (set (marks_to e j) q x) q 0 ≡ get_or (marks_to e (suc j)) q 0
+    same : get_or (set (marks_to e j) q x) q Unnamed ≡ get_or (marks_to e (suc j)) q Unnamed
     same =
-        get_or-set_same (marks_to e j) q x 0 (omega (arith, length-marks e j)) ∙ ap₂ mark_more (mark_at e j q h) el
+        get_or-set_same (marks_to e j) q x Unnamed (omega (arith, length-marks e j)) ∙ ap₂ mark_more (mark_at e j q h) el
         ∙ sym (mark_at e (suc j) q h ∙ mark_named (λ i. eqb (entry_qubit e i) q) (entry_letter e) j (eq-eqb (entry_qubit e j) q (sym eq)))
 
-    other : (k : ℕ) → k < 128 → k ≢ q → get_or (set (marks_to e j) q x) k 0 ≡ get_or (marks_to e (suc j)) k 0
+    other : (k : ℕ) → k < 128 → k ≢ q → get_or (set (marks_to e j) q x) k Unnamed ≡ get_or (marks_to e (suc j)) k Unnamed
     other k b d =
-        get_or-set_other (marks_to e j) q k x 0 d ∙ mark_at e j k b
+        get_or-set_other (marks_to e j) q k x Unnamed d ∙ mark_at e j k b
         ∙ sym (mark_at e (suc j) k b ∙ mark_unnamed (λ i. eqb (entry_qubit e i) k) (entry_letter e) j (ne_eqb (entry_qubit e j) k (λ p. d (sym (eq ∙ p)))))
 
-    at : (k : ℕ) → k < 128 → get_or (set (marks_to e j) q x) k 0 ≡ get_or (marks_to e (suc j)) k 0
+    at : (k : ℕ) → k < 128 → get_or (set (marks_to e j) q x) k Unnamed ≡ get_or (marks_to e (suc j)) k Unnamed
     at k b = elim (ℕ_discrete k q) [
-      | yes d ↦ ap (λ (i : ℕ). get_or (set (marks_to e j) q x) i 0) d ∙ same ∙ ap (λ (i : ℕ). get_or (marks_to e (suc j)) i 0) (sym d)
+      | yes d ↦ ap (λ (i : ℕ). get_or (set (marks_to e j) q x) i Unnamed) d ∙ same ∙ ap (λ (i : ℕ). get_or (marks_to e (suc j)) i Unnamed) (sym d)
       | no d ↦ other k b d
     ]
 
 -- ---- the loop that marks entries, j so far
-pub record Marking (e : List ℕ) (j : ℕ) (m : List ℕ) : Type 0 where
+pub record Marking (e : List ℕ) (j : ℕ) (m : List Mark) : Type 0 where
   pub within : j ≤ entry_count e
   pub marks : m ≡ marks_to e j
-  pub letters : (i : ℕ) → i < entry_count e → entry_letter e i ≤ 3
   pub places : (i : ℕ) → i < entry_count e → entry_qubit e i < 128
 
-pub no_marks : (e : List ℕ) → replicate 128 0 ≡ marks_to e 0
+pub no_marks : (e : List ℕ) → replicate 128 Unnamed ≡ marks_to e 0
 unfolding marks_to mark_to
-no_marks e = ext_get_or 0 _ (marks_to e 0) (length-replicate {A = ℕ} 128 0 ∙ sym (length-marks e 0)) (λ k b. zeros k (omega (arith, length-replicate {A = ℕ} 128 0)))
+no_marks e =
+    ext_get_or Unnamed _ (marks_to e 0) (length-replicate {A = Mark} 128 Unnamed ∙ sym (length-marks e 0))
+    (λ k b. unnamed_at k (omega (arith, length-replicate {A = Mark} 128 Unnamed)))
   where
-    zeros : (k : ℕ) → k < 128 → get_or (replicate 128 0) k 0 ≡ get_or (marks_to e 0) k 0
-    zeros k b = get_or-replicate 128 k 0 0 b ∙ sym (mark_at e 0 k b)
+    unnamed_at : (k : ℕ) → k < 128 → get_or (replicate 128 Unnamed) k Unnamed ≡ get_or (marks_to e 0) k Unnamed
+    unnamed_at k b = get_or-replicate 128 k Unnamed Unnamed b ∙ sym (mark_at e 0 k b)
 
-pub marking_none : {e m : List ℕ} → EntriesFit e → m ≡ replicate 128 0 → Marking e 0 m
-marking_none {e} f z = record { within = omega arith; marks = z ∙ no_marks e; letters = f.letters; places = f.places }
+pub marking_none : {e : List ℕ} {m : List Mark} → EntriesFit e → m ≡ replicate 128 Unnamed → Marking e 0 m
+marking_none {e} f z = record { within = omega arith; marks = z ∙ no_marks e; places = f.places }
 
-module _ {e : List ℕ} {p : List (List ℕ)} (pairs : Paired e p) {m : List ℕ} {j : ℕ} (k : Marking e j m) where
-  pub marking_fits : {q : ℕ} → j < length p → q ≡ get_or (get_or p j []) 1 0 → MarkFits (get_or (get_or p j []) 0 0) q
-  marking_fits h eq = record {
-    letter = omega (arith, pairs.count, pairs.letters j h, k.letters j (omega (arith, pairs.count)));
-    place = omega (arith, pairs.count, pairs.qubits j h, k.places j (omega (arith, pairs.count)));
-  }
+module _ {e : List ℕ} {p : List (List ℕ)} (pairs : Paired e p) {m : List Mark} {j : ℕ} (k : Marking e j m) where
+  pub marking_below : {q : ℕ} → j < length p → q ≡ get_or (get_or p j []) 1 0 → q < 128
+  marking_below h eq = omega (arith, pairs.count, pairs.qubits j h, k.places j (omega (arith, pairs.count)))
 
-  pub marking_step : {d : List ℕ} {q : ℕ} → j < length p → q ≡ get_or (get_or p j []) 1 0
-      → d ≡ set m q (mark_more (get_or m q 0) (get_or (get_or p j []) 0 0)) → Marking e (j + 1) d
+  pub marking_step : {d : List Mark} {q : ℕ} → j < length p → q ≡ get_or (get_or p j []) 1 0
+      → d ≡ set m q (mark_more (get_or m q Unnamed) (get_or (get_or p j []) 0 0)) → Marking e (j + 1) d
   marking_step {d} {q} h eq ed = record {
     within = omega (arith, pairs.count);
-    marks = ed ∙ ap (λ (x : List ℕ). set x q (mark_more (get_or x q 0) (get_or (get_or p j []) 0 0))) k.marks
-        ∙ mark_step e j (get_or (get_or p j []) 0 0) q (pairs.letters j h) (eq ∙ pairs.qubits j h) (marking_fits h eq).place ∙ ap (marks_to e) (sym (add-one j));
-    letters = k.letters;
+    marks = ed ∙ ap (λ (x : List Mark). set x q (mark_more (get_or x q Unnamed) (get_or (get_or p j []) 0 0))) k.marks
+        ∙ mark_step e j (get_or (get_or p j []) 0 0) q (pairs.letters j h) (eq ∙ pairs.qubits j h) (marking_below h eq) ∙ ap (marks_to e) (sym (add-one j));
     places = k.places;
   }
 
@@ -212,16 +200,16 @@ module _ {e : List ℕ} {p : List (List ℕ)} (pairs : Paired e p) {m : List ℕ
       let all : m ≡ marks_to e (entry_count e) = k.marks ∙ ap (marks_to e) whole in
       λ i. record { 0 = all i }
 
-pub marking_length : {e d : List ℕ} {j : ℕ} → Marking e j d → length d ≡ 128
+pub marking_length : {e : List ℕ} {d : List Mark} {j : ℕ} → Marking e j d → length d ≡ 128
 marking_length {e} {j = j} k = ap length k.marks ∙ length-marks e j
 
-pub ruleset marks = (marking_none, marking_fits, marking_step, marking_length, marking_all, rules)
+pub ruleset marks = (marking_none, marking_below, marking_step, marking_length, marking_all, rules)
 
 -- ---- what a mark says: how many entries name the qubit, and the letter of the first
-pub data MarkIs (letter : ℕ → ℕ) (n count first mark : ℕ) : Type 0 where
-  unnamed : count ≡ 0 → first ≡ n → mark ≡ 0 → MarkIs letter n count first mark
-  once : count ≡ 1 → first < n → mark ≡ suc (letter first) → MarkIs letter n count first mark
-  twice : 2 ≤ count → mark ≡ 5 → MarkIs letter n count first mark
+pub data MarkIs (letter : ℕ → ℕ) (n count first : ℕ) (mark : Mark) : Type 0 where
+  unnamed : count ≡ 0 → first ≡ n → mark ≡ Unnamed → MarkIs letter n count first mark
+  once : count ≡ 1 → first < n → mark ≡ Once (letter first) → MarkIs letter n count first mark
+  twice : 2 ≤ count → mark ≡ Twice → MarkIs letter n count first mark
 
 -- the first place, where one place more is looked at
 first_kept : (n : ℕ) (f : ℕ → Bool) → first_place n f < n → first_place n f ≡ first_place (suc n) f
@@ -247,9 +235,17 @@ count_unnamed : (n : ℕ) (f : ℕ → Bool) → f n ≡ false → count_to (suc
 unfolding count_to
 count_unnamed n f h = ap (λ b. count_to n f + cond b 1 0) h
 
-mark_once : (m l : ℕ) → m ≡ 0 → mark_more m l ≡ suc l
+mark_first : {m : Mark} (l : ℕ) → m ≡ Unnamed → mark_more m l ≡ Once l
 unfolding mark_more
-mark_once m l e = ap (λ (x : ℕ). mark_more x l) e
+mark_first l e = ap (λ x. mark_more x l) e
+
+mark_second : {m : Mark} {k : ℕ} (l : ℕ) → m ≡ Once k → mark_more m l ≡ Twice
+unfolding mark_more
+mark_second l e = ap (λ x. mark_more x l) e
+
+mark_again : {m : Mark} (l : ℕ) → m ≡ Twice → mark_more m l ≡ Twice
+unfolding mark_more
+mark_again l e = ap (λ x. mark_more x l) e
 
 module _ (names : ℕ → Bool) (letter : ℕ → ℕ) where
   abbrev State : ℕ → Type 0
@@ -258,21 +254,15 @@ module _ (names : ℕ → Bool) (letter : ℕ → ℕ) where
   named : (n : ℕ) → names n ≡ true → State n → State (suc n)
   named n h (unnamed c f m) =
       let new : n ≡ first_place (suc n) names = first_new n names f h in
-      once (omega (arith, count-named n names h)) (omega arith) (mark_named names letter n h ∙ mark_once _ (letter n) m ∙ ap (λ (j : ℕ). suc (letter j)) new)
-  named n h (once c f m) = twice (omega (arith, count-named n names h)) (mark_named names letter n h ∙ sym (mark_again _ (letter n) (λ z. more (sym m ∙ z))))
-    where
-      more : suc (letter (first_place n names)) ≡ 0 → ⊥
-      more e = omega arith
-  named n h (twice c m) = twice (omega (arith, count-named n names h)) (mark_named names letter n h ∙ sym (mark_again _ (letter n) (λ z. more (sym m ∙ z))))
-    where
-      more : ◌≡◌ {A = ℕ} 5 0 → ⊥
-      more e = omega arith
+      once (omega (arith, count-named n names h)) (omega arith) (mark_named names letter n h ∙ mark_first (letter n) m ∙ ap (λ (j : ℕ). Once (letter j)) new)
+  named n h (once c f m) = twice (omega (arith, count-named n names h)) (mark_named names letter n h ∙ mark_second (letter n) m)
+  named n h (twice c m) = twice (omega (arith, count-named n names h)) (mark_named names letter n h ∙ mark_again (letter n) m)
 
   not_named : (n : ℕ) → names n ≡ false → State n → State (suc n)
   not_named n h (unnamed c f m) = unnamed (omega (arith, count_unnamed n names h)) (sym (first-none n names f h)) (mark_unnamed names letter n h ∙ m)
   not_named n h (once c f m) =
       let kept : first_place n names ≡ first_place (suc n) names = first_kept n names f in
-      once (omega (arith, count_unnamed n names h)) (omega arith) (mark_unnamed names letter n h ∙ m ∙ ap (λ (j : ℕ). suc (letter j)) kept)
+      once (omega (arith, count_unnamed n names h)) (omega arith) (mark_unnamed names letter n h ∙ m ∙ ap (λ (j : ℕ). Once (letter j)) kept)
   not_named n h (twice c m) = twice (omega (arith, count_unnamed n names h)) (mark_unnamed names letter n h ∙ m)
 
   no_state : State 0
@@ -287,18 +277,15 @@ module _ (names : ℕ → Bool) (letter : ℕ → ℕ) where
       next true e m = named n e m
       next false e m = not_named n e m
 
--- ---- a mark of 5 is a qubit that is named twice, where letters are at most 3
-pub mark_five : (letter : ℕ → ℕ) (n count first mark : ℕ) → ((j : ℕ) → j < n → letter j ≤ 3) → MarkIs letter n count first mark → eqb mark 5 ≡ leb 2 count
-mark_five letter n count first mark small (unnamed c f m) = ap (λ (x : ℕ). eqb x 5) m ∙ sym (ap (λ (x : ℕ). leb 2 x) c)
-mark_five letter n count first mark small (once c f m) =
-    ne_eqb mark 5 (λ e. never (sym m ∙ e) (small first f)) ∙ sym (ap (λ (x : ℕ). leb 2 x) c)
-  where
-    never : suc (letter first) ≡ 5 → letter first ≤ 3 → ⊥
-    never e h = omega arith
-mark_five letter n count first mark small (twice c m) = eq-eqb mark 5 m ∙ sym (le-leb 2 count c)
+-- ---- the mark of a qubit that more entries than one name
+pub mark_twice : {letter : ℕ → ℕ} {n count first : ℕ} {mark : Mark} → MarkIs letter n count first mark → is_twice mark ≡ leb 2 count
+unfolding is_twice
+mark_twice (unnamed c f m) = ap is_twice m ∙ sym (ap (λ (x : ℕ). leb 2 x) c)
+mark_twice (once c f m) = ap is_twice m ∙ sym (ap (λ (x : ℕ). leb 2 x) c)
+mark_twice {count = count} (twice c m) = ap is_twice m ∙ sym (le-leb 2 count c)
 
 -- a mark of at most one entry holds its letter, or I
-pub marked_letter : (letter : ℕ → ℕ) (n count first mark : ℕ) → ((j : ℕ) → j < n → letter j ≤ 3) → count < 2 → MarkIs letter n count first mark
+pub marked_letter : (letter : ℕ → ℕ) (n count first : ℕ) (mark : Mark) → ((j : ℕ) → j < n → letter j ≤ 3) → count < 2 → MarkIs letter n count first mark
     → unmarked mark ≡ letter_byte (cond (ltb first n) (letter_of (letter first)) I)
 unfolding unmarked letter_byte
 marked_letter letter n count first mark small h (unnamed c f m) =
@@ -314,25 +301,24 @@ first_ext n f g h =
     below : (k : ℕ) → k < first_place n f → k < n
     below k l = omega (arith, first_le n f)
 
-module _ (e : List ℕ) (small : (j : ℕ) → j < entry_count e → entry_letter e j ≤ 3) where
-  twice-is : (q : ℕ) → q < 128 → eqb (get_or (marks_to e (entry_count e)) q 0) 5 ≡ leb 2 (occurrences e q)
+module _ (e : List ℕ) where
+  twice-is : (q : ℕ) → q < 128 → is_twice (get_or (marks_to e (entry_count e)) q Unnamed) ≡ leb 2 (occurrences e q)
   unfolding occurrences
-  twice-is q h =
-      ap (λ (x : ℕ). eqb x 5) (mark_at e (entry_count e) q h)
-      ∙ mark_five (entry_letter e) (entry_count e) _ _ _ small (mark_is (λ j. eqb (entry_qubit e j) q) (entry_letter e) (entry_count e))
+  twice-is q h = ap is_twice (mark_at e (entry_count e) q h) ∙ mark_twice (mark_is (λ j. eqb (entry_qubit e j) q) (entry_letter e) (entry_count e))
 
   pub first_duplicate : first_twice (marks_to e (entry_count e)) ≡ smallest_duplicate e
   unfolding first_twice smallest_duplicate qubits
   first_duplicate =
-      ap (λ (n : ℕ). first_place n (λ k. eqb (get_or (marks_to e (entry_count e)) k 0) 5)) (length-marks e (entry_count e)) ∙ first_ext 128 _ _ twice-is
+      ap (λ (n : ℕ). first_place n (λ k. is_twice (get_or (marks_to e (entry_count e)) k Unnamed))) (length-marks e (entry_count e)) ∙ first_ext 128 _ _ twice-is
 
   -- where no qubit is named twice, the marks hold the letters
   letter_marked : (q : ℕ) → q < 128 → 128 ≤ smallest_duplicate e → occurrences e q < 2
   unfolding smallest_duplicate qubits
   letter_marked q h none = leb-false 2 (occurrences e q) (first-before 128 (λ k. leb 2 (occurrences e k)) q (omega arith))
 
-  pub letter-byte : (p q : ℕ) → q < 128 → 128 ≤ smallest_duplicate e → unmarked (get_or (marks_to e (entry_count e)) q 0) ≡ letter_byte ((entries_string p e).letters q)
+  pub letter-byte : ((j : ℕ) → j < entry_count e → entry_letter e j ≤ 3) → (p q : ℕ) → q < 128 → 128 ≤ smallest_duplicate e
+      → unmarked (get_or (marks_to e (entry_count e)) q Unnamed) ≡ letter_byte ((entries_string p e).letters q)
   unfolding entries_string entry_of occurrences
-  letter-byte p q h none =
+  letter-byte small p q h none =
       ap unmarked (mark_at e (entry_count e) q h)
       ∙ marked_letter (entry_letter e) (entry_count e) _ _ _ small (letter_marked q h none) (mark_is (λ j. eqb (entry_qubit e j) q) (entry_letter e) (entry_count e))

@@ -6,38 +6,40 @@ use borrow.Rule.Slice.PartMut.{put_mid}
 use Rattle.pauli_group.specs.PauliString.{qubits}
 use Rattle.pauli.specs.declared.refusal.Refusal.{Refusal}
 use Rattle.pauli.specs.declared.refusal.Refusal.TheVariants.{Duplicate}
+use Rattle.pauli.specs.declared.entries.Mark.{Mark}
+use Rattle.pauli.specs.declared.entries.Mark.TheVariants.{Unnamed}
 use Rattle.pauli.specs.declared.entries.Marks.{Marks}
 use Rattle.pauli.specs.Answers.{written, Written, Outcome}
 use Rattle.pauli.specs.Places.{listed}
 use Rattle.pauli.specs.Layout.{letter_byte, encode_string, string_record}
 use Rattle.pauli.specs.Entries.{entry_count, entry_letter, entries_string}
-use Rattle.pauli.specs.Inside.Marks.{marks_to, first_twice, unmarked, EntriesFit, marks_of, marks_question, letters_marked, RecordFits}
+use Rattle.pauli.specs.Inside.Marks.{marks_to, is_twice, first_twice, unmarked, EntriesFit, marks_of, marks_question, letters_marked, RecordFits}
 use Rattle.pauli.specs.Questions.{ask, ◌and_then◌, byte_question, entry_questions, smallest_duplicate, duplicate_question, room_question, with_phase_questions}
 use Rattle.pauli.specs.Strings.{entries_record}
 use Rattle.pauli.proofs.Answers.{written-done}
 use Rattle.pauli.proofs.Asking.{first_done, first_not, asked_yes, asked_no, ask_done, done_first, done_second, byte_small, room-is, record-bytes}
-use Rattle.pauli.proofs.EntryMarks.{unmark_is, letters-small, qubits-below, first_duplicate, letter-byte}
-use Rattle.pauli.proofs.Places.{position-at, position-none, length-listed, get_d_listed, listed_ext, Filled, filled_none, filled_step, filled_length, filled_room, filled_all}
+use Rattle.pauli.proofs.EntryMarks.{letters-small, qubits-below, first_duplicate, letter-byte}
+use Rattle.pauli.proofs.Places.{passing-at, passing-none, length-listed, get_d_listed, listed_ext, Filled, filled_none, filled_step, filled_length, filled_room, filled_all}
 use Rattle.pauli.proofs.Records.{phase_there}
 
 -- ---- question 12 by the marks
-twice_asked : (m : List ℕ) (i : ℕ) → first_twice m ≡ i → ask (leb 128 i) (Duplicate i) ≡ marks_question m
+twice_asked : (m : List Mark) (i : ℕ) → first_twice m ≡ i → ask (leb 128 i) (Duplicate i) ≡ marks_question m
 unfolding marks_question qubits
 twice_asked m i e = ap (λ (j : ℕ). ask (leb 128 j) (Duplicate j)) (sym e)
 
-pub marks-twice : (m : List ℕ) {q : ℕ} → length m ≡ 128 → Some q ≡ position (λ x. eqb x 5) m → Err (Duplicate q) ≡ marks_question m
+pub marks-twice : (m : List Mark) {q : ℕ} → length m ≡ 128 → Some q ≡ position is_twice m → Err (Duplicate q) ≡ marks_question m
 unfolding first_twice
 marks-twice m {q} l e =
-    let at = position-at (λ x. eqb x 5) m e in
+    let at = passing-at Unnamed is_twice m e in
     asked_no (Duplicate q) (lt-leb 128 q (omega (arith, at.0))) ∙ twice_asked m q (sym at.1)
 
-pub marks-once : (m : List ℕ) → length m ≡ 128 → None ≡ position (λ x. eqb x 5) m → Ok tt ≡ marks_question m
+pub marks-once : (m : List Mark) → length m ≡ 128 → None ≡ position is_twice m → Ok tt ≡ marks_question m
 unfolding first_twice
-marks-once m l e = asked_yes (Duplicate (length m)) (le-leb 128 (length m) (omega arith)) ∙ twice_asked m (length m) (sym (position-none (λ x. eqb x 5) m e))
+marks-once m l e = asked_yes (Duplicate (length m)) (le-leb 128 (length m) (omega arith)) ∙ twice_asked m (length m) (sym (passing-none Unnamed is_twice m e))
 
-pub marks_question_lem : (e : List ℕ) → ((j : ℕ) → j < entry_count e → entry_letter e j ≤ 3) → marks_question (marks_to e (entry_count e)) ≡ duplicate_question e
+pub marks_question_lem : (e : List ℕ) → marks_question (marks_to e (entry_count e)) ≡ duplicate_question e
 unfolding marks_question duplicate_question
-marks_question_lem e small = ap (λ (k : ℕ). ask (leb qubits k) (Duplicate k)) (first_duplicate e small)
+marks_question_lem e = ap (λ (k : ℕ). ask (leb qubits k) (Duplicate k)) (first_duplicate e)
 
 -- ---- the questions in their order
 pub read_refused : (p : ℕ) (e : List ℕ) (room : ℕ) {x : Refusal} → Err x ≡ entry_questions p e → Err x ≡ with_phase_questions p e room
@@ -45,27 +47,27 @@ unfolding with_phase_questions
 read_refused p e room h = first_not _ h
 
 pub read_fit : (p : ℕ) (e : List ℕ) → Ok tt ≡ entry_questions p e → EntriesFit e
-read_fit p e h = record { letters = letters-small p e (sym h); places = qubits-below p e (sym h) }
+read_fit p e h = record { places = qubits-below p e (sym h) }
 
 pub read_asked : (p : ℕ) (e : List ℕ) {m : Marks} (room : ℕ) {s : Outcome} → Ok tt ≡ entry_questions p e → m ≡ marks_of e
     → s ≡ marks_question m.0 and_then room_question 129 room → s ≡ with_phase_questions p e room
 unfolding with_phase_questions
 read_asked p e room h em hs =
-    first_done h (hs ∙ ap (λ q. q and_then room_question 129 room) (ap (λ (m : Marks). marks_question m.0) em ∙ marks_question_lem e (letters-small p e (sym h))))
+    first_done h (hs ∙ ap (λ q. q and_then room_question 129 room) (ap (λ (m : Marks). marks_question m.0) em ∙ marks_question_lem e))
 
 -- ---- the letters written from the marks
-pub letter_marked : (n : ℕ) (m : List ℕ) (i : ℕ) {x : ℕ} → x ≡ get_or m i 0 - 1 → i < n → x ≡ get_or (letters_marked n m) i 0
+pub letter_marked : (n : ℕ) (m : List Mark) (i : ℕ) {x : ℕ} → x ≡ unmarked (get_or m i Unnamed) → i < n → x ≡ get_or (letters_marked n m) i 0
 unfolding letters_marked
-letter_marked n m i e h = e ∙ unmark_is (get_or m i 0) ∙ sym (get_d_listed n _ i 0 h)
+letter_marked n m i e h = e ∙ sym (get_d_listed n _ i 0 h)
 
-pub length_marked : (n : ℕ) (m : List ℕ) → length (letters_marked n m) ≡ n
+pub length_marked : (n : ℕ) (m : List Mark) → length (letters_marked n m) ≡ n
 unfolding letters_marked
 length_marked n m = length-listed n _
 
-pub letters-none : (m : List ℕ) {d : List ℕ} → length d ≡ 128 → Filled (letters_marked 128 m) d (length d) 0 d
+pub letters-none : (m : List Mark) {d : List ℕ} → length d ≡ 128 → Filled (letters_marked 128 m) d (length d) 0 d
 letters-none m {d} h = filled_none (omega (arith, length_marked 128 m)) (omega arith)
 
-pub letters_all : (m : List ℕ) {d : List ℕ} {i : ℕ} {e : List ℕ} → length d ≡ 128 → Filled (letters_marked 128 m) d (length d) i e → length d ≤ i
+pub letters_all : (m : List Mark) {d : List ℕ} {i : ℕ} {e : List ℕ} → length d ≡ 128 → Filled (letters_marked 128 m) d (length d) i e → length d ≤ i
     → e ≡ letters_marked 128 m
 letters_all m {d} {i} {e} l f h =
     filled_all 128 l f h
@@ -80,7 +82,7 @@ put_record [] ys p h = absurd (not-suc-le-zero h)
 put_record (x ∷ d) ys p h = refl
 
 -- ---- the marks of entries that name each qubit once hold their record
-module _ (p : ℕ) (e m : List ℕ) (small : p ≤ 3) (letters : (j : ℕ) → j < entry_count e → entry_letter e j ≤ 3) (named : duplicate_question e ≡ Ok tt)
+module _ (p : ℕ) (e : List ℕ) (m : List Mark) (small : p ≤ 3) (letters : (j : ℕ) → j < entry_count e → entry_letter e j ≤ 3) (named : duplicate_question e ≡ Ok tt)
     (marks : m ≡ marks_to e (entry_count e)) where
   once : 128 ≤ smallest_duplicate e
   unfolding duplicate_question qubits
@@ -88,7 +90,7 @@ module _ (p : ℕ) (e m : List ℕ) (small : p ≤ 3) (letters : (j : ℕ) → j
 
   letters_are : letters_marked 128 m ≡ listed 128 (λ q. letter_byte ((entries_string p e).letters q))
   unfolding letters_marked
-  letters_are = listed_ext 128 _ _ (λ q l. ap (λ (x : List ℕ). unmarked (get_or x q 0)) marks ∙ letter-byte e letters p q l once)
+  letters_are = listed_ext 128 _ _ (λ q l. ap (λ (x : List Mark). unmarked (get_or x q Unnamed)) marks ∙ letter-byte e letters p q l once)
 
   marked_record : p ∷ letters_marked 128 m ≡ string_record (entries_string p e)
   unfolding string_record encode_string entries_string qubits

@@ -11,10 +11,12 @@ use Rattle.pauli.specs.declared.refusal.Refusal.TheVariants.{Duplicate}
 use Rattle.pauli.specs.Places.{first_place}
 use Rattle.pauli.specs.Layout.{phase_byte, letter_byte, letter_of}
 use Rattle.pauli.specs.Entries.{entry_count, entry_letter, entry_qubit, occurrences, entry_of, entries_string}
-use Rattle.pauli.specs.Inside.Marks.{mark_more, mark_to, unmarked}
+use Rattle.pauli.specs.declared.entries.Mark.{Mark}
+use Rattle.pauli.specs.declared.entries.Mark.TheVariants.{Unnamed, Once}
+use Rattle.pauli.specs.Inside.Marks.{mark_more, mark_to, is_twice, unmarked}
 use Rattle.pauli.specs.Questions.{smallest_duplicate, duplicate_question}
 use Rattle.pauli.proofs.Asking.{asked_yes}
-use Rattle.pauli.proofs.EntryMarks.{mark_ext, mark_is, mark_five, marked_letter}
+use Rattle.pauli.proofs.EntryMarks.{mark_ext, mark_is, mark_twice, marked_letter}
 use Rattle.pauli.proofs.Places.{first-is}
 use Rattle.pauli.proofs.Records.{phase-back, letter-back, letter-small}
 
@@ -58,7 +60,7 @@ module _ (e : List ℕ) (l k : ℕ) (even : length e ≡ 2 * entry_count e) wher
   qubit_new = ap (λ (n : ℕ). get_or longer (n + 1) 0) (sym even) ∙ get_or-append-add e (l ∷ k ∷ []) 1 0
 
 -- ---- marks
-abbrev mark_of : List ℕ → ℕ → ℕ
+abbrev mark_of : List ℕ → ℕ → Mark
 mark_of e q = mark_to (λ j. eqb (entry_qubit e j) q) (entry_letter e) (entry_count e)
 
 mark_longer : (e : List ℕ) (l k q : ℕ) → length e ≡ 2 * entry_count e
@@ -72,34 +74,35 @@ mark_longer e l k q even =
     old = mark_ext (entry_count e) _ _ _ _ (λ j h. ap (λ (x : ℕ). eqb x q) (qubit-old e l k even j h)) (letter-old e l k even)
 
 -- the mark of a letter
-abbrev letter_mark : Letter → ℕ
-letter_mark I = 0
-letter_mark X = suc (letter_byte X)
-letter_mark Z = suc (letter_byte Z)
-letter_mark Y = suc (letter_byte Y)
+abbrev letter_mark : Letter → Mark
+letter_mark I = Unnamed
+letter_mark X = Once (letter_byte X)
+letter_mark Z = Once (letter_byte Z)
+letter_mark Y = Once (letter_byte Y)
 
 -- what is known of the entries of n qubits
 record Listing (n : ℕ) (f : ℕ → Letter) (e : List ℕ) : Type 0 where
   even : length e ≡ 2 * entry_count e
   small : (j : ℕ) → j < entry_count e → entry_letter e j ≤ 3
-  mark : (q : ℕ) → mark_of e q ≡ cond (ltb q n) (letter_mark (f q)) 0
+  mark : (q : ℕ) → mark_of e q ≡ cond (ltb q n) (letter_mark (f q)) Unnamed
 
 -- the mark of qubit q, where qubit n is looked at too
-mark_below : (n q m : ℕ) → (q ≡ n → m ≡ 0) → cond (ltb q n) m 0 ≡ cond (ltb q (suc n)) m 0
+mark_below : (n q : ℕ) (m : Mark) → (q ≡ n → m ≡ Unnamed) → cond (ltb q n) m Unnamed ≡ cond (ltb q (suc n)) m Unnamed
 mark_below n q m h = elim (dec_lt q n) [
-  | yes l ↦ ap (λ b. cond b m 0) (lt-ltb q n l ∙ sym (lt-ltb q (suc n) (omega arith)))
+  | yes l ↦ ap (λ b. cond b m Unnamed) (lt-ltb q n l ∙ sym (lt-ltb q (suc n) (omega arith)))
   | no l ↦ elim (ℕ_discrete q n) [
-    | yes e ↦ ap (λ b. cond b m 0) (le-ltb q n (omega arith)) ∙ sym (h e) ∙ sym (ap (λ b. cond b m 0) (lt-ltb q (suc n) (omega arith)))
-    | no e ↦ ap (λ b. cond b m 0) (le-ltb q n (omega arith) ∙ sym (le-ltb q (suc n) (omega arith)))
+    | yes e ↦ ap (λ b. cond b m Unnamed) (le-ltb q n (omega arith)) ∙ sym (h e) ∙ sym (ap (λ b. cond b m Unnamed) (lt-ltb q (suc n) (omega arith)))
+    | no e ↦ ap (λ b. cond b m Unnamed) (le-ltb q n (omega arith) ∙ sym (le-ltb q (suc n) (omega arith)))
   ]
 ]
 
-mark_at_last : (n q l m : ℕ) → (q ≡ n → m ≡ suc l) → cond (eqb n q) (mark_more (cond (ltb q n) m 0) l) (cond (ltb q n) m 0) ≡ cond (ltb q (suc n)) m 0
+mark_at_last : (n q l : ℕ) (m : Mark) → (q ≡ n → m ≡ Once l)
+    → cond (eqb n q) (mark_more (cond (ltb q n) m Unnamed) l) (cond (ltb q n) m Unnamed) ≡ cond (ltb q (suc n)) m Unnamed
 unfolding mark_more
 mark_at_last n q l m h = elim (ℕ_discrete q n) [
-  | yes e ↦ ap₂ (λ a b. cond a (mark_more (cond b m 0) l) (cond b m 0)) (eq-eqb n q (sym e)) (le-ltb q n (omega arith))
-      ∙ sym (h e) ∙ sym (ap (λ b. cond b m 0) (lt-ltb q (suc n) (omega arith)))
-  | no e ↦ ap (λ a. cond a (mark_more (cond (ltb q n) m 0) l) (cond (ltb q n) m 0)) (ne_eqb n q (λ d. e (sym d))) ∙ mark_below n q m (λ d. absurd (e d))
+  | yes e ↦ ap₂ (λ a b. cond a (mark_more (cond b m Unnamed) l) (cond b m Unnamed)) (eq-eqb n q (sym e)) (le-ltb q n (omega arith))
+      ∙ sym (h e) ∙ sym (ap (λ b. cond b m Unnamed) (lt-ltb q (suc n) (omega arith)))
+  | no e ↦ ap (λ a. cond a (mark_more (cond (ltb q n) m Unnamed) l) (cond (ltb q n) m Unnamed)) (ne_eqb n q (λ d. e (sym d))) ∙ mark_below n q m (λ d. absurd (e d))
 ]
 
 listing_skip : {n : ℕ} {f : ℕ → Letter} {e : List ℕ} → f n ≡ I → Listing n f e → Listing (suc n) f e
@@ -109,11 +112,11 @@ listing_skip {n} {f} {e} h m = record {
   mark = λ q. m.mark q ∙ mark_below n q (letter_mark (f q)) (λ d. ap (λ (k : ℕ). letter_mark (f k)) d ∙ ap letter_mark h);
 }
 
-listing_one : {n : ℕ} {f : ℕ → Letter} {e : List ℕ} (l : ℕ) → l ≤ 3 → letter_mark (f n) ≡ suc l → Listing n f e → Listing (suc n) f (e ++ (l ∷ n ∷ []))
+listing_one : {n : ℕ} {f : ℕ → Letter} {e : List ℕ} (l : ℕ) → l ≤ 3 → letter_mark (f n) ≡ Once l → Listing n f e → Listing (suc n) f (e ++ (l ∷ n ∷ []))
 listing_one {n} {f} {e} l s h m = record {
   even = even-longer e l n m.even;
   small = λ j b. small j (omega (arith, count-longer e l n m.even));
-  mark = λ q. mark_longer e l n q m.even ∙ ap (λ (x : ℕ). cond (eqb n q) (mark_more x l) x) (m.mark q)
+  mark = λ q. mark_longer e l n q m.even ∙ ap (λ (x : Mark). cond (eqb n q) (mark_more x l) x) (m.mark q)
       ∙ mark_at_last n q l (letter_mark (f q)) (λ d. ap (λ (k : ℕ). letter_mark (f k)) d ∙ h);
 }
   where
@@ -131,20 +134,20 @@ listing_letter Y h m = listing_one (letter_byte Y) (letter-small Y) (ap letter_m
 
 no_entries : (f : ℕ → Letter) → Listing 0 f []
 unfolding entry_count mark_to
-no_entries f = record { even = refl; small = λ j b. absurd (not-suc-le-zero b); mark = λ q. sym (ap (λ b. cond b (letter_mark (f q)) 0) (le-ltb q 0 (omega arith))) }
+no_entries f = record { even = refl; small = λ j b. absurd (not-suc-le-zero b); mark = λ q. sym (ap (λ b. cond b (letter_mark (f q)) Unnamed) (le-ltb q 0 (omega arith))) }
 
 listing : (n : ℕ) (f : ℕ → Letter) → Listing n f (entries_to n f)
 listing zero f = no_entries f
 listing (suc n) f = listing_letter (f n) refl (listing n f)
 
 -- ---- the string that they name
-mark_small : (b : Bool) (l : Letter) → cond b (letter_mark l) 0 ≤ 4
-unfolding letter_byte
-mark_small true I = omega arith
-mark_small true X = omega arith
-mark_small true Z = omega arith
-mark_small true Y = omega arith
-mark_small false l = omega arith
+not_twice : (b : Bool) (l : Letter) → is_twice (cond b (letter_mark l) Unnamed) ≡ false
+unfolding is_twice
+not_twice true I = refl
+not_twice true X = refl
+not_twice true Z = refl
+not_twice true Y = refl
+not_twice false l = refl
 
 mark_letter : (l : Letter) → unmarked (letter_mark l) ≡ letter_byte l
 unfolding unmarked letter_byte
@@ -156,12 +159,7 @@ mark_letter Y = refl
 module _ {n : ℕ} {f : ℕ → Letter} {e : List ℕ} (m : Listing n f e) where
   once : (q : ℕ) → leb 2 (occurrences e q) ≡ false
   unfolding occurrences
-  once q =
-      sym (mark_five (entry_letter e) (entry_count e) _ _ _ m.small (mark_is (λ j. eqb (entry_qubit e j) q) (entry_letter e) (entry_count e)))
-      ∙ ne_eqb (mark_of e q) 5 (λ d. never (sym (m.mark q) ∙ d))
-    where
-      never : cond (ltb q n) (letter_mark (f q)) 0 ≡ 5 → ⊥
-      never d = omega (arith, mark_small (ltb q n) (f q))
+  once q = sym (mark_twice (mark_is (λ j. eqb (entry_qubit e j) q) (entry_letter e) (entry_count e))) ∙ ap is_twice (m.mark q) ∙ not_twice (ltb q n) (f q)
 
   named-once : duplicate_question e ≡ Ok tt
   unfolding duplicate_question smallest_duplicate
@@ -173,7 +171,7 @@ module _ {n : ℕ} {f : ℕ → Letter} {e : List ℕ} (m : Listing n f e) where
           never : qubits < qubits → ⊥
           never l = omega arith
 
-  letter-named : (p q : ℕ) → letter_byte ((entries_string p e).letters q) ≡ unmarked (cond (ltb q n) (letter_mark (f q)) 0)
+  letter-named : (p q : ℕ) → letter_byte ((entries_string p e).letters q) ≡ unmarked (cond (ltb q n) (letter_mark (f q)) Unnamed)
   unfolding entries_string entry_of occurrences
   letter-named p q =
       sym (marked_letter (entry_letter e) (entry_count e) _ _ _ m.small (leb-false 2 (occurrences e q) (once q)) (mark_is (λ j. eqb (entry_qubit e j) q) (entry_letter e) (entry_count e)))
@@ -194,6 +192,6 @@ entries_name n s h = string_ext _ s (entries-phase s.phase (entries_to n s.lette
   where
     letter-is : (q : ℕ) → (entries_string (phase_byte s.phase) (entries_to n s.letters)).letters q ≡ s.letters q
     letter-is q = letters_equal _ _ (letter-named (listing n s.letters) (phase_byte s.phase) q ∙ elim (dec_lt q n) [
-      | yes l ↦ ap (λ b. unmarked (cond b (letter_mark (s.letters q)) 0)) (lt-ltb q n l) ∙ mark_letter (s.letters q)
-      | no l ↦ ap (λ b. unmarked (cond b (letter_mark (s.letters q)) 0)) (le-ltb q n (omega arith)) ∙ mark_letter I ∙ sym (ap letter_byte (h q (omega arith)))
+      | yes l ↦ ap (λ b. unmarked (cond b (letter_mark (s.letters q)) Unnamed)) (lt-ltb q n l) ∙ mark_letter (s.letters q)
+      | no l ↦ ap (λ b. unmarked (cond b (letter_mark (s.letters q)) Unnamed)) (le-ltb q n (omega arith)) ∙ mark_letter I ∙ sym (ap letter_byte (h q (omega arith)))
     ])

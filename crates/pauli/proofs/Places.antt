@@ -79,45 +79,60 @@ unfolding first_place
 first_ext zero f g h = refl
 first_ext (suc n) f g h = ap₂ (λ b m. cond b zero (suc m)) (h zero (omega arith)) (first_ext n (λ k. f (suc k)) (λ k. g (suc k)) (λ i l. h (suc i) (omega arith)))
 
--- std's first index at which a test passes
+-- std's first index at which a test passes; d is read past the end
+module _ {A : Type 0} (d : A) (p : A → Bool) where
+  abbrev pub first_passing : List A → ℕ
+  first_passing xs = first_place (length xs) (λ k. p (get_or xs k d))
+
+  passing-is : (xs : List A) → position_or_len p xs ≡ first_passing xs
+  unfolding first_place
+  passing-is xs = sym (is_position_or_len first_passing p refl (λ y ys. ap (cond (p y) 0) (next (first_passing ys))) xs)
+    where
+      next : (n : ℕ) → suc n ≡ 1 + n
+      next n = omega arith
+
+  module _ (xs : List A) where
+    passing_cases : (position p xs ≡ None) × (length xs ≡ first_passing xs) ⊎ (position p xs ≡ Some (first_passing xs)) × (first_passing xs < length xs)
+    passing_cases = elim (cases_lt (position_or_len p xs) (length xs)) [
+      | inl l ↦ inr (ap (λ b. cond b (Some (position_or_len p xs)) None) (lt-ltb _ _ l) ∙ ap (λ (i : ℕ). Some i) (passing-is xs), omega (arith, passing-is xs))
+      | inr l ↦ inl (ap (λ b. cond b (Some (position_or_len p xs)) None) (le-ltb _ _ l), omega (arith, passing-is xs, prefix_len-le-length (λ x. not (p x)) xs))
+    ]
+
+    pub passing-at : {k : ℕ} → Some k ≡ position p xs → (k < length xs) × (k ≡ first_passing xs)
+    passing-at {k} e = elim passing_cases [
+      | inl n ↦ absurd (never (e ∙ n.0))
+      | inr s ↦ let is : k ≡ first_passing xs = cc (e ∙ s.0) in (omega (arith, s.1), is)
+    ]
+      where
+        never : {k : ℕ} → Some k ≡ None → ⊥
+        never e = cc
+
+    pub passing-none : None ≡ position p xs → length xs ≡ first_passing xs
+    passing-none e = elim passing_cases [ inl n ↦ n.1 | inr s ↦ absurd (never (e ∙ s.0)) ]
+      where
+        never : {k : ℕ} → None ≡ Some k → ⊥
+        never e = cc
+
+-- the same of bytes
 pub position-is : (p : ℕ → Bool) (xs : List ℕ) → position_or_len p xs ≡ first_place (length xs) (λ k. p (get_or xs k 0))
-unfolding first_place
-position-is p xs = sym (is_position_or_len (λ ys. first_place (length ys) (λ k. p (get_or ys k 0))) p refl (λ y ys. ap (cond (p y) 0) (next (first_place (length ys) (λ k. p (get_or ys k 0))))) xs)
-  where
-    next : (n : ℕ) → suc n ≡ 1 + n
-    next n = omega arith
+position-is = passing-is 0
 
 module _ (p : ℕ → Bool) (xs : List ℕ) where
   abbrev pub first_of : ℕ
   first_of = first_place (length xs) (λ k. p (get_or xs k 0))
 
-  position_cases : (position p xs ≡ None) × (length xs ≡ first_of) ⊎ (position p xs ≡ Some first_of) × (first_of < length xs)
-  position_cases = elim (cases_lt (position_or_len p xs) (length xs)) [
-    | inl l ↦ inr (ap (λ b. cond b (Some (position_or_len p xs)) None) (lt-ltb _ _ l) ∙ ap (λ (i : ℕ). Some i) (position-is p xs), omega (arith, position-is p xs))
-    | inr l ↦ inl (ap (λ b. cond b (Some (position_or_len p xs)) None) (le-ltb _ _ l), omega (arith, position-is p xs, prefix_len-le-length (λ x. not (p x)) xs))
-  ]
-
   pub position-at : {k : ℕ} → Some k ≡ position p xs → (k < length xs) × (k ≡ first_of)
-  position-at {k} e = elim position_cases [
-    | inl n ↦ absurd (never (e ∙ n.0))
-    | inr s ↦ let is : k ≡ first_of = cc (e ∙ s.0) in (omega (arith, s.1), is)
-  ]
-    where
-      never : {k : ℕ} → Some k ≡ None → ⊥
-      never e = cc
+  position-at = passing-at 0 p xs
 
   pub position-none : None ≡ position p xs → length xs ≡ first_of
-  position-none e = elim position_cases [ inl n ↦ n.1 | inr s ↦ absurd (never (e ∙ s.0)) ]
-    where
-      never : {k : ℕ} → None ≡ Some k → ⊥
-      never e = cc
+  position-none = passing-none 0 p xs
 
   pub position_iff : (r : Option ℕ) → r ≡ position p xs → SomeIff r (first_of < length xs) first_of
   position_iff (Some k) e = let at = position-at e in (omega (arith, at.0, at.1), at.1)
   position_iff None e = λ l. omega (arith, position-none e)
 
   pub position-or : (r : Option ℕ) {n : ℕ} → n ≡ unwrap_or r (length xs) → r ≡ position p xs → n ≡ first_of
-  position-or r h e = h ∙ ap (λ o. unwrap_or o (length xs)) e ∙ elim position_cases [
+  position-or r h e = h ∙ ap (λ o. unwrap_or o (length xs)) e ∙ elim (passing_cases 0 p xs) [
     | inl n ↦ ap (λ o. unwrap_or o (length xs)) n.0 ∙ n.1
     | inr s ↦ ap (λ o. unwrap_or o (length xs)) s.0
   ]

@@ -50,7 +50,7 @@ module _ {t : List ℕ} {h : Head} (head : HeadRead t h) where
         → q ≡ from_sparse_questions t room
     sparse_asked {m} read hq =
         first_done ascii (first_done (sym (answer-ok _ read).0 ∙ ap token_questions tokens_are) (hq
-        ∙ ap (λ q. q and_then room_question 129 room) (ap (λ (x : Marks). marks_question x.0) (sparse_marks read) ∙ marks_question_lem (sparse_entries t) (λ j l. sparse-small t j))))
+        ∙ ap (λ q. q and_then room_question 129 room) (ap (λ (x : Marks). marks_question x.0) (sparse_marks read) ∙ marks_question_lem (sparse_entries t))))
         ∙ chain_is t room
 
 -- ---- the record

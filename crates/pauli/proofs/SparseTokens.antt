@@ -4,10 +4,12 @@ use lib.ListN.{get_or-append}
 use Rattle.pauli.specs.declared.refusal.Refusal.{Refusal}
 use Rattle.pauli.specs.declared.sparse_reader.Entry.{Entry}
 use Rattle.pauli.specs.Answers.{Answer}
+use Rattle.pauli.specs.declared.entries.Mark.{Mark}
+use Rattle.pauli.specs.declared.entries.Mark.TheVariants.{Unnamed}
 use Rattle.pauli.specs.declared.entries.Marks.{Marks}
 use Rattle.pauli_group.specs.PauliString.{qubits}
 use Rattle.pauli.specs.Entries.{entry_count, entry_letter, entry_qubit}
-use Rattle.pauli.specs.Inside.Marks.{mark_more, marks_to, MarkFits}
+use Rattle.pauli.specs.Inside.Marks.{mark_more, marks_to}
 use Rattle.pauli.specs.Inside.Reading.{Skipped, WordAt, OneEntry, EntryRead, tokens_read}
 use Rattle.pauli.specs.Text.{is_space, leading_spaces, Token, tokens, token_questions, token_entries, attached_entry, apart_entry, has_index}
 use Rattle.pauli.proofs.EntryMarks.{no_marks, mark_ext, length-marks, mark_step}
@@ -57,9 +59,9 @@ marks_ext d e n hl hq =
     listed_ext qubits _ _ (λ k l. mark_ext n (λ j. eqb (entry_qubit d j) k) (λ j. eqb (entry_qubit e j) k) (entry_letter d) (entry_letter e) (λ j h. ap (λ (x : ℕ). eqb x k) (hq j h)) hl)
 
 marks-more : (e : List ℕ) (l q : ℕ) → length e ≡ entry_count e + entry_count e → q < 128
-    → set (marks_to e (entry_count e)) q (mark_more (get_or (marks_to e (entry_count e)) q 0) l) ≡ marks_to (e ++ (l ∷ q ∷ [])) (entry_count (e ++ (l ∷ q ∷ [])))
+    → set (marks_to e (entry_count e)) q (mark_more (get_or (marks_to e (entry_count e)) q Unnamed) l) ≡ marks_to (e ++ (l ∷ q ∷ [])) (entry_count (e ++ (l ∷ q ∷ [])))
 marks-more e l q even h =
-    ap (λ (m : List ℕ). set m q (mark_more (get_or m q 0) l)) (sym (marks_ext (more e l q even) e (entry_count e) (letter_kept e l q even) (qubit_kept e l q even)))
+    ap (λ (m : List Mark). set m q (mark_more (get_or m q Unnamed) l)) (sym (marks_ext (more e l q even) e (entry_count e) (letter_kept e l q even) (qubit_kept e l q even)))
     ∙ mark_step (more e l q even) (entry_count e) l q (sym (letter_new e l q even)) (sym (qubit_new e l q even)) h
     ∙ ap (marks_to (more e l q even)) (sym (count-more e l q even))
 
@@ -81,7 +83,7 @@ token_letters (w ∷ x ∷ ws) j = go (has_index w) (token_letters (x ∷ ws)) (
     go false h k = letters-cons _ _ (token_entries ws) (letter-small (get_or w.bytes 0 0)) k j
 
 -- ---- the tokens ws of t, read up to place k
-pub record Reading (ws : List Token) (t : List ℕ) (k : ℕ) (m : List ℕ) : Type 0 where
+pub record Reading (ws : List Token) (t : List ℕ) (k : ℕ) (m : List Mark) : Type 0 where
   pub seen : List ℕ
   pub within : k ≤ length t
   pub begins : k < length t → is_space (get_or t k 0) ≡ false
@@ -94,7 +96,7 @@ skip_tokens : (t : List ℕ) (n k : ℕ) → Skipped leading_spaces t n k → to
 skip_tokens t n k s =
     tokens_skip n (drop n t) ∙ ap (tokens (n + leading_spaces (drop n t))) (drop-drop (leading_spaces (drop n t)) n t) ∙ ap (λ (j : ℕ). tokens j (drop j t)) (sym s.is)
 
-pub reading-none : {t m : List ℕ} {s k : ℕ} → m ≡ replicate 128 0 → Skipped leading_spaces t s k → Reading (tokens s (drop s t)) t k m
+pub reading-none : {t : List ℕ} {m : List Mark} {s k : ℕ} → m ≡ replicate 128 Unnamed → Skipped leading_spaces t s k → Reading (tokens s (drop s t)) t k m
 unfolding entry_count
 reading-none {t} {m} {s} {k} z h = record {
   seen = [];
@@ -106,16 +108,16 @@ reading-none {t} {m} {s} {k} z h = record {
   entries = ap token_entries (skip_tokens t s k h);
 }
 
-pub reading-word : {ws : List Token} {t m : List ℕ} {k : ℕ} → Reading ws t k m → k < length t → WordAt t k
+pub reading-word : {ws : List Token} {t : List ℕ} {m : List Mark} {k : ℕ} → Reading ws t k m → k < length t → WordAt t k
 reading-word r l = record { within = l; byte = r.begins l }
 
 -- one entry more
-module _ {ws : List Token} {t m : List ℕ} {k : ℕ} {e : Entry} (r : Reading ws t k m) (read : EntryRead (tokens k (drop k t)) t k (Ok e)) where
+module _ {ws : List Token} {t : List ℕ} {m : List Mark} {k : ℕ} {e : Entry} (r : Reading ws t k m) (read : EntryRead (tokens k (drop k t)) t k (Ok e)) where
   one : OneEntry (tokens k (drop k t)) t k e
   one = read.one e refl
 
-  pub reading-fits : MarkFits e.letter e.qubit
-  reading-fits = record { letter = one.letter; place = one.place }
+  pub reading-below : e.qubit < 128
+  reading-below = one.place
 
   pub reading-next : e.next ≤ length t
   reading-next = one.within
@@ -123,23 +125,23 @@ module _ {ws : List Token} {t m : List ℕ} {k : ℕ} {e : Entry} (r : Reading w
   pub reading_less : {j : ℕ} → Skipped leading_spaces t e.next j → length t - j < length t - k
   reading_less s = omega (arith, one.onward, one.within, s.onward, s.within)
 
-  pub reading_step : {d : List ℕ} {j : ℕ} → d ≡ set m e.qubit (mark_more (get_or m e.qubit 0) e.letter) → Skipped leading_spaces t e.next j → Reading ws t j d
+  pub reading_step : {d : List Mark} {j : ℕ} → d ≡ set m e.qubit (mark_more (get_or m e.qubit Unnamed) e.letter) → Skipped leading_spaces t e.next j → Reading ws t j d
   reading_step {d} {j} ed s = record {
     seen = r.seen ++ (e.letter ∷ e.qubit ∷ []);
     within = s.within;
     begins = space-ends t e.next j s;
-    marks = ed ∙ ap (λ (x : List ℕ). set x e.qubit (mark_more (get_or x e.qubit 0) e.letter)) r.marks ∙ marks-more r.seen e.letter e.qubit r.even one.place;
+    marks = ed ∙ ap (λ (x : List Mark). set x e.qubit (mark_more (get_or x e.qubit Unnamed) e.letter)) r.marks ∙ marks-more r.seen e.letter e.qubit r.even one.place;
     even = even-more r.seen e.letter e.qubit r.even;
     questions = r.questions ∙ one.questions ∙ ap token_questions (skip_tokens t e.next j s);
     entries = r.entries ∙ ap (λ (x : List ℕ). r.seen ++ x) (one.entries ∙ ap (λ (w : List Token). e.letter ∷ e.qubit ∷ token_entries w) (skip_tokens t e.next j s))
         ∙ sym (append_assoc r.seen (e.letter ∷ e.qubit ∷ []) (token_entries (tokens j (drop j t))));
   }
 
-pub reading-refused : {ws : List Token} {t m : List ℕ} {k : ℕ} {x : Refusal} {o : Answer Marks} → Reading ws t k m → EntryRead (tokens k (drop k t)) t k (Err x)
+pub reading-refused : {ws : List Token} {t : List ℕ} {m : List Mark} {k : ℕ} {x : Refusal} {o : Answer Marks} → Reading ws t k m → EntryRead (tokens k (drop k t)) t k (Err x)
     → IsErrAnd o (λ e. e ≡ x) → o ≡ tokens_read ws
 reading-refused {x = x} r read h = answer-exit _ (sym (r.questions ∙ read.refused x refl)) h
 
-pub reading_done : {ws : List Token} {t m : List ℕ} {k : ℕ} → Reading ws t k m → length t ≤ k → Ok (record { 0 = m }) ≡ tokens_read ws
+pub reading_done : {ws : List Token} {t : List ℕ} {m : List Mark} {k : ℕ} → Reading ws t k m → length t ≤ k → Ok (record { 0 = m }) ≡ tokens_read ws
 unfolding token_questions token_entries
 reading_done {ws} {t} {m} {k} r l =
     let left : tokens k (drop k t) ≡ [] = no_more k (drop k t) (drop_of_length-le t l) in
@@ -147,13 +149,13 @@ reading_done {ws} {t} {m} {k} r l =
     let marks : m ≡ marks_to (token_entries ws) (entry_count (token_entries ws)) = r.marks ∙ ap (λ (x : List ℕ). marks_to x (entry_count x)) (sym all) in
     answer-done (sym (r.questions ∙ ap token_questions left)) (λ i. record { 0 = marks i })
 
-pub reading-length : {ws : List Token} {t d : List ℕ} {k : ℕ} → Reading ws t k d → length d ≡ 128
+pub reading-length : {ws : List Token} {t : List ℕ} {d : List Mark} {k : ℕ} → Reading ws t k d → length d ≡ 128
 reading-length r = ap length r.marks ∙ length-marks r.seen _
 
 pub ruleset readings = (
   reading-none,
   reading-word,
-  reading-fits,
+  reading-below,
   reading-next,
   reading_less,
   reading_step,

@@ -1,7 +1,8 @@
 // Entries, byte pairs (letter, qubit), read into a mark for each qubit, so that a duplicate is found before anything is written. Ports
 // `with_phase_and_paulis` of pauli_string.rs of PECOS, changed: Copyright 2024 The PECOS Developers, Apache License, Version 2.0.
-ghost use Rattle.std.specs.Prelude.{◌≡◌, ◌∷◌, ◌++◌, length, drop, replicate, slice_index, slice_set};
-ghost use Rattle.pauli.specs.Inside.Marks.{mark_more, marks_of, MarkFits, EntriesFit, marks_question, letters_marked, RecordFits, Paired};
+ghost use Rattle.std.specs.Prelude.{◌≡◌, ◌<◌, ◌∷◌, ◌++◌, length, drop, replicate, slice_index_or, slice_set};
+ghost use Rattle.pauli.specs.declared.entries.Mark.TheVariants.{Unnamed};
+ghost use Rattle.pauli.specs.Inside.Marks.{mark_more, unmarked, marks_of, EntriesFit, marks_question, letters_marked, RecordFits, Paired};
 ghost use Rattle.pauli.specs.Questions.{even_question, entry_letters_question, entry_qubits_question, entry_questions, room_question, ◌and_then◌};
 
 use crate::questions::{check_byte, check_room};
@@ -60,33 +61,56 @@ pub(crate) fn check_entries(phase: u8, entries: &[u8]) -> Result<(), Refusal>
     check_entry_qubits(entries)
 }
 
-// The mark of a qubit that more entries than one name.
-const TWICE: u8 = 5;
-
-// A mark for each qubit: 0 where no entry names it, 1 + its letter where one does, TWICE where more do. Bytes, and no enum: no call
-// may get slower, and to mark three entries, look for a mark of two and write the letters took 565 instructions, with an enum 999.
+// What the entries read so far say of a qubit.
 #[derive(Clone, Copy)]
-pub(crate) struct Marks([u8; QUBITS]);
+pub(crate) enum Mark {
+    Unnamed,
+    Once { letter: u8 },
+    Twice,
+}
+
+impl Mark {
+    // After one more entry, with this letter.
+    #[tactic(auto, unfolding(crate::specs::Inside::Marks::mark_more))]
+    fn more(self, letter: u8) -> Mark
+        ensures { result ≡ mark_more self letter }
+    {
+        match self {
+            Mark::Unnamed => Mark::Once { letter },
+            Mark::Once { .. } | Mark::Twice => Mark::Twice,
+        }
+    }
+
+    // The letter that it stands for: I but where one entry names the qubit.
+    #[tactic(auto, unfolding(crate::specs::Inside::Marks::unmarked))]
+    fn letter(self) -> u8
+        ensures { result ≡ unmarked self }
+    {
+        match self {
+            Mark::Once { letter } => letter,
+            Mark::Unnamed | Mark::Twice => 0,
+        }
+    }
+}
+
+// A mark for each qubit.
+#[derive(Clone, Copy)]
+pub(crate) struct Marks([Mark; QUBITS]);
 
 impl Marks {
     // No entry marked.
     pub(crate) fn new() -> Marks
-        ensures { result.0 ≡ replicate 128 0 }
+        ensures { result.0 ≡ replicate 128 Unnamed }
     {
-        Marks([0; QUBITS])
+        Marks([Mark::Unnamed; QUBITS])
     }
 
     // One more entry with this letter on this qubit.
-    #[tactic(auto, using(crate::proofs::Asking::by_tests, crate::proofs::Asking::by_questions), unfolding(crate::specs::Inside::Marks::mark_more))]
     pub(crate) fn mark(&mut self, letter: u8, qubit: usize)
-        requires { MarkFits letter qubit }
-        ensures { self.new.0 ≡ slice_set self.old.0 qubit (mark_more (slice_index self.old.0 qubit) letter) }
+        requires { qubit < 128 }
+        ensures { self.new.0 ≡ slice_set self.old.0 qubit (mark_more (slice_index_or self.old.0 qubit Unnamed) letter) }
     {
-        self.0[qubit] = if self.0[qubit] == 0 {
-            letter + 1
-        } else {
-            TWICE
-        };
+        self.0[qubit] = self.0[qubit].more(letter);
     }
 
     // All entries marked.
@@ -105,7 +129,7 @@ impl Marks {
     fn check_once(&self) -> Result<(), Refusal>
         ensures { result ≡ marks_question self.now.0 }
     {
-        match self.0.iter().position(|m| *m == TWICE) {
+        match self.0.iter().position(|m| matches!(m, Mark::Twice)) {
             Some(qubit) => Err(Refusal::Duplicate { qubit }),
             None => Ok(()),
         }
@@ -127,7 +151,7 @@ impl Marks {
     {
         // By place: of what is written through a zip of `iter_mut` a proof knows the length alone.
         for (q, letter) in row.iter_mut().enumerate() {
-            *letter = self.0[q].saturating_sub(1);
+            *letter = self.0[q].letter();
         }
     }
 

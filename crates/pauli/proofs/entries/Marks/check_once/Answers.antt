@@ -1,18 +1,21 @@
 -- `entries::Marks::check_once` meets its contract.
-use Rattle.std.proofs.Common.{eqb, rules, tests}
+use Rattle.std.proofs.Common.{rules, tests}
 use Rattle.std.proofs.lemmas.Iterator.{YieldsList-from_slice}
 use Rattle.std.proofs.lemmas.Iterator.Search.{position_from_yields_List}
+use Rattle.pauli.specs.Inside.Marks.{is_twice}
 use Rattle.pauli.proofs.EntryStrings.{marks-twice, marks-once}
 use Rattle.pauli.proofs.entries.Marks.check_once.Goals as goal
 
 pub returns-in-Some : goal.returns-in-Some
+unfolding is_twice
 returns-in-Some c =
     marks-twice
     _ (search rules)
-    (position_from_yields_List (λ x. eqb x 5) _ _ _ c.in-Some.ensures.ran (YieldsList-from_slice c.args.self.now.0 cc) (λ x b q k. search (rules, tests)))
+    (position_from_yields_List is_twice _ _ _ c.in-Some.ensures.ran (YieldsList-from_slice c.args.self.now.0 cc) (λ x b q k. search (rules, tests)))
 
 pub returns-in-None : goal.returns-in-None
+unfolding is_twice
 returns-in-None c =
     marks-once
     _ (search rules)
-    (position_from_yields_List (λ x. eqb x 5) _ _ _ c.in-None.ensures.ran (YieldsList-from_slice c.args.self.now.0 cc) (λ x b q k. search (rules, tests)))
+    (position_from_yields_List is_twice _ _ _ c.in-None.ensures.ran (YieldsList-from_slice c.args.self.now.0 cc) (λ x b q k. search (rules, tests)))
