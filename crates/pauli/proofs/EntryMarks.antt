@@ -11,13 +11,12 @@ use Rattle.pauli.specs.Places.{first_place}
 use Rattle.pauli.specs.Layout.{letter_of, letter_byte}
 use Rattle.pauli.specs.Entries.{entry_count, entry_letter, entry_qubit, occurrences, entry_of, entries_string}
 use Rattle.pauli.specs.declared.entries.Mark.{Mark}
-use Rattle.pauli.specs.declared.entries.Mark.TheVariants.{Unnamed, Once, Twice}
+use Rattle.pauli.specs.declared.entries.Mark.TheVariants.{Unnamed, Twice}
 use Rattle.pauli.specs.declared.entries.Marks.{Marks}
-use Rattle.pauli.specs.Inside.Marks.{mark_more, mark_to, marks_to, is_twice, first_twice, unmarked, EntriesFit, marks_of, Paired}
+use Rattle.pauli.specs.Inside.Marks.{mark_once, mark_more, mark_to, marks_to, is_twice, first_twice, unmarked, EntriesFit, marks_of, Paired}
 use Rattle.pauli.specs.Questions.{byte_question, even_question, first_bad_entry, entry_letters_question, first_high_entry, entry_qubits_question, entry_questions, smallest_duplicate}
 use Rattle.pauli.proofs.Asking.{asked_yes, asked_no, ask_done, done_first, done_second}
 use Rattle.pauli.proofs.Places.{NoneBefore, none_start, none_more, none_found, none_left_lem, length-listed, get_d_listed, first_le, first-is, first-before, first_has}
-use Rattle.pauli.proofs.Records.{letter_there}
 
 -- ---- the questions
 pub entries-even : (e : List ℕ) → length e % 2 ≡ 0 → Ok tt ≡ even_question e
@@ -208,7 +207,7 @@ pub ruleset marks = (marking_none, marking_below, marking_step, marking_length, 
 -- ---- what a mark says: how many entries name the qubit, and the letter of the first
 pub data MarkIs (letter : ℕ → ℕ) (n count first : ℕ) (mark : Mark) : Type 0 where
   unnamed : count ≡ 0 → first ≡ n → mark ≡ Unnamed → MarkIs letter n count first mark
-  once : count ≡ 1 → first < n → mark ≡ Once (letter first) → MarkIs letter n count first mark
+  once : count ≡ 1 → first < n → mark ≡ mark_once (letter first) → MarkIs letter n count first mark
   twice : 2 ≤ count → mark ≡ Twice → MarkIs letter n count first mark
 
 -- the first place, where one place more is looked at
@@ -235,13 +234,19 @@ count_unnamed : (n : ℕ) (f : ℕ → Bool) → f n ≡ false → count_to (suc
 unfolding count_to
 count_unnamed n f h = ap (λ b. count_to n f + cond b 1 0) h
 
-mark_first : {m : Mark} (l : ℕ) → m ≡ Unnamed → mark_more m l ≡ Once l
+mark_first : {m : Mark} (l : ℕ) → m ≡ Unnamed → mark_more m l ≡ mark_once l
 unfolding mark_more
 mark_first l e = ap (λ x. mark_more x l) e
 
-mark_second : {m : Mark} {k : ℕ} (l : ℕ) → m ≡ Once k → mark_more m l ≡ Twice
-unfolding mark_more
-mark_second l e = ap (λ x. mark_more x l) e
+more_than_once : (k l : ℕ) → mark_more (mark_once k) l ≡ Twice
+unfolding mark_once mark_more
+more_than_once zero l = refl
+more_than_once (suc zero) l = refl
+more_than_once (suc (suc zero)) l = refl
+more_than_once (suc (suc (suc k))) l = refl
+
+mark_second : {m : Mark} (k l : ℕ) → m ≡ mark_once k → mark_more m l ≡ Twice
+mark_second k l e = ap (λ x. mark_more x l) e ∙ more_than_once k l
 
 mark_again : {m : Mark} (l : ℕ) → m ≡ Twice → mark_more m l ≡ Twice
 unfolding mark_more
@@ -254,15 +259,16 @@ module _ (names : ℕ → Bool) (letter : ℕ → ℕ) where
   named : (n : ℕ) → names n ≡ true → State n → State (suc n)
   named n h (unnamed c f m) =
       let new : n ≡ first_place (suc n) names = first_new n names f h in
-      once (omega (arith, count-named n names h)) (omega arith) (mark_named names letter n h ∙ mark_first (letter n) m ∙ ap (λ (j : ℕ). Once (letter j)) new)
-  named n h (once c f m) = twice (omega (arith, count-named n names h)) (mark_named names letter n h ∙ mark_second (letter n) m)
+      once (omega (arith, count-named n names h)) (omega arith) (mark_named names letter n h ∙ mark_first (letter n) m ∙ ap (λ (j : ℕ). mark_once (letter j)) new)
+  named n h (once c f m) =
+      twice (omega (arith, count-named n names h)) (mark_named names letter n h ∙ mark_second (letter (first_place n names)) (letter n) m)
   named n h (twice c m) = twice (omega (arith, count-named n names h)) (mark_named names letter n h ∙ mark_again (letter n) m)
 
   not_named : (n : ℕ) → names n ≡ false → State n → State (suc n)
   not_named n h (unnamed c f m) = unnamed (omega (arith, count_unnamed n names h)) (sym (first-none n names f h)) (mark_unnamed names letter n h ∙ m)
   not_named n h (once c f m) =
       let kept : first_place n names ≡ first_place (suc n) names = first_kept n names f in
-      once (omega (arith, count_unnamed n names h)) (omega arith) (mark_unnamed names letter n h ∙ m ∙ ap (λ (j : ℕ). Once (letter j)) kept)
+      once (omega (arith, count_unnamed n names h)) (omega arith) (mark_unnamed names letter n h ∙ m ∙ ap (λ (j : ℕ). mark_once (letter j)) kept)
   not_named n h (twice c m) = twice (omega (arith, count_unnamed n names h)) (mark_unnamed names letter n h ∙ m)
 
   no_state : State 0
@@ -278,21 +284,35 @@ module _ (names : ℕ → Bool) (letter : ℕ → ℕ) where
       next false e m = not_named n e m
 
 -- ---- the mark of a qubit that more entries than one name
+pub once-not_twice : (k : ℕ) → is_twice (mark_once k) ≡ false
+unfolding mark_once is_twice
+once-not_twice zero = refl
+once-not_twice (suc zero) = refl
+once-not_twice (suc (suc zero)) = refl
+once-not_twice (suc (suc (suc k))) = refl
+
 pub mark_twice : {letter : ℕ → ℕ} {n count first : ℕ} {mark : Mark} → MarkIs letter n count first mark → is_twice mark ≡ leb 2 count
 unfolding is_twice
 mark_twice (unnamed c f m) = ap is_twice m ∙ sym (ap (λ (x : ℕ). leb 2 x) c)
-mark_twice (once c f m) = ap is_twice m ∙ sym (ap (λ (x : ℕ). leb 2 x) c)
+mark_twice {letter} {first = first} (once c f m) = ap is_twice m ∙ once-not_twice (letter first) ∙ sym (ap (λ (x : ℕ). leb 2 x) c)
 mark_twice {count = count} (twice c m) = ap is_twice m ∙ sym (le-leb 2 count c)
 
+pub once-letter : (k : ℕ) → unmarked (mark_once k) ≡ letter_byte (letter_of k)
+unfolding mark_once unmarked letter_byte letter_of
+once-letter zero = refl
+once-letter (suc zero) = refl
+once-letter (suc (suc zero)) = refl
+once-letter (suc (suc (suc k))) = refl
+
 -- a mark of at most one entry holds its letter, or I
-pub marked_letter : (letter : ℕ → ℕ) (n count first : ℕ) (mark : Mark) → ((j : ℕ) → j < n → letter j ≤ 3) → count < 2 → MarkIs letter n count first mark
+pub marked_letter : (letter : ℕ → ℕ) (n count first : ℕ) (mark : Mark) → count < 2 → MarkIs letter n count first mark
     → unmarked mark ≡ letter_byte (cond (ltb first n) (letter_of (letter first)) I)
 unfolding unmarked letter_byte
-marked_letter letter n count first mark small h (unnamed c f m) =
+marked_letter letter n count first mark h (unnamed c f m) =
     ap unmarked m ∙ sym (ap (λ b. letter_byte (cond b (letter_of (letter first)) I)) (le-ltb first n (omega arith)))
-marked_letter letter n count first mark small h (once c f m) =
-    ap unmarked m ∙ sym (ap (λ b. letter_byte (cond b (letter_of (letter first)) I)) (lt-ltb first n f) ∙ letter_there (letter first) (small first f))
-marked_letter letter n count first mark small h (twice c m) = absurd (omega arith)
+marked_letter letter n count first mark h (once c f m) =
+    ap unmarked m ∙ once-letter (letter first) ∙ sym (ap (λ b. letter_byte (cond b (letter_of (letter first)) I)) (lt-ltb first n f))
+marked_letter letter n count first mark h (twice c m) = absurd (omega arith)
 
 first_ext : (n : ℕ) (f g : ℕ → Bool) → ((k : ℕ) → k < n → f k ≡ g k) → first_place n f ≡ first_place n g
 first_ext n f g h =
@@ -316,9 +336,9 @@ module _ (e : List ℕ) where
   unfolding smallest_duplicate qubits
   letter_marked q h none = leb-false 2 (occurrences e q) (first-before 128 (λ k. leb 2 (occurrences e k)) q (omega arith))
 
-  pub letter-byte : ((j : ℕ) → j < entry_count e → entry_letter e j ≤ 3) → (p q : ℕ) → q < 128 → 128 ≤ smallest_duplicate e
+  pub letter-byte : (p q : ℕ) → q < 128 → 128 ≤ smallest_duplicate e
       → unmarked (get_or (marks_to e (entry_count e)) q Unnamed) ≡ letter_byte ((entries_string p e).letters q)
   unfolding entries_string entry_of occurrences
-  letter-byte small p q h none =
+  letter-byte p q h none =
       ap unmarked (mark_at e (entry_count e) q h)
-      ∙ marked_letter (entry_letter e) (entry_count e) _ _ _ small (letter_marked q h none) (mark_is (λ j. eqb (entry_qubit e j) q) (entry_letter e) (entry_count e))
+      ∙ marked_letter (entry_letter e) (entry_count e) _ _ _ (letter_marked q h none) (mark_is (λ j. eqb (entry_qubit e j) q) (entry_letter e) (entry_count e))

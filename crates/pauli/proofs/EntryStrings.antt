@@ -1,6 +1,7 @@
 -- Strings made from entries: the questions in their order, and the record that is written from the marks.
 use Rattle.std.proofs.Common.{◌≡◌, ℕ, ◌-◌, ◌<◌, ◌≤◌, leb, List, [], ◌∷◌, ◌++◌, length, get_or, take, drop, set, sym, refl, ap, ◌∙◌, ap₂, append-nil, not-suc-le-zero, arith, length-drop, drop_of_length-le, length-take, take_all, eqb, rules, le-leb, leb-true, Some, None, Ok, Err, true}
 use Rattle.std.specs.List.{position}
+use Rattle.std.proofs.lemmas.List.{get_or_default}
 use borrow.Author.Tests.{lt-leb}
 use borrow.Rule.Slice.PartMut.{put_mid}
 use Rattle.pauli_group.specs.PauliString.{qubits}
@@ -12,13 +13,13 @@ use Rattle.pauli.specs.declared.entries.Marks.{Marks}
 use Rattle.pauli.specs.Answers.{written, Written, Outcome}
 use Rattle.pauli.specs.Places.{listed}
 use Rattle.pauli.specs.Layout.{letter_byte, encode_string, string_record}
-use Rattle.pauli.specs.Entries.{entry_count, entry_letter, entries_string}
+use Rattle.pauli.specs.Entries.{entry_count, entries_string}
 use Rattle.pauli.specs.Inside.Marks.{marks_to, is_twice, first_twice, unmarked, EntriesFit, marks_of, marks_question, letters_marked, RecordFits}
 use Rattle.pauli.specs.Questions.{ask, ◌and_then◌, byte_question, entry_questions, smallest_duplicate, duplicate_question, room_question, with_phase_questions}
 use Rattle.pauli.specs.Strings.{entries_record}
 use Rattle.pauli.proofs.Answers.{written-done}
 use Rattle.pauli.proofs.Asking.{first_done, first_not, asked_yes, asked_no, ask_done, done_first, done_second, byte_small, room-is, record-bytes}
-use Rattle.pauli.proofs.EntryMarks.{letters-small, qubits-below, first_duplicate, letter-byte}
+use Rattle.pauli.proofs.EntryMarks.{qubits-below, first_duplicate, letter-byte}
 use Rattle.pauli.proofs.Places.{passing-at, passing-none, length-listed, get_d_listed, listed_ext, Filled, filled_none, filled_step, filled_length, filled_room, filled_all}
 use Rattle.pauli.proofs.Records.{phase_there}
 
@@ -56,9 +57,9 @@ read_asked p e room h em hs =
     first_done h (hs ∙ ap (λ q. q and_then room_question 129 room) (ap (λ (m : Marks). marks_question m.0) em ∙ marks_question_lem e))
 
 -- ---- the letters written from the marks
-pub letter_marked : (n : ℕ) (m : List Mark) (i : ℕ) {x : ℕ} → x ≡ unmarked (get_or m i Unnamed) → i < n → x ≡ get_or (letters_marked n m) i 0
+pub letter_marked : (n : ℕ) (m : List Mark) (i : ℕ) (d : Mark) {x : ℕ} → x ≡ unmarked (get_or m i d) → i < length m → i < n → x ≡ get_or (letters_marked n m) i 0
 unfolding letters_marked
-letter_marked n m i e h = e ∙ sym (get_d_listed n _ i 0 h)
+letter_marked n m i d e b h = e ∙ ap unmarked (get_or_default m i d Unnamed b) ∙ sym (get_d_listed n _ i 0 h)
 
 pub length_marked : (n : ℕ) (m : List Mark) → length (letters_marked n m) ≡ n
 unfolding letters_marked
@@ -82,7 +83,7 @@ put_record [] ys p h = absurd (not-suc-le-zero h)
 put_record (x ∷ d) ys p h = refl
 
 -- ---- the marks of entries that name each qubit once hold their record
-module _ (p : ℕ) (e : List ℕ) (m : List Mark) (small : p ≤ 3) (letters : (j : ℕ) → j < entry_count e → entry_letter e j ≤ 3) (named : duplicate_question e ≡ Ok tt)
+module _ (p : ℕ) (e : List ℕ) (m : List Mark) (small : p ≤ 3) (named : duplicate_question e ≡ Ok tt)
     (marks : m ≡ marks_to e (entry_count e)) where
   once : 128 ≤ smallest_duplicate e
   unfolding duplicate_question qubits
@@ -90,7 +91,7 @@ module _ (p : ℕ) (e : List ℕ) (m : List Mark) (small : p ≤ 3) (letters : (
 
   letters_are : letters_marked 128 m ≡ listed 128 (λ q. letter_byte ((entries_string p e).letters q))
   unfolding letters_marked
-  letters_are = listed_ext 128 _ _ (λ q l. ap (λ (x : List Mark). unmarked (get_or x q Unnamed)) marks ∙ letter-byte e letters p q l once)
+  letters_are = listed_ext 128 _ _ (λ q l. ap (λ (x : List Mark). unmarked (get_or x q Unnamed)) marks ∙ letter-byte e p q l once)
 
   marked_record : p ∷ letters_marked 128 m ≡ string_record (entries_string p e)
   unfolding string_record encode_string entries_string qubits
@@ -125,9 +126,9 @@ module _ (p : ℕ) (e : List ℕ) {m : Marks} (d : List ℕ) (all : Ok tt ≡ wi
   room-asked = done_second (duplicate_question e) _ (done_second (entry_questions p e) _ asked)
 
   pub marks_fit : RecordFits d
-  marks_fit = marked_fit p e m.0 (byte_small p phase-asked) (letters-small p e entries-asked) named-asked marks-are d (room-is 129 (length d) room-asked)
+  marks_fit = marked_fit p e m.0 (byte_small p phase-asked) named-asked marks-are d (room-is 129 (length d) room-asked)
 
   pub entries_written : {out : List ℕ} → out ≡ p ∷ letters_marked 128 m.0 ++ drop 129 d → Written (with_phase_questions p e (length d)) (entries_record p e) d out (Ok tt)
   unfolding entries_record
   entries_written w =
-      written-done all (marked_bytes p e m.0 (byte_small p phase-asked) (letters-small p e entries-asked) named-asked marks-are d w)
+      written-done all (marked_bytes p e m.0 (byte_small p phase-asked) named-asked marks-are d w)

@@ -1,5 +1,5 @@
 -- The entries that name the letters of a string other than I, by rising qubit: each qubit is named once, and they name the string.
-use Rattle.std.proofs.Common.{◌≡◌, ℕ, zero, suc, ◌+◌, ◌*◌, ◌/◌, ◌<◌, ◌≤◌, Bool, true, false, cond, eqb, ltb, leb, List, [], ◌∷◌, ◌++◌, length, get_or, sym, refl, ap, ◌∙◌, subst, ap₂, append-nil, not-suc-le-zero, arith, length-append, get_or-append-add, le-ltb, lt-ltb, eq-eqb, ne_eqb, le-leb, leb-false, Ok}
+use Rattle.std.proofs.Common.{◌≡◌, ℕ, zero, suc, ◌+◌, ◌*◌, ◌/◌, ◌<◌, Bool, true, false, cond, eqb, ltb, leb, List, [], ◌∷◌, ◌++◌, length, get_or, sym, refl, ap, ◌∙◌, subst, ap₂, append-nil, arith, length-append, get_or-append-add, le-ltb, lt-ltb, eq-eqb, ne_eqb, le-leb, leb-false, Ok}
 use native.Mathlib.Decide.{ℕ_discrete, dec_lt}
 use lib.ListN.{get_or-append}
 use lib.Seq.{get_or_at}
@@ -12,13 +12,13 @@ use Rattle.pauli.specs.Places.{first_place}
 use Rattle.pauli.specs.Layout.{phase_byte, letter_byte, letter_of}
 use Rattle.pauli.specs.Entries.{entry_count, entry_letter, entry_qubit, occurrences, entry_of, entries_string}
 use Rattle.pauli.specs.declared.entries.Mark.{Mark}
-use Rattle.pauli.specs.declared.entries.Mark.TheVariants.{Unnamed, Once}
-use Rattle.pauli.specs.Inside.Marks.{mark_more, mark_to, is_twice, unmarked}
+use Rattle.pauli.specs.declared.entries.Mark.TheVariants.{Unnamed}
+use Rattle.pauli.specs.Inside.Marks.{mark_once, mark_more, mark_to, is_twice, unmarked}
 use Rattle.pauli.specs.Questions.{smallest_duplicate, duplicate_question}
 use Rattle.pauli.proofs.Asking.{asked_yes}
 use Rattle.pauli.proofs.EntryMarks.{mark_ext, mark_is, mark_twice, marked_letter}
 use Rattle.pauli.proofs.Places.{first-is}
-use Rattle.pauli.proofs.Records.{phase-back, letter-back, letter-small}
+use Rattle.pauli.proofs.Records.{phase-back, letter-back}
 
 -- the entry of one qubit, and those of the first n
 abbrev pub entry_at : Letter → ℕ → List ℕ
@@ -76,14 +76,13 @@ mark_longer e l k q even =
 -- the mark of a letter
 abbrev letter_mark : Letter → Mark
 letter_mark I = Unnamed
-letter_mark X = Once (letter_byte X)
-letter_mark Z = Once (letter_byte Z)
-letter_mark Y = Once (letter_byte Y)
+letter_mark X = mark_once (letter_byte X)
+letter_mark Z = mark_once (letter_byte Z)
+letter_mark Y = mark_once (letter_byte Y)
 
 -- what is known of the entries of n qubits
 record Listing (n : ℕ) (f : ℕ → Letter) (e : List ℕ) : Type 0 where
   even : length e ≡ 2 * entry_count e
-  small : (j : ℕ) → j < entry_count e → entry_letter e j ≤ 3
   mark : (q : ℕ) → mark_of e q ≡ cond (ltb q n) (letter_mark (f q)) Unnamed
 
 -- the mark of qubit q, where qubit n is looked at too
@@ -96,7 +95,7 @@ mark_below n q m h = elim (dec_lt q n) [
   ]
 ]
 
-mark_at_last : (n q l : ℕ) (m : Mark) → (q ≡ n → m ≡ Once l)
+mark_at_last : (n q l : ℕ) (m : Mark) → (q ≡ n → m ≡ mark_once l)
     → cond (eqb n q) (mark_more (cond (ltb q n) m Unnamed) l) (cond (ltb q n) m Unnamed) ≡ cond (ltb q (suc n)) m Unnamed
 unfolding mark_more
 mark_at_last n q l m h = elim (ℕ_discrete q n) [
@@ -108,33 +107,25 @@ mark_at_last n q l m h = elim (ℕ_discrete q n) [
 listing_skip : {n : ℕ} {f : ℕ → Letter} {e : List ℕ} → f n ≡ I → Listing n f e → Listing (suc n) f e
 listing_skip {n} {f} {e} h m = record {
   even = m.even;
-  small = m.small;
   mark = λ q. m.mark q ∙ mark_below n q (letter_mark (f q)) (λ d. ap (λ (k : ℕ). letter_mark (f k)) d ∙ ap letter_mark h);
 }
 
-listing_one : {n : ℕ} {f : ℕ → Letter} {e : List ℕ} (l : ℕ) → l ≤ 3 → letter_mark (f n) ≡ Once l → Listing n f e → Listing (suc n) f (e ++ (l ∷ n ∷ []))
-listing_one {n} {f} {e} l s h m = record {
+listing_one : {n : ℕ} {f : ℕ → Letter} {e : List ℕ} (l : ℕ) → letter_mark (f n) ≡ mark_once l → Listing n f e → Listing (suc n) f (e ++ (l ∷ n ∷ []))
+listing_one {n} {f} {e} l h m = record {
   even = even-longer e l n m.even;
-  small = λ j b. small j (omega (arith, count-longer e l n m.even));
   mark = λ q. mark_longer e l n q m.even ∙ ap (λ (x : Mark). cond (eqb n q) (mark_more x l) x) (m.mark q)
       ∙ mark_at_last n q l (letter_mark (f q)) (λ d. ap (λ (k : ℕ). letter_mark (f k)) d ∙ h);
 }
-  where
-    small : (j : ℕ) → j < suc (entry_count e) → entry_letter (e ++ (l ∷ n ∷ [])) j ≤ 3
-    small j b = elim (ℕ_discrete j (entry_count e)) [
-      | yes d ↦ omega (arith, ap (entry_letter (e ++ (l ∷ n ∷ []))) d, letter_new e l n m.even)
-      | no d ↦ let k : j < entry_count e = omega arith in omega (arith, letter-old e l n m.even j k, m.small j k)
-    ]
 
 listing_letter : {n : ℕ} {f : ℕ → Letter} {e : List ℕ} (l : Letter) → f n ≡ l → Listing n f e → Listing (suc n) f (e ++ entry_at l n)
 listing_letter {n} {f} {e} I h m = subst (Listing (suc n) f) (sym (append-nil e)) (listing_skip h m)
-listing_letter X h m = listing_one (letter_byte X) (letter-small X) (ap letter_mark h) m
-listing_letter Z h m = listing_one (letter_byte Z) (letter-small Z) (ap letter_mark h) m
-listing_letter Y h m = listing_one (letter_byte Y) (letter-small Y) (ap letter_mark h) m
+listing_letter X h m = listing_one (letter_byte X) (ap letter_mark h) m
+listing_letter Z h m = listing_one (letter_byte Z) (ap letter_mark h) m
+listing_letter Y h m = listing_one (letter_byte Y) (ap letter_mark h) m
 
 no_entries : (f : ℕ → Letter) → Listing 0 f []
 unfolding entry_count mark_to
-no_entries f = record { even = refl; small = λ j b. absurd (not-suc-le-zero b); mark = λ q. sym (ap (λ b. cond b (letter_mark (f q)) Unnamed) (le-ltb q 0 (omega arith))) }
+no_entries f = record { even = refl; mark = λ q. sym (ap (λ b. cond b (letter_mark (f q)) Unnamed) (le-ltb q 0 (omega arith))) }
 
 listing : (n : ℕ) (f : ℕ → Letter) → Listing n f (entries_to n f)
 listing zero f = no_entries f
@@ -142,7 +133,7 @@ listing (suc n) f = listing_letter (f n) refl (listing n f)
 
 -- ---- the string that they name
 not_twice : (b : Bool) (l : Letter) → is_twice (cond b (letter_mark l) Unnamed) ≡ false
-unfolding is_twice
+unfolding mark_once is_twice letter_byte
 not_twice true I = refl
 not_twice true X = refl
 not_twice true Z = refl
@@ -150,7 +141,7 @@ not_twice true Y = refl
 not_twice false l = refl
 
 mark_letter : (l : Letter) → unmarked (letter_mark l) ≡ letter_byte l
-unfolding unmarked letter_byte
+unfolding mark_once unmarked letter_byte
 mark_letter I = refl
 mark_letter X = refl
 mark_letter Z = refl
@@ -174,7 +165,7 @@ module _ {n : ℕ} {f : ℕ → Letter} {e : List ℕ} (m : Listing n f e) where
   letter-named : (p q : ℕ) → letter_byte ((entries_string p e).letters q) ≡ unmarked (cond (ltb q n) (letter_mark (f q)) Unnamed)
   unfolding entries_string entry_of occurrences
   letter-named p q =
-      sym (marked_letter (entry_letter e) (entry_count e) _ _ _ m.small (leb-false 2 (occurrences e q) (once q)) (mark_is (λ j. eqb (entry_qubit e j) q) (entry_letter e) (entry_count e)))
+      sym (marked_letter (entry_letter e) (entry_count e) _ _ _ (leb-false 2 (occurrences e q) (once q)) (mark_is (λ j. eqb (entry_qubit e j) q) (entry_letter e) (entry_count e)))
       ∙ ap unmarked (m.mark q)
 
 letters_equal : (a b : Letter) → letter_byte a ≡ letter_byte b → a ≡ b

@@ -4,7 +4,7 @@ use Rattle.pauli.specs.declared.refusal.Refusal.{Refusal}
 use Rattle.pauli.specs.declared.text.Head.{Head}
 use Rattle.pauli.specs.declared.entries.Marks.{Marks}
 use Rattle.pauli.specs.Answers.{written, Written, Outcome}
-use Rattle.pauli.specs.Entries.{entry_count, entry_letter, entries_string}
+use Rattle.pauli.specs.Entries.{entry_count, entries_string}
 use Rattle.pauli.specs.Layout.{string_record}
 use Rattle.pauli.specs.Inside.Marks.{marks_to, marks_of, marks_question, letters_marked, RecordFits}
 use Rattle.pauli.specs.Questions.{◌and_then◌, duplicate_question, room_question}
@@ -14,13 +14,8 @@ use Rattle.pauli.proofs.Answers.{answer-ok, answer-err, written-done}
 use Rattle.pauli.proofs.Asking.{first_done, first_not, and_then_assoc, done_first, done_second, room-is}
 use Rattle.pauli.proofs.EntryStrings.{marks_question_lem, marked_bytes, marked_fit}
 use Rattle.pauli.proofs.Records.{phase-small}
-use Rattle.pauli.proofs.SparseTokens.{token_letters}
 
 -- ---- the questions in their order
-sparse-small : (t : List ℕ) (j : ℕ) → entry_letter (sparse_entries t) j ≤ 3
-unfolding sparse_entries
-sparse-small t j = token_letters (sparse_tokens t) j
-
 abbrev chain : List ℕ → ℕ → Outcome
 chain t room = ascii_question t and_then token_questions (sparse_tokens t) and_then duplicate_question (sparse_entries t) and_then room_question 129 room
 
@@ -69,12 +64,12 @@ module _ {t : List ℕ} {m : Marks} {h : Head} (d : List ℕ) (head : HeadRead t
 
   pub sparse_fit : RecordFits d
   sparse_fit =
-      marked_fit h.phase (sparse_entries t) m.0 phase-is (λ j l. sparse-small t j) (done_first _ _ after-tokens) marks-are d
+      marked_fit h.phase (sparse_entries t) m.0 phase-is (done_first _ _ after-tokens) marks-are d
       (room-is 129 (length d) (done_second (duplicate_question (sparse_entries t)) _ after-tokens))
 
   pub sparse_written : {out : List ℕ} → out ≡ h.phase ∷ letters_marked 128 m.0 ++ drop 129 d → Written (from_sparse_questions t (length d)) (sparse_record t) d out (Ok tt)
   unfolding sparse_record sparse_string
   sparse_written w =
       written-done all
-      (marked_bytes h.phase (sparse_entries t) m.0 phase-is (λ j l. sparse-small t j) (done_first _ _ after-tokens) marks-are d w
+      (marked_bytes h.phase (sparse_entries t) m.0 phase-is (done_first _ _ after-tokens) marks-are d w
       ∙ ap (λ (p : ℕ). written (Ok tt) (string_record (entries_string p (sparse_entries t))) d) head.phase)

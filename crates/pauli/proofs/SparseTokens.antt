@@ -11,10 +11,10 @@ use Rattle.pauli_group.specs.PauliString.{qubits}
 use Rattle.pauli.specs.Entries.{entry_count, entry_letter, entry_qubit}
 use Rattle.pauli.specs.Inside.Marks.{mark_more, marks_to}
 use Rattle.pauli.specs.Inside.Reading.{Skipped, WordAt, OneEntry, EntryRead, tokens_read}
-use Rattle.pauli.specs.Text.{is_space, leading_spaces, Token, tokens, token_questions, token_entries, attached_entry, apart_entry, has_index}
+use Rattle.pauli.specs.Text.{is_space, leading_spaces, Token, tokens, token_questions, token_entries}
 use Rattle.pauli.proofs.EntryMarks.{no_marks, mark_ext, length-marks, mark_step}
 use Rattle.pauli.proofs.Places.{listed_ext}
-use Rattle.pauli.proofs.SparseReading.{space-ends, no_more, letter-small}
+use Rattle.pauli.proofs.SparseReading.{space-ends, no_more}
 use Rattle.pauli.proofs.Tokens.{tokens_skip}
 use Rattle.pauli.proofs.Answers.{answer-done, answer-exit}
 
@@ -64,23 +64,6 @@ marks-more e l q even h =
     ap (λ (m : List Mark). set m q (mark_more (get_or m q Unnamed) l)) (sym (marks_ext (more e l q even) e (entry_count e) (letter_kept e l q even) (qubit_kept e l q even)))
     ∙ mark_step (more e l q even) (entry_count e) l q (sym (letter_new e l q even)) (sym (qubit_new e l q even)) h
     ∙ ap (marks_to (more e l q even)) (sym (count-more e l q even))
-
--- ---- the letters of entries that tokens name
-letters-cons : (l q : ℕ) (e : List ℕ) → l ≤ 3 → ((j : ℕ) → entry_letter e j ≤ 3) → (j : ℕ) → entry_letter (l ∷ q ∷ e) j ≤ 3
-unfolding entry_letter
-letters-cons l q e h k zero = h
-letters-cons l q e h k (suc j) = let place : 2 * suc j ≡ suc (suc (2 * j)) = omega arith in omega (arith, ap (λ (i : ℕ). get_or (l ∷ q ∷ e) i 0) place, k j)
-
-pub token_letters : (ws : List Token) (j : ℕ) → entry_letter (token_entries ws) j ≤ 3
-unfolding token_entries attached_entry apart_entry entry_letter
-token_letters [] j = omega arith
-token_letters (w ∷ []) j = letters-cons _ _ [] (letter-small (get_or w.bytes 0 0)) (λ i. omega arith) j
-token_letters (w ∷ x ∷ ws) j = go (has_index w) (token_letters (x ∷ ws)) (token_letters ws)
-  where
-    go : (b : Bool) → ((i : ℕ) → entry_letter (token_entries (x ∷ ws)) i ≤ 3) → ((i : ℕ) → entry_letter (token_entries ws) i ≤ 3)
-        → entry_letter (cond b (attached_entry w ++ token_entries (x ∷ ws)) (apart_entry w x ++ token_entries ws)) j ≤ 3
-    go true h k = letters-cons _ _ (token_entries (x ∷ ws)) (letter-small (get_or w.bytes 0 0)) h j
-    go false h k = letters-cons _ _ (token_entries ws) (letter-small (get_or w.bytes 0 0)) k j
 
 -- ---- the tokens ws of t, read up to place k
 pub record Reading (ws : List Token) (t : List ℕ) (k : ℕ) (m : List Mark) : Type 0 where

@@ -2,7 +2,7 @@
 // `with_phase_and_paulis` of pauli_string.rs of PECOS, changed: Copyright 2024 The PECOS Developers, Apache License, Version 2.0.
 ghost use Rattle.std.specs.Prelude.{◌≡◌, ◌<◌, ◌∷◌, ◌++◌, length, drop, replicate, slice_index_or, slice_set};
 ghost use Rattle.pauli.specs.declared.entries.Mark.TheVariants.{Unnamed};
-ghost use Rattle.pauli.specs.Inside.Marks.{mark_more, unmarked, marks_of, EntriesFit, marks_question, letters_marked, RecordFits, Paired};
+ghost use Rattle.pauli.specs.Inside.Marks.{mark_once, mark_more, unmarked, marks_of, EntriesFit, marks_question, letters_marked, RecordFits, Paired};
 ghost use Rattle.pauli.specs.Questions.{even_question, entry_letters_question, entry_qubits_question, entry_questions, room_question, ◌and_then◌};
 
 use crate::questions::{check_byte, check_room};
@@ -61,23 +61,39 @@ pub(crate) fn check_entries(phase: u8, entries: &[u8]) -> Result<(), Refusal>
     check_entry_qubits(entries)
 }
 
-// What the entries read so far say of a qubit.
+// What the entries read so far say of a qubit: its letter, where one entry names it.
 #[derive(Clone, Copy)]
 pub(crate) enum Mark {
+    I,
+    X,
+    Z,
+    Y,
     Unnamed,
-    Once { letter: u8 },
     Twice,
 }
 
 impl Mark {
+    // The mark of one entry; a letter above 3 is read as 3.
+    #[tactic(auto, unfolding(crate::specs::Inside::Marks::mark_once))]
+    fn once(letter: u8) -> Mark
+        ensures { result ≡ mark_once letter }
+    {
+        match letter {
+            0 => Mark::I,
+            1 => Mark::X,
+            2 => Mark::Z,
+            _ => Mark::Y,
+        }
+    }
+
     // After one more entry, with this letter.
     #[tactic(auto, unfolding(crate::specs::Inside::Marks::mark_more))]
     fn more(self, letter: u8) -> Mark
         ensures { result ≡ mark_more self letter }
     {
         match self {
-            Mark::Unnamed => Mark::Once { letter },
-            Mark::Once { .. } | Mark::Twice => Mark::Twice,
+            Mark::Unnamed => Mark::once(letter),
+            _ => Mark::Twice,
         }
     }
 
@@ -87,8 +103,8 @@ impl Mark {
         ensures { result ≡ unmarked self }
     {
         match self {
-            Mark::Once { letter } => letter,
             Mark::Unnamed | Mark::Twice => 0,
+            _ => self as u8,
         }
     }
 }
@@ -149,7 +165,8 @@ impl Marks {
         requires { length row.old ≡ 128 }
         ensures { row.new ≡ letters_marked 128 self.now.0 }
     {
-        // By place: of what is written through a zip of `iter_mut` a proof knows the length alone.
+        // By place: of what is written through a zip of `iter_mut` a proof knows the length alone, and what `map` makes takes longer than the
+        // Rust's whole call.
         for (q, letter) in row.iter_mut().enumerate() {
             *letter = self.0[q].letter();
         }

@@ -3,17 +3,27 @@ use Rattle.std.specs.Prelude.{◌≡◌, ℕ, zero, suc, ◌<◌, ◌≤◌, Boo
 use Rattle.pauli_group.specs.PauliString.{qubits}
 use Rattle.pauli.specs.declared.refusal.Refusal.TheVariants.{Duplicate}
 use Rattle.pauli.specs.declared.entries.Mark.{Mark}
-use Rattle.pauli.specs.declared.entries.Mark.TheVariants.{Unnamed, Once, Twice}
+use Rattle.pauli.specs.declared.entries.Mark.TheVariants.{I, X, Z, Y, Unnamed, Twice}
 use Rattle.pauli.specs.declared.entries.Marks.{Marks}
 use Rattle.pauli.specs.Questions.{ask}
 use Rattle.pauli.specs.Places.{listed, first_place}
 use Rattle.pauli.specs.Entries.{entry_count, entry_letter, entry_qubit}
 use Rattle.pauli.specs.Answers.{Outcome}
 
+-- the mark of one entry, by its letter's byte
+unfoldable pub mark_once : ℕ → Mark
+mark_once zero = I
+mark_once (suc zero) = X
+mark_once (suc (suc zero)) = Z
+mark_once (suc (suc (suc l))) = Y
+
 -- a mark after one more entry with letter l
 unfoldable pub mark_more : Mark → ℕ → Mark
-mark_more Unnamed l = Once l
-mark_more (Once k) l = Twice
+mark_more I l = Twice
+mark_more X l = Twice
+mark_more Z l = Twice
+mark_more Y l = Twice
+mark_more Unnamed l = mark_once l
 mark_more Twice l = Twice
 
 -- the mark after the entries 0 to n - 1, of which those with `names` name the qubit
@@ -29,8 +39,11 @@ abbrev pub marks_of : List ℕ → Marks
 marks_of e = record { 0 = marks_to e (entry_count e) }
 
 unfoldable pub is_twice : Mark → Bool
+is_twice I = false
+is_twice X = false
+is_twice Z = false
+is_twice Y = false
 is_twice Unnamed = false
-is_twice (Once l) = false
 is_twice Twice = true
 
 -- the first qubit that more entries than one name
@@ -43,8 +56,11 @@ marks_question m = ask (nat_le qubits (first_twice m)) (Duplicate (first_twice m
 
 -- the letter that a mark stands for: I but where one entry names the qubit
 unfoldable pub unmarked : Mark → ℕ
+unmarked I = 0
+unmarked X = 1
+unmarked Z = 2
+unmarked Y = 3
 unmarked Unnamed = 0
-unmarked (Once l) = l
 unmarked Twice = 0
 
 -- entries with qubits below 128

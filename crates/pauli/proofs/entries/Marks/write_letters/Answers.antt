@@ -8,7 +8,7 @@ pub loop-q-init : goal.loop-q-init
 loop-q-init c = search letter_fills
 
 pub loop-q-preserved : goal.loop-q-preserved
-loop-q-preserved c = filled_step c.loop-q.invariant (omega arith) (letter_marked 128 _ _ (omega arith) (omega arith))
+loop-q-preserved c = filled_step c.loop-q.invariant (omega arith) (letter_marked 128 _ _ _ c.letter.ensures (omega arith) (omega arith))
 
 pub returns : goal.returns
 returns c = search letter_fills
