@@ -3,10 +3,10 @@
 use crate::page::{Figure, Goal, Share};
 use crate::plain;
 use crate::timing::least;
-use oracle::PauliOperator;
 use oracle::clifford::Clifford;
 use oracle::driver::records::{read_string, read_tableau, write_string, write_tableau};
 use oracle::vectors::Random;
+use oracle::{Pauli, PauliOperator, PauliString, QuarterPhase, QubitId};
 use renetcleat::{STRING_LENGTH, tableau_length};
 
 pub fn all(random: &mut Random) -> Vec<Figure> {
@@ -18,6 +18,10 @@ pub fn all(random: &mut Random) -> Vec<Figure> {
     figures.push(product(random, 128));
     for letters in [20, 128] {
         figures.push(places(&mut Random::new(6), letters));
+    }
+    for count in [20, 128] {
+        let read = named(&mut Random::new(11), count);
+        figures.extend([from_entries(&read), from_text(&read)]);
     }
     for width in [20, 128] {
         figures.push(apply(random, width));
@@ -145,6 +149,64 @@ fn places(random: &mut Random, letters: usize) -> Figure {
         rust: least(|| left.commutes_with(&right)),
         ours: least(|| renetcleat::anticommuting_places(&s, &t)),
         plain: least(|| plain::anticommuting_places(&s, &t)),
+        goal: Goal::Faster,
+    }
+}
+
+/// Letters other than I and their qubits, in any order.
+fn named(random: &mut Random, count: usize) -> Vec<(u8, u8)> {
+    let mut qubits: Vec<u8> = (0..128).collect();
+    random.shuffle(&mut qubits);
+    qubits.truncate(count);
+    qubits
+        .into_iter()
+        .map(|it| (random.pick(&[1, 2, 3]), it))
+        .collect()
+}
+
+/// The Rust is handed a list of its own, a copy of which it sorts.
+fn from_entries(read: &[(u8, u8)]) -> Figure {
+    let entries: Vec<u8> = read
+        .iter()
+        .flat_map(|&(letter, qubit)| [letter, qubit])
+        .collect();
+    let letter = |byte: u8| [Pauli::I, Pauli::X, Pauli::Z, Pauli::Y][usize::from(byte)];
+    let own: Vec<(Pauli, QubitId)> = read
+        .iter()
+        .map(|&(byte, qubit)| (letter(byte), QubitId::from(usize::from(qubit))))
+        .collect();
+    let string = || PauliString::with_phase_and_paulis(QuarterPhase::PlusOne, own.clone()).unwrap();
+    let (mut ours, mut theirs) = ([0; STRING_LENGTH], [0; STRING_LENGTH]);
+    renetcleat::with_phase_and_paulis(0, &entries, &mut ours).unwrap();
+    plain::from_entries(&entries, &mut theirs);
+    assert!(ours == theirs && write_string(&string()).as_deref() == Some(&ours));
+    Figure {
+        call: "with_phase_and_paulis",
+        size: format!("{} entries", read.len()),
+        rust: least(string),
+        ours: least(|| renetcleat::with_phase_and_paulis(0, &entries, &mut ours)),
+        plain: least(|| plain::from_entries(&entries, &mut theirs)),
+        goal: Goal::Faster,
+    }
+}
+
+fn from_text(read: &[(u8, u8)]) -> Figure {
+    let tokens: Vec<String> = read
+        .iter()
+        .map(|&(letter, qubit)| format!("{}{qubit}", ["I", "X", "Z", "Y"][usize::from(letter)]))
+        .collect();
+    let text = tokens.join(" ");
+    let string = || PauliString::from_sparse_str(&text).unwrap();
+    let (mut ours, mut theirs) = ([0; STRING_LENGTH], [0; STRING_LENGTH]);
+    renetcleat::from_sparse_str(text.as_bytes(), &mut ours).unwrap();
+    plain::from_text(text.as_bytes(), &mut theirs);
+    assert!(ours == theirs && write_string(&string()).as_deref() == Some(&ours));
+    Figure {
+        call: "from_sparse_str",
+        size: format!("{} entries", read.len()),
+        rust: least(string),
+        ours: least(|| renetcleat::from_sparse_str(text.as_bytes(), &mut ours)),
+        plain: least(|| plain::from_text(text.as_bytes(), &mut theirs)),
         goal: Goal::Faster,
     }
 }

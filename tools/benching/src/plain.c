@@ -69,6 +69,24 @@ void plain_mul(const uint8_t *s, const uint8_t *t, uint8_t *dst) {
 
 unsigned plain_places(const uint8_t *s, const uint8_t *t) { return places(s + 1, t + 1, QUBITS); }
 
+/* Pairs (letter, qubit), with the phase +1. */
+void plain_from_entries(const uint8_t *entries, size_t count, uint8_t *dst) {
+    memset(dst, 0, STRING);
+    for (size_t i = 0; i < count; i++) dst[1 + entries[2 * i + 1]] = entries[2 * i];
+}
+
+/* Letters, each with its index, and spaces between them. */
+void plain_from_text(const uint8_t *text, size_t length, uint8_t *dst) {
+    memset(dst, 0, STRING);
+    for (size_t i = 0; i < length;) {
+        uint8_t letter = text[i++];
+        size_t qubit = 0;
+        while (i < length && text[i] != ' ') qubit = 10 * qubit + (text[i++] - '0');
+        dst[1 + qubit] = letter == 'X' ? 1 : letter == 'Z' ? 2 : 3;
+        i++;
+    }
+}
+
 void plain_apply(const uint8_t *t, const uint8_t *s, uint8_t *dst) {
     size_t n = t[0];
     memcpy(dst, s, STRING);

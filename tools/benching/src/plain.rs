@@ -3,6 +3,8 @@
 unsafe extern "C" {
     fn plain_mul(s: *const u8, t: *const u8, dst: *mut u8);
     fn plain_places(s: *const u8, t: *const u8) -> u32;
+    fn plain_from_entries(entries: *const u8, count: usize, dst: *mut u8);
+    fn plain_from_text(text: *const u8, length: usize, dst: *mut u8);
     fn plain_apply(t: *const u8, s: *const u8, dst: *mut u8);
     fn plain_compose(a: *const u8, b: *const u8, dst: *mut u8);
     fn plain_composed_x_image(a: *const u8, b: *const u8, qubit: usize, dst: *mut u8);
@@ -20,6 +22,15 @@ pub fn mul(s: &[u8], t: &[u8], dst: &mut [u8]) {
 
 pub fn anticommuting_places(s: &[u8], t: &[u8]) -> u32 {
     unsafe { plain_places(s.as_ptr(), t.as_ptr()) }
+}
+
+pub fn from_entries(entries: &[u8], dst: &mut [u8]) {
+    unsafe { plain_from_entries(entries.as_ptr(), entries.len() / 2, dst.as_mut_ptr()) }
+}
+
+/// A sparse text with no prefix.
+pub fn from_text(text: &[u8], dst: &mut [u8]) {
+    unsafe { plain_from_text(text.as_ptr(), text.len(), dst.as_mut_ptr()) }
 }
 
 pub fn apply(t: &[u8], s: &[u8], dst: &mut [u8]) {
