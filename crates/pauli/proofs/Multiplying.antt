@@ -1,7 +1,6 @@
 -- The product of two strings: its letters, 32 places at a step as far as the last that has one, and how it is written.
-use Rattle.pauli.specs.Answers.{Outcome}
+use Rattle.pauli.specs.Answers.{written, Outcome}
 use Rattle.std.proofs.Common.{◌≡◌, ℕ, ◌+◌, ◌*◌, ◌%◌, ◌<◌, ◌≤◌, List, ◌∷◌, ◌++◌, length, get_or, take, drop, set, replicate, sym, refl, ap, ◌∙◌, subst, ap₂, append-nil, zero-le, add-one, arith, length-drop, take-append-drop, drop_of_length-le, length-take, get_or-drop, take_all, ext_get_or, rules, Ok}
-use Rattle.std.specs.Int.{div_ceil}
 use lib.ListN.{length-replicate, get_or-replicate}
 use lib.Bits.{bit_xor}
 use borrow.Rule.Slice.PartMut.{put_mid}
@@ -13,14 +12,12 @@ use Rattle.pauli_group.proofs.Laws.{·_assoc, ·-one}
 use Rattle.pauli_group.proofs.Strings.{within-mul}
 use Rattle.pauli_group.proofs.PlacesTaken.{taken_le, taken-within, phase-taken}
 use Rattle.pauli.specs.Layout.{phase_byte, phase_of, letter_byte, letter_of, encode_string, decode_string, string_of, string_record}
-use Rattle.pauli.specs.Questions.{◌and_then◌, string_questions, strings_questions, room_question, mul_questions}
+use Rattle.pauli.specs.Questions.{string_questions, strings_questions, room_question}
 use Rattle.pauli.specs.Strings.{places_taken_of_records, product_record}
-use Rattle.pauli.specs.Promises.{StringsMultiplied}
 use Rattle.pauli.specs.Inside.Turns.{LetterBytes}
-use Rattle.pauli.specs.Inside.Products.{Looked, Factors, Operands, product_row, phase_to, blank_row, Beginning, RowTo, Stepping, Stepped, RowMultiplied}
+use Rattle.pauli.specs.Inside.Products.{Looked, Operands, product_row, phase_to, blank_row, Beginning, RowTo, Stepping, Stepped, RowMultiplied}
 use Rattle.pauli.specs.declared.algebra.Sight.{Sight}
-use Rattle.pauli.proofs.Answers.{answers, number-done}
-use Rattle.pauli.proofs.Asking.{first_done, in_order, done_first, done_second, string-formed, room-is, record-bytes}
+use Rattle.pauli.proofs.Asking.{done_first, done_second, string-formed, room-is, record-bytes}
 use Rattle.pauli.proofs.Places.{length-listed, get_d_listed, fill_more, length_fill}
 use Rattle.pauli.proofs.Records.{letter_of_lem, string-within}
 use Rattle.pauli.proofs.Turns.{power_sum, letter_sum}
@@ -115,70 +112,43 @@ pub record PlacesTo (s t : List ℕ) (places : ℕ) (row₀ : List ℕ) (k : ℕ
   pub out : RowTo s t (32 * k) row
   pub turned : power turns ≡ phase_to (32 * k) s t
 
-pub places-none : {s t : List ℕ} {places : ℕ} {row : List ℕ} → Beginning s t places row → PlacesTo s t places row 0 row 0
+pub no_phase : (s t : List ℕ) → phase_to 0 s t ≡ power 0
 unfolding phase_to product_to power
-places-none h = record { begun = h; out = record { within = zero-le; out = h.blank }; turned = refl }
+no_phase s t = refl
 
-module _ {s t : List ℕ} {places : ℕ} (f : Factors s t places) where
-  most : places ≤ 128
+module _ (s t : List ℕ) where
+  pub taken_most : places_taken_of_records s t ≤ 128
   unfolding places_taken_of_records qubits
-  most = omega (arith, f.taken, taken_le (string_of s) (string_of t))
+  taken_most = taken_le (string_of s) (string_of t)
 
-  module _ (i : ℕ) (h : places ≤ i) where
+  -- the product has only I from the last place on that it takes
+  module _ (i : ℕ) (h : places_taken_of_records s t ≤ i) where
     both_within : Within i (string_of s) × Within i (string_of t)
     unfolding places_taken_of_records
     both_within =
         let both = taken-within (string_of s) (string_of t) (string-within s) (string-within t) in
-        ((λ q l. both.0 q (omega (arith, f.taken))), (λ q l. both.1 q (omega (arith, f.taken))))
+        ((λ q l. both.0 q (omega arith)), (λ q l. both.1 q (omega arith)))
 
-    -- the product has only I from there on
     row-behind : (q : ℕ) → i ≤ q → q < 128 → get_or (product_row s t) q 0 ≡ 0
     unfolding letter_byte
     row-behind q l b = row_at s t q b ∙ ap letter_byte (within-mul i (string_of s) (string_of t) both_within.0 both_within.1 q l)
 
-pub places-step : {s t : List ℕ} {places n k : ℕ} {row₀ row : List ℕ} {turns : ℕ} → PlacesTo s t places row₀ k row turns → n ≡ div_ceil places 32 → k < n
-    → Stepping s t (32 * k) row
-places-step m e h =
-    let f = m.begun.factors in
-    record { first = f.first; second = f.second; room = omega (arith, most f); before = m.out }
+    rest : drop i blank_row ≡ drop i (product_row s t)
+    rest = ext_get_or 0 _ _ (omega (arith, length-drop i blank_row, length-drop i (product_row s t), length-blank, length-row s t)) at
+      where
+        at : (k : ℕ) → k < length (drop i blank_row) → get_or (drop i blank_row) k 0 ≡ get_or (drop i (product_row s t)) k 0
+        at k l =
+            let b : i + k < 128 = omega (arith, l, length-drop i blank_row, length-blank) in
+            get_or-drop i blank_row k 0 ∙ blank-at (i + k) b ∙ sym (row-behind (i + k) (omega arith) b) ∙ sym (get_or-drop i (product_row s t) k 0)
 
-pub places-more : {s t : List ℕ} {places k : ℕ} {row₀ row next : List ℕ} {turns v u : ℕ} → PlacesTo s t places row₀ k row turns → Stepped s t (32 * k) next v
-    → u ≡ (turns + v) % 256 → PlacesTo s t places row₀ (k + 1) next u
-places-more {s} {t} {k = k} {next = next} {turns = turns} {v = v} m n e =
-    let on : 32 * k + 32 ≡ 32 * (k + 1) = omega arith in
-    record {
-      begun = m.begun;
-      out = subst (λ i. RowTo s t i next) on n.after;
-      turned = ap power e ∙ power_sum turns v ∙ ap (λ p. p · power v) m.turned ∙ n.turns ∙ ap (λ i. phase_to i s t) on;
-    }
+    pub row_whole : take i (product_row s t) ++ drop i blank_row ≡ product_row s t
+    row_whole = ap (λ (l : List ℕ). take i (product_row s t) ++ l) rest ∙ take-append-drop i (product_row s t)
 
-module _ {s t : List ℕ} {places n k : ℕ} {row₀ row : List ℕ} {turns : ℕ} (m : PlacesTo s t places row₀ k row turns) (whole : n ≡ div_ceil places 32) (ends : n ≤ k) where
-  abbrev i : ℕ
-  i = 32 * k
+    pub phase_whole : i ≤ 128 → phase_to i s t ≡ phase_of_letters (string_of s).letters (string_of t).letters
+    unfolding qubits phase_to
+    phase_whole b = sym (phase-taken (string_of s) (string_of t) i b both_within.0)
 
-  h : places ≤ i
-  h = omega arith
-
-  rest : drop i blank_row ≡ drop i (product_row s t)
-  rest = ext_get_or 0 _ _ (omega (arith, length-drop i blank_row, length-drop i (product_row s t), length-blank, length-row s t)) at
-    where
-      at : (k : ℕ) → k < length (drop i blank_row) → get_or (drop i blank_row) k 0 ≡ get_or (drop i (product_row s t)) k 0
-      at k l =
-          let b : i + k < 128 = omega (arith, l, length-drop i blank_row, length-blank) in
-          get_or-drop i blank_row k 0 ∙ blank-at (i + k) b ∙ sym (row-behind m.begun.factors i h (i + k) (omega arith) b)
-          ∙ sym (get_or-drop i (product_row s t) k 0)
-
-  pub places_all : RowMultiplied s t row turns
-  unfolding qubits phase_to
-  places_all = record {
-    letters = m.out.out ∙ ap (λ (l : List ℕ). take i (product_row s t) ++ l) rest ∙ take-append-drop i (product_row s t);
-    turns = m.turned ∙ sym (phase-taken (string_of s) (string_of t) i m.out.within (both_within m.begun.factors i h).0);
-  }
-
-pub places-length : {s t : List ℕ} {places i : ℕ} {row₀ row : List ℕ} {turns : ℕ} → PlacesTo s t places row₀ i row turns → length row ≡ length row₀
-places-length m = length_row_to m.out ∙ sym (ap length m.begun.blank ∙ length-blank)
-
-pub ruleset taking = (places-none, places-step, places-more, places_all, places-length, rules)
+pub ruleset taking = (no_phase, taken_most, row_whole, phase_whole, power_sum)
 
 -- ---- the product's bytes
 phase_of_lem : (s t : List ℕ) → (mul (string_of s) (string_of t)).phase
@@ -206,11 +176,9 @@ product_written {s} {t} {d} {row} {ys} {turns = turns} {p = p} {n = n} f m ep ey
     phase-is : phase_byte (phase_of (get_or s 0 0) · phase_of (get_or t 0 0) · power turns) ≡ phase_byte (mul (string_of s) (string_of t)).phase
     phase-is = ap (λ x. phase_byte (phase_of (get_or s 0 0) · phase_of (get_or t 0 0) · x)) m.turns ∙ ap phase_byte (sym (phase_of_lem s t))
 
--- ---- what the questions of the product let by, and what is answered then
-pub mul-asked : (s t : List ℕ) (room : ℕ) {r : Outcome} → r ≡ strings_questions s t and_then room_question 129 room → r ≡ mul_questions s t room
-unfolding mul_questions
-mul-asked s t room e = e
+pub ruleset written_products = (product_written, begins, rules)
 
+-- ---- what the questions of the product let by, and what is answered then
 module _ (s t d : List ℕ) {sight : Sight} (l : Looked s t sight) (p : Ok tt ≡ strings_questions s t) (h : Ok tt ≡ room_question 129 (length d)) where
   pub operands : Operands s t sight.places d
   unfolding strings_questions
@@ -223,12 +191,8 @@ module _ (s t d : List ℕ) {sight : Sight} (l : Looked s t sight) (p : Ok tt �
     room = room-is 129 (length d) (sym h);
   }
 
-  pub multiplied : {e : List ℕ} {n : ℕ} → n ≡ sight.places → e ≡ product_record s t ++ drop 129 d → StringsMultiplied s t d e (Ok n)
-  unfolding product_record mul_questions
-  multiplied c w = number-done (first_done p h) (c ∙ l.taken (sym p)) (w ∙ record-bytes (mul (string_of s) (string_of t)) d)
+pub product_bytes : (s t d : List ℕ) {q : Outcome} → q ≡ Ok tt → written q (product_record s t) d ≡ product_record s t ++ drop 129 d
+unfolding product_record
+product_bytes s t d e = ap (λ x. written x (product_record s t) d) e ∙ sym (record-bytes (mul (string_of s) (string_of t)) d)
 
--- where the product's row goes
-pub row_room : {s t d : List ℕ} {places : ℕ} → Operands s t places d → length (take 128 (drop 1 d)) ≡ 128
-row_room {d = d} f = length-take 128 (drop 1 d) ∙ omega (arith, f.room, length-drop 1 d)
-
-pub ruleset string_products = (mul-asked, product_written, operands, begins, multiplied, answers, in_order, rules)
+pub ruleset string_products = (operands, product_bytes)

@@ -150,20 +150,6 @@ pub record LargestTo (s : List ℕ) (i m : ℕ) : Type 0 where
   pub within : i ≤ length s
   pub is : m ≡ largest_to i s
 
-pub largest_start : (s : List ℕ) → LargestTo s 0 0
-unfolding largest_to
-largest_start s = record { within = omega arith; is = refl }
-
-pub largest_step : {s : List ℕ} {i m n : ℕ} → LargestTo s i m → i < length s → n ≡ max m (get_or s i 0) → LargestTo s (i + 1) n
-unfolding largest_to
-largest_step {s} {i} a l h = record {
-  within = omega arith;
-  is = h ∙ ap (λ (k : ℕ). max k (get_or s i 0)) a.is ∙ ap (λ (j : ℕ). largest_to j s) (sym (add-one i));
-}
-
-pub largest_all : {s : List ℕ} {i m : ℕ} → LargestTo s i m → length s ≤ i → m ≡ largest_to (length s) s
-largest_all {s} {i} a h = let e : i ≡ length s = omega (arith, a.within) in a.is ∙ ap (λ (j : ℕ). largest_to j s) e
-
 -- no byte is above it
 largest_each : (n : ℕ) (s : List ℕ) (k : ℕ) → k < n → get_or s k 0 ≤ largest_to n s
 unfolding largest_to

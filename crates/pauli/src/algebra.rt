@@ -148,6 +148,7 @@ fn multiply_step(s: &[u8], t: &[u8], at: usize, row: &mut [u8]) -> u8
 
 // The product's letters, written over a row of I; the answer is the turns of their phases. The loop ends with the step that has the last
 // place: behind it both strings are I.
+#[tactic(auto, using(crate::proofs::Multiplying::taking))]
 fn multiply_places(s: &[u8], t: &[u8], places: usize, row: &mut [u8]) -> u8
     requires { Beginning s.now t.now places row.old }
     ensures { RowMultiplied s.now t.now row.new result }
@@ -172,6 +173,7 @@ fn write_product(s: &[u8], t: &[u8], places: usize, dst: &mut [u8])
 }
 
 // The product s·t of two string records, and the places that it took: 1 + the last at which either has a letter other than I, or 0.
+#[tactic(auto, using(crate::proofs::Asking::by_questions, crate::proofs::Multiplying::string_products), unfolding(crate::specs::Questions::mul_questions, crate::specs::Answers::answer_to, crate::specs::Answers::reply_of, crate::specs::Answers::reply_to))]
 pub fn mul(s: &[u8], t: &[u8], dst: &mut [u8]) -> Result<usize, Refusal>
     ensures { StringsMultiplied s.now t.now dst.old dst.new result }
 {
