@@ -1,6 +1,6 @@
 -- The product of two strings: its letters, 32 places at a step as far as the last that has one, and how it is written.
 use Rattle.pauli.specs.Answers.{written, Outcome}
-use Rattle.std.proofs.Common.{◌≡◌, ℕ, ◌+◌, ◌*◌, ◌%◌, ◌<◌, ◌≤◌, List, ◌∷◌, ◌++◌, length, get_or, take, drop, set, replicate, sym, refl, ap, ◌∙◌, subst, ap₂, append-nil, zero-le, add-one, arith, length-drop, take-append-drop, drop_of_length-le, length-take, get_or-drop, take_all, ext_get_or, rules, Ok}
+use Rattle.std.proofs.Common.{◌≡◌, ℕ, suc, ◌+◌, ◌-◌, ◌*◌, ◌%◌, ◌<◌, ◌≤◌, List, ◌∷◌, ◌++◌, length, get_or, take, drop, set, replicate, sym, refl, ap, ◌∙◌, subst, ap₂, append-nil, zero-le, add-one, arith, length-drop, take-append-drop, drop_of_length-le, length-take, get_or-drop, get_or-take, take_all, ext_get_or, rules, Ok}
 use lib.ListN.{length-replicate, get_or-replicate}
 use lib.Bits.{bit_xor}
 use borrow.Rule.Slice.PartMut.{put_mid}
@@ -15,10 +15,10 @@ use Rattle.pauli.specs.Layout.{phase_byte, phase_of, letter_byte, letter_of, enc
 use Rattle.pauli.specs.Questions.{string_questions, strings_questions, room_question}
 use Rattle.pauli.specs.Strings.{places_taken_of_records, product_record}
 use Rattle.pauli.specs.Inside.Turns.{LetterBytes}
-use Rattle.pauli.specs.Inside.Products.{Looked, Operands, product_row, phase_to, blank_row, Beginning, RowTo, Stepping, Stepped, RowMultiplied}
+use Rattle.pauli.specs.Inside.Products.{Looked, Operands, product_row, phase_to, blank_row, Beginning, RowTo, Stepping, RowMultiplied}
 use Rattle.pauli.specs.declared.algebra.Sight.{Sight}
 use Rattle.pauli.proofs.Asking.{done_first, done_second, string-formed, room-is, record-bytes}
-use Rattle.pauli.proofs.Places.{length-listed, get_d_listed, fill_more, length_fill}
+use Rattle.pauli.proofs.Places.{length-listed, get_d_listed, fill, fill_more, length_fill}
 use Rattle.pauli.proofs.Records.{letter_of_lem, string-within}
 use Rattle.pauli.proofs.Turns.{power_sum, letter_sum}
 use Rattle.pauli.proofs.EntryStrings.{put_record}
@@ -48,63 +48,70 @@ phase-more : (s t : List ℕ) (q : ℕ) → phase_to (q + 1) s t ≡ phase_to q 
 unfolding phase_to product_to
 phase-more s t q = rw (add-one q)
 
--- ---- one step, before place q of it
-pub record StepTo (s t : List ℕ) (i : ℕ) (row₀ : List ℕ) (q : ℕ) (row : List ℕ) (turns : ℕ) : Type 0 where
+-- ---- one step, after the first k of its places
+-- the letters of u that it takes
+abbrev pub step_part : ℕ → List ℕ → List ℕ
+step_part i u = take (i + 33 - (i + 1)) (drop (i + 1) u)
+
+pub length_part : (i : ℕ) (u : List ℕ) → length (step_part i u) ≤ 32
+length_part i u = omega (arith, length-take (i + 33 - (i + 1)) (drop (i + 1) u))
+
+pub record StepTo (s t : List ℕ) (i : ℕ) (row₀ : List ℕ) (k : ℕ) (row : List ℕ) (turns : ℕ) : Type 0 where
   pub begun : Stepping s t i row₀
-  pub within : q ≤ i + 32
-  pub out : RowTo s t q row
-  pub turned : phase_to i s t · power turns ≡ phase_to q s t
+  pub within : k ≤ 32
+  pub out : RowTo s t (i + k) row
+  pub turned : phase_to i s t · power turns ≡ phase_to (i + k) s t
 
-pub step-none : {s t : List ℕ} {i : ℕ} {row : List ℕ} → Stepping s t i row → StepTo s t i row i row 0
+pub step_none : {s t : List ℕ} {i : ℕ} {row : List ℕ} → Stepping s t i row → StepTo s t i row 0 row 0
 unfolding power
-step-none {s} {t} {i} m = record { begun = m; within = omega arith; out = m.before; turned = ·-one (phase_to i s t) }
+step_none {s} {t} {i} {row} m =
+    let none : i ≡ i + 0 = omega arith in
+    record { begun = m; within = omega arith; out = subst (λ j. RowTo s t j row) none m.before; turned = ·-one (phase_to i s t) ∙ ap (λ (j : ℕ). phase_to j s t) none }
 
-module _ {s t : List ℕ} {i q : ℕ} {row₀ row : List ℕ} {turns : ℕ} (m : StepTo s t i row₀ q row turns) (h : q < i + 32) where
+pub step_place : {s t : List ℕ} {i k : ℕ} {row₀ row : List ℕ} {turns : ℕ} → StepTo s t i row₀ k row turns → k < 32 → i + k < length row
+step_place m h = omega (arith, m.begun.room, length_row_to m.out)
+
+module _ {s t : List ℕ} {i k x y : ℕ} {row₀ row : List ℕ} {turns : ℕ} (m : StepTo s t i row₀ k row turns) (h : k < 32)
+    (ex : x ≡ get_or (step_part i s) k 0) (ey : y ≡ get_or (step_part i t) k 0) where
+  abbrev q : ℕ
+  q = i + k
+
   below : q < 128
   below = omega (arith, m.begun.room)
 
-  pub step-first : q + 1 < length s
-  step-first = omega (arith, below, m.begun.first.long)
+  part_at : (u : List ℕ) → get_or (step_part i u) k 0 ≡ get_or u (suc q) 0
+  part_at u =
+      let is : i + 1 + k ≡ suc q = omega arith in
+      get_or-take (i + 33 - (i + 1)) (drop (i + 1) u) k 0 (omega arith) ∙ get_or-drop (i + 1) u k 0 ∙ ap (λ (j : ℕ). get_or u j 0) is
 
-  pub step-second : q + 1 < length t
-  step-second = omega (arith, below, m.begun.second.long)
-
-  pub step-place : q < length row
-  step-place = omega (arith, below, length_row_to m.out)
-
-  pub step-letters : LetterBytes (get_or s (q + 1) 0) (get_or t (q + 1) 0)
-  step-letters = record { first = m.begun.first.small (q + 1) step-first; second = m.begun.second.small (q + 1) step-second }
-
-  letter_here_lem : (u : List ℕ) → letter_of (get_or u (q + 1) 0) ≡ (string_of u).letters q
-  letter_here_lem u = ap (λ (j : ℕ). letter_of (get_or u j 0)) (add-one q) ∙ sym (letter_of_lem u q below)
-
-  letter-is : bit_xor (get_or s (q + 1) 0) (get_or t (q + 1) 0) ≡ get_or (product_row s t) q 0
-  unfolding mul
-  letter-is = letter_sum step-letters ∙ ap letter_byte (ap₂ letter_mul (letter_here_lem s) (letter_here_lem t)) ∙ sym (row_at s t q below)
-
-  pub step-more : {u : ℕ} → power u ≡ power turns · letter_phase (letter_of (get_or s (q + 1) 0)) (letter_of (get_or t (q + 1) 0))
-      → StepTo s t i row₀ (q + 1) (set row q (bit_xor (get_or s (q + 1) 0) (get_or t (q + 1) 0))) u
-  step-more e = record {
-    begun = m.begun;
-    within = omega arith;
-    out = record {
-      within = omega (arith, below);
-      out = ap (λ (l : List ℕ). set l q (bit_xor (get_or s (q + 1) 0) (get_or t (q + 1) 0))) m.out.out
-          ∙ fill_more (product_row s t) blank_row q _ (omega (arith, below, length-row s t)) (omega (arith, below, length-blank)) letter-is;
-    };
-    turned = ap (λ p. phase_to i s t · p) e ∙ sym (·_assoc (phase_to i s t) (power turns) _)
-        ∙ ap₂ ◌·◌ m.turned (ap₂ letter_phase (letter_here_lem s) (letter_here_lem t)) ∙ sym (phase-more s t q);
+  pub step_letters : LetterBytes x y
+  step_letters = record {
+    first = omega (arith, ex, part_at s, m.begun.first.small (suc q) (omega (arith, below, m.begun.first.long)));
+    second = omega (arith, ey, part_at t, m.begun.second.small (suc q) (omega (arith, below, m.begun.second.long)));
   }
 
-pub step_all : {s t : List ℕ} {i q : ℕ} {row₀ row : List ℕ} {turns : ℕ} → StepTo s t i row₀ q row turns → i + 32 ≤ q → Stepped s t i row turns
-step_all {s} {t} {i} {q} m h =
-    let whole : q ≡ i + 32 = omega (arith, m.within) in
-    record { after = rw whole at m.out; turns = m.turned ∙ ap (λ (j : ℕ). phase_to j s t) whole }
+  letter_is : (u : List ℕ) {z : ℕ} → z ≡ get_or (step_part i u) k 0 → letter_of z ≡ (string_of u).letters q
+  letter_is u e = ap letter_of (e ∙ part_at u) ∙ sym (letter_of_lem u q below)
 
-pub step-length : {s t : List ℕ} {i q : ℕ} {row₀ row : List ℕ} {turns : ℕ} → StepTo s t i row₀ q row turns → length row ≡ length row₀
-step-length m = length_row_to m.out ∙ sym (length_row_to m.begun.before)
+  product-is : bit_xor x y ≡ get_or (product_row s t) q 0
+  unfolding mul
+  product-is = letter_sum step_letters ∙ ap letter_byte (ap₂ letter_mul (letter_is s ex) (letter_is t ey)) ∙ sym (row_at s t q below)
 
-pub ruleset steps = (step-none, step-first, step-second, step-place, step-letters, step-more, step_all, step-length, rules)
+  pub step_more : {j u : ℕ} → j ≡ k → power u ≡ power turns · letter_phase (letter_of x) (letter_of y) → StepTo s t i row₀ (k + 1) (set row (i + j) (bit_xor x y)) u
+  step_more ej e =
+      let next : q + 1 ≡ i + (k + 1) = omega arith in
+      record {
+        begun = m.begun;
+        within = omega arith;
+        out = record {
+          within = omega (arith, below);
+          out = ap₂ (λ (l : List ℕ) (n : ℕ). set l (i + n) (bit_xor x y)) m.out.out ej
+              ∙ fill_more (product_row s t) blank_row q _ (omega (arith, below, length-row s t)) (omega (arith, below, length-blank)) product-is
+              ∙ ap (fill (product_row s t) blank_row) next;
+        };
+        turned = ap (λ p. phase_to i s t · p) e ∙ sym (·_assoc (phase_to i s t) (power turns) _)
+            ∙ ap₂ ◌·◌ m.turned (ap₂ letter_phase (letter_is s ex) (letter_is t ey)) ∙ sym (phase-more s t q) ∙ ap (λ (j : ℕ). phase_to j s t) next;
+      }
 
 -- ---- the first k steps
 pub record PlacesTo (s t : List ℕ) (places : ℕ) (row₀ : List ℕ) (k : ℕ) (row : List ℕ) (turns : ℕ) : Type 0 where
