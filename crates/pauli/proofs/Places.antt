@@ -1,7 +1,7 @@
 -- Laws of lists by place, of the first place that has a property, and of a destination that is filled from its front.
 use Rattle.std.proofs.Common.{◌≡◌, ℕ, zero, suc, not, inl, inr, ◌⊎◌, Option, Some, None, ◌+◌, ◌-◌, ◌<◌, ◌≤◌, min, Bool, Bor, Iter, true, false, cond, ltb, List, [], ◌∷◌, ◌++◌, length, get_or, take, drop, set, sym, refl, ap, ◌∙◌, subst, ap₂, le_refl, le_of_suc-le-suc, not-suc-le-zero, add-one, arith, length-append, length-drop, length-take, get_or-drop, take_all, ext_get_or, le-ltb, lt-ltb}
 use Rattle.std.specs.List.{position, position_or_len}
-use Rattle.std.specs.Option.{unwrap_or, SomeIff}
+use Rattle.std.specs.Option.{unwrap_or, MatchOption, SomeIff}
 use Rattle.std.proofs.lemmas.Bool.{cases_lt}
 use Rattle.std.proofs.lemmas.List.Recursion.{is_position_or_len}
 use Rattle.std.proofs.lemmas.List.Sums.{prefix_len-le-length}
@@ -13,10 +13,13 @@ use Rattle.std.proofs.lemmas.List.FromFn.{length-enumerate_from, get_or-enumerat
 use Rattle.std.proofs.lemmas.Slice.Zip.{length-zip, get_or-zip}
 use Rattle.std.specs.declared.iter.Enumerate.{Enumerate}
 use Rattle.std.specs.declared.iter.Zip.{Zip}
-use Rattle.std.specs.Iterator.{Yields}
+use Rattle.std.proofs.lemmas.Iterator.Search.{position_from_yields_List}
+use Rattle.std.specs.Fn.{Called}
+use Rattle.std.specs.Iterator.{Yields, YieldsThen}
 use Rattle.std.specs.Iterator.Adapters.{enumerate_source, enumerate_count, enumerate_steps, zip_first, zip_second}
-use Rattle.std.specs.List.{enumerate_from, zip}
+use Rattle.std.specs.List.{FoldsTo, enumerate_from, zip}
 use Rattle.std.specs.Slice.Iter.{iter_rest}
+use denote.Param.Members.{Mut}
 use native.Mathlib.Decide.{ℕ_discrete}
 use lib.ListN.{get_or-append}
 use lib.Seq.{get_or_at, take-length}
@@ -133,6 +136,13 @@ module _ (p : ℕ → Bool) (xs : List ℕ) where
     | inl n ↦ ap (λ o. unwrap_or o (length xs)) n.0 ∙ n.1
     | inr s ↦ ap (λ o. unwrap_or o (length xs)) s.0
   ]
+
+-- std's `position` over a slice, by a closure that answers a test
+pub position_of_slice : {F : Type 0} {g : Mut F (Bor ℕ × Unit {0}) Bool} {s u : Iter ℕ} {f : F} {r : Option ℕ} (p : ℕ → Bool) (xs : List ℕ)
+    → (ys : List (Bor ℕ)) × (o : Option (Bor ℕ)) × (j : F) × YieldsThen fronts s ys o u × FoldsTo (λ h x q. Called g h (x, tt) false q) f ys j
+    × MatchOption o (r ≡ None) (λ x. (r ≡ Some (length ys)) × ((h : F) × Called g j (x, tt) true h))
+    → iter_rest s ≡ xs → ((x : Bor ℕ) (b : Bool) (q : F) → Called g f (x, tt) b q → (q ≡ f) × (b ≡ p x.now)) → r ≡ position p xs
+position_of_slice p xs ran e answers = position_from_yields_List p _ _ _ ran (YieldsList-from_slice xs e) answers
 
 -- what a scan from the front knows before place i
 pub record NoneBefore (n : ℕ) (f : ℕ → Bool) (i : ℕ) : Type 0 where
