@@ -15,7 +15,7 @@ use Rattle.pauli.specs.Inside.Marks.{RecordFits}
 use Rattle.pauli.specs.Text.{is_space, is_identity, letter_named, text_end, text_phase, body_start, ascii_question, dense_body, dense_letter, letter_questions, dense_questions, dense_string, from_dense_questions, dense_record}
 use Rattle.pauli.proofs.Answers.{written-done}
 use Rattle.pauli.proofs.Asking.{own_done, own_not, first_done, first_not, and_then_assoc, asked_yes, asked_no, refused, passed, room-is, record-bytes}
-use Rattle.pauli.proofs.Places.{first_of, first_ext, length-listed, get_d_listed, listed_ext, Filled, filled_none, filled_step, filled_length, filled_room, filled_all}
+use Rattle.pauli.proofs.Places.{first_of, first_ext, length-listed, get_d_listed, listed_ext, Filled, fill, fill_more, filled_none, filled_step, filled_length, filled_room}
 use Rattle.pauli.proofs.Records.{letter_there}
 use Rattle.pauli.proofs.SparseReading.{letter-small}
 use Rattle.pauli.proofs.TextBytes.{named_lacks, named_has}
@@ -117,13 +117,12 @@ named-at n b i ex h = ex ∙ sym (get_d_listed n _ i 0 h)
 pub named_none : (b d : List ℕ) → Filled (letters_named (length d) b) d (length d) 0 d
 named_none b d = filled_none (omega (arith, length-named (length d) b)) (omega arith)
 
-pub named_all : (b : List ℕ) {d e : List ℕ} {i : ℕ} → Filled (letters_named (length d) b) d (length d) i e → length d ≤ i → e ≡ letters_named (length d) b
-named_all b {d} {e} {i} f h =
-    filled_all (length d) refl f h
-    ∙ ap₂ ◌++◌ (take_all (length d) (letters_named (length d) b) (omega (arith, length-named (length d) b))) (drop_of_length-le d {i = length d} (omega arith))
+pub named_all : (b d : List ℕ) {i : ℕ} → i ≤ length d → length d ≤ i → fill (letters_named (length d) b) d i ≡ letters_named (length d) b
+named_all b d h k =
+    ap₂ ◌++◌ (take_all _ (letters_named (length d) b) (omega (arith, length-named (length d) b))) (drop_of_length-le d (omega arith))
     ∙ append-nil (letters_named (length d) b)
 
-pub ruleset named_fills = (named-at, named_none, named_all, filled_step, filled_length, filled_room, rules)
+pub ruleset named_fills = (named-at, named_none, named_all, fill_more, filled_step, filled_length, filled_room, rules)
 
 -- ---- the questions in their order
 module _ (t b : List ℕ) (k : ℕ) (at : DenseAt t b k) where

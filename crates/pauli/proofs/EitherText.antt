@@ -1,12 +1,9 @@
--- `from_str`: its rule is the same as any digit in the text, and its answer is that of the reader it picks.
-use Rattle.std.proofs.Common.{◌≡◌, ℕ, ◌+◌, ◌<◌, ◌≤◌, Bool, true, false, cond, ◌&&◌, ◌||◌, eqb, leb, ◌⊎◌, List, [], ◌∷◌, length, get_or, drop, sym, refl, ap, ◌∙◌, subst, inl, inr, add-one, arith, drop_of_length-le, drop-cons, rules, eqb-true, leb-true}
+-- `from_str`: its rule is the same as any digit in the text.
+use Rattle.std.proofs.Common.{◌≡◌, ℕ, ◌<◌, Bool, true, false, cond, ◌&&◌, ◌||◌, eqb, leb, ◌⊎◌, List, [], ◌∷◌, drop, sym, refl, ap, ◌∙◌, inl, inr, arith, eqb-true, leb-true}
 use lib.Seq.{drop-nil}
 use Rattle.std.specs.List.{list_any}
 use Rattle.std.specs.Char.{is_ascii_digit}
-use Rattle.pauli.specs.Answers.{Written, Outcome}
-use Rattle.pauli.specs.Questions.{◌and_then◌, room_question}
-use Rattle.pauli.specs.Layout.{string_record}
-use Rattle.pauli.specs.Text.{is_space, is_digit, is_sign, is_small_i, leading_spaces, text_start, without_signs, without_i, any_digit, is_sparse, text_questions, text_string, from_sparse_questions, sparse_record, from_dense_questions, dense_record, from_str_questions, text_record, sparse_questions, dense_questions, sparse_string, dense_string}
+use Rattle.pauli.specs.Text.{is_space, is_digit, is_sign, is_small_i, leading_spaces, text_start, without_signs, without_i, any_digit, is_sparse}
 use Rattle.pauli.proofs.TextBytes.{digit_low, digit_high}
 use Rattle.pauli.proofs.Tokens.{spaces_here, spaces_none}
 
@@ -107,27 +104,3 @@ any-list (c ∷ cs) = ap (λ b. is_ascii_digit c || b) (any-list cs)
 
 pub sparse-any : (t : List ℕ) {b : Bool} → b ≡ list_any is_ascii_digit t → b ≡ is_sparse t
 sparse-any t e = e ∙ any-list t ∙ sym (sparse_digit t)
-
--- ---- the reader that is picked
-module _ (t d : List ℕ) where
-  picked : (b : Bool) → is_sparse t ≡ b
-      → (from_str_questions t (length d) ≡ cond b (from_sparse_questions t (length d)) (from_dense_questions t (length d))) × (text_record t ≡ cond b (sparse_record t) (dense_record t))
-  unfolding from_str_questions text_questions from_sparse_questions from_dense_questions text_record text_string sparse_record dense_record
-  picked true e = (ap (λ b. cond b (sparse_questions t) (dense_questions t) and_then room_question 129 (length d)) e, ap (λ b. string_record (cond b (sparse_string t) (dense_string t))) e)
-  picked false e = (ap (λ b. cond b (sparse_questions t) (dense_questions t) and_then room_question 129 (length d)) e, ap (λ b. string_record (cond b (sparse_string t) (dense_string t))) e)
-
-pub either-sparse : (t : List ℕ) {d e : List ℕ} {r : Outcome} {b : Bool} → b ≡ is_sparse t → b ≡ true
-    → Written (from_sparse_questions t (length d)) (sparse_record t) d e r
-    → Written (from_str_questions t (length d)) (text_record t) d e r
-either-sparse t {d} {e} {r} p h w =
-    let same = picked t d true (sym p ∙ h) in
-    subst (λ q. Written q (text_record t) d e r) (sym same.0) (subst (λ o. Written (from_sparse_questions t (length d)) o d e r) (sym same.1) w)
-
-pub either-dense : (t : List ℕ) {d e : List ℕ} {r : Outcome} {b : Bool} → b ≡ is_sparse t → b ≡ false
-    → Written (from_dense_questions t (length d)) (dense_record t) d e r
-    → Written (from_str_questions t (length d)) (text_record t) d e r
-either-dense t {d} {e} {r} p h w =
-    let same = picked t d false (sym p ∙ h) in
-    subst (λ q. Written q (text_record t) d e r) (sym same.0) (subst (λ o. Written (from_dense_questions t (length d)) o d e r) (sym same.1) w)
-
-pub ruleset either_texts = (either-sparse, either-dense, rules)

@@ -1,5 +1,5 @@
 -- One pass over two strings: no byte above 3, and the places that their product takes.
-use Rattle.std.proofs.Common.{◌≡◌, ℕ, suc, ◌+◌, ◌<◌, ◌≤◌, max, Bool, true, false, cond, ◌||◌, eqb, List, length, get_or, sym, refl, ap, ◌∙◌, ap₂, add-one, arith, rules, eq-eqb, ne_eqb, Ok}
+use Rattle.std.proofs.Common.{◌≡◌, ℕ, suc, ◌+◌, ◌<◌, ◌≤◌, max, min, Bool, true, false, cond, ◌||◌, eqb, List, length, get_or, sym, refl, ap, ◌∙◌, ap₂, add-one, arith, rules, eq-eqb, ne_eqb, Ok}
 use native.Mathlib.Decide.{ℕ_discrete}
 use Rattle.pauli_group.specs.PauliString.{qubits, last_to, has_letter, places_taken}
 use Rattle.pauli.specs.Layout.{string_of}
@@ -8,6 +8,7 @@ use Rattle.pauli.specs.Strings.{places_taken_of_records}
 use Rattle.pauli.specs.Inside.Products.{seen_with, Looked}
 use Rattle.pauli.specs.declared.algebra.Sight.{Sight}
 use Rattle.pauli.proofs.Asking.{passed, done_first, done_second, string-length, formed-good}
+use Rattle.pauli.proofs.Places.{from, from_at, length_from}
 use Rattle.pauli.proofs.Records.{has_none, has_one}
 
 abbrev either : List ℕ → List ℕ → ℕ → Bool
@@ -75,17 +76,20 @@ module _ {s t : List ℕ} {q : ℕ} {r : Sight} (i : SeenTo s t q r) (h : q < 12
   pub seen_more : {n : Sight} → n ≡ seen_with r (get_or s (q + 1) 0) (get_or t (q + 1) 0) q → SeenTo s t (q + 1) n
   seen_more e = rw e more
 
-  pub seen_first : q + 1 < length s
-  seen_first = omega (arith, i.first)
-
-  pub seen_second : q + 1 < length t
-  seen_second = omega (arith, i.second)
+-- what is seen with the pair that a turn of the loop takes from the two strings
+pub seen_pair : {s t : List ℕ} {q k x y : ℕ} {r n : Sight} → SeenTo s t q r → q < length (from 1 s) → k ≡ q → x ≡ get_or (from 1 s) q 0 → y ≡ get_or (from 1 t) q 0
+    → n ≡ seen_with r x y k → SeenTo s t (q + 1) n
+seen_pair {s} {t} {q} {r = r} i l ek ex ey e =
+    seen_more i (omega (arith, l, length_from 1 s, i.first)) (e ∙ (λ j. seen_with r ((ex ∙ here s) j) ((ey ∙ here t) j) (ek j)))
+  where
+    here : (u : List ℕ) → get_or (from 1 u) q 0 ≡ get_or u (q + 1) 0
+    here u = from_at u q ∙ ap (λ (j : ℕ). get_or u j 0) (sym (add-one q))
 
 -- ---- what the pass has seen at its end, and what it says of what is not two strings
-pub seen_all : {s t : List ℕ} {q : ℕ} {r : Sight} → SeenTo s t q r → 128 ≤ q → Looked s t r
+pub seen_all : {s t : List ℕ} {q : ℕ} {r : Sight} → SeenTo s t q r → q ≡ min (length (from 1 s)) (length (from 1 t)) → Looked s t r
 unfolding strings_questions places_taken_of_records places_taken qubits
 seen_all {s} {t} {q} i h =
-    let whole : q ≡ 128 = omega (arith, i.within) in
+    let whole : q ≡ 128 = omega (arith, h, length_from 1 s, length_from 1 t, i.first, i.second) in
     record {
       clean = λ l. sym (passed (sym (formed-good s (record { long = i.first; small = λ k b. omega (arith, (i.small k (omega (arith, i.first))).0) }))) refl
           (sym (formed-good t (record { long = i.second; small = λ k b. omega (arith, (i.small k (omega (arith, i.second))).1) }))));
@@ -104,4 +108,4 @@ module _ {s t : List ℕ} where
   unfolding strings_questions
   not-second h = not-strings (λ d. h (string-length t (done_second (string_questions s) (string_questions t) d)))
 
-pub ruleset looks = (seen_none, seen_more, seen_all, not_first, not-second, seen_first, seen_second, rules)
+pub ruleset looks = (seen_none, not_first, not-second, rules)

@@ -1,7 +1,6 @@
 -- The product of two strings: its letters, 32 places at a step as far as the last that has one, and how it is written.
-use Rattle.pauli.specs.Answers.{Outcome}
-use Rattle.std.proofs.Common.{◌≡◌, ℕ, ◌+◌, ◌*◌, ◌%◌, ◌<◌, ◌≤◌, List, ◌∷◌, ◌++◌, length, get_or, take, drop, set, replicate, sym, refl, ap, ◌∙◌, subst, ap₂, append-nil, zero-le, add-one, arith, length-drop, take-append-drop, drop_of_length-le, length-take, get_or-drop, take_all, ext_get_or, rules, Ok}
-use Rattle.std.specs.Int.{div_ceil}
+use Rattle.pauli.specs.Answers.{written, Outcome}
+use Rattle.std.proofs.Common.{◌≡◌, ℕ, suc, ◌+◌, ◌-◌, ◌*◌, ◌%◌, ◌<◌, ◌≤◌, List, ◌∷◌, ◌++◌, length, get_or, take, drop, set, replicate, sym, refl, ap, ◌∙◌, subst, ap₂, append-nil, zero-le, add-one, arith, length-drop, take-append-drop, drop_of_length-le, length-take, get_or-drop, get_or-take, take_all, ext_get_or, rules, Ok}
 use lib.ListN.{length-replicate, get_or-replicate}
 use lib.Bits.{bit_xor}
 use borrow.Rule.Slice.PartMut.{put_mid}
@@ -13,15 +12,13 @@ use Rattle.pauli_group.proofs.Laws.{·_assoc, ·-one}
 use Rattle.pauli_group.proofs.Strings.{within-mul}
 use Rattle.pauli_group.proofs.PlacesTaken.{taken_le, taken-within, phase-taken}
 use Rattle.pauli.specs.Layout.{phase_byte, phase_of, letter_byte, letter_of, encode_string, decode_string, string_of, string_record}
-use Rattle.pauli.specs.Questions.{◌and_then◌, string_questions, strings_questions, room_question, mul_questions}
+use Rattle.pauli.specs.Questions.{string_questions, strings_questions, room_question}
 use Rattle.pauli.specs.Strings.{places_taken_of_records, product_record}
-use Rattle.pauli.specs.Promises.{StringsMultiplied}
 use Rattle.pauli.specs.Inside.Turns.{LetterBytes}
-use Rattle.pauli.specs.Inside.Products.{Looked, Factors, Operands, product_row, phase_to, blank_row, Beginning, RowTo, Stepping, Stepped, RowMultiplied}
+use Rattle.pauli.specs.Inside.Products.{Looked, Operands, product_row, phase_to, blank_row, Beginning, RowTo, Stepping, RowMultiplied}
 use Rattle.pauli.specs.declared.algebra.Sight.{Sight}
-use Rattle.pauli.proofs.Answers.{answers, number-done}
-use Rattle.pauli.proofs.Asking.{first_done, in_order, done_first, done_second, string-formed, room-is, record-bytes}
-use Rattle.pauli.proofs.Places.{length-listed, get_d_listed, fill_more, length_fill}
+use Rattle.pauli.proofs.Asking.{done_first, done_second, string-formed, room-is, record-bytes}
+use Rattle.pauli.proofs.Places.{length-listed, get_d_listed, fill, fill_more, length_fill}
 use Rattle.pauli.proofs.Records.{letter_of_lem, string-within}
 use Rattle.pauli.proofs.Turns.{power_sum, letter_sum}
 use Rattle.pauli.proofs.EntryStrings.{put_record}
@@ -51,63 +48,70 @@ phase-more : (s t : List ℕ) (q : ℕ) → phase_to (q + 1) s t ≡ phase_to q 
 unfolding phase_to product_to
 phase-more s t q = rw (add-one q)
 
--- ---- one step, before place q of it
-pub record StepTo (s t : List ℕ) (i : ℕ) (row₀ : List ℕ) (q : ℕ) (row : List ℕ) (turns : ℕ) : Type 0 where
+-- ---- one step, after the first k of its places
+-- the letters of u that it takes
+abbrev pub step_part : ℕ → List ℕ → List ℕ
+step_part i u = take (i + 33 - (i + 1)) (drop (i + 1) u)
+
+pub length_part : (i : ℕ) (u : List ℕ) → length (step_part i u) ≤ 32
+length_part i u = omega (arith, length-take (i + 33 - (i + 1)) (drop (i + 1) u))
+
+pub record StepTo (s t : List ℕ) (i : ℕ) (row₀ : List ℕ) (k : ℕ) (row : List ℕ) (turns : ℕ) : Type 0 where
   pub begun : Stepping s t i row₀
-  pub within : q ≤ i + 32
-  pub out : RowTo s t q row
-  pub turned : phase_to i s t · power turns ≡ phase_to q s t
+  pub within : k ≤ 32
+  pub out : RowTo s t (i + k) row
+  pub turned : phase_to i s t · power turns ≡ phase_to (i + k) s t
 
-pub step-none : {s t : List ℕ} {i : ℕ} {row : List ℕ} → Stepping s t i row → StepTo s t i row i row 0
+pub step_none : {s t : List ℕ} {i : ℕ} {row : List ℕ} → Stepping s t i row → StepTo s t i row 0 row 0
 unfolding power
-step-none {s} {t} {i} m = record { begun = m; within = omega arith; out = m.before; turned = ·-one (phase_to i s t) }
+step_none {s} {t} {i} {row} m =
+    let none : i ≡ i + 0 = omega arith in
+    record { begun = m; within = omega arith; out = subst (λ j. RowTo s t j row) none m.before; turned = ·-one (phase_to i s t) ∙ ap (λ (j : ℕ). phase_to j s t) none }
 
-module _ {s t : List ℕ} {i q : ℕ} {row₀ row : List ℕ} {turns : ℕ} (m : StepTo s t i row₀ q row turns) (h : q < i + 32) where
+pub step_place : {s t : List ℕ} {i k : ℕ} {row₀ row : List ℕ} {turns : ℕ} → StepTo s t i row₀ k row turns → k < 32 → i + k < length row
+step_place m h = omega (arith, m.begun.room, length_row_to m.out)
+
+module _ {s t : List ℕ} {i k x y : ℕ} {row₀ row : List ℕ} {turns : ℕ} (m : StepTo s t i row₀ k row turns) (h : k < 32)
+    (ex : x ≡ get_or (step_part i s) k 0) (ey : y ≡ get_or (step_part i t) k 0) where
+  abbrev q : ℕ
+  q = i + k
+
   below : q < 128
   below = omega (arith, m.begun.room)
 
-  pub step-first : q + 1 < length s
-  step-first = omega (arith, below, m.begun.first.long)
+  part_at : (u : List ℕ) → get_or (step_part i u) k 0 ≡ get_or u (suc q) 0
+  part_at u =
+      let is : i + 1 + k ≡ suc q = omega arith in
+      get_or-take (i + 33 - (i + 1)) (drop (i + 1) u) k 0 (omega arith) ∙ get_or-drop (i + 1) u k 0 ∙ ap (λ (j : ℕ). get_or u j 0) is
 
-  pub step-second : q + 1 < length t
-  step-second = omega (arith, below, m.begun.second.long)
-
-  pub step-place : q < length row
-  step-place = omega (arith, below, length_row_to m.out)
-
-  pub step-letters : LetterBytes (get_or s (q + 1) 0) (get_or t (q + 1) 0)
-  step-letters = record { first = m.begun.first.small (q + 1) step-first; second = m.begun.second.small (q + 1) step-second }
-
-  letter_here_lem : (u : List ℕ) → letter_of (get_or u (q + 1) 0) ≡ (string_of u).letters q
-  letter_here_lem u = ap (λ (j : ℕ). letter_of (get_or u j 0)) (add-one q) ∙ sym (letter_of_lem u q below)
-
-  letter-is : bit_xor (get_or s (q + 1) 0) (get_or t (q + 1) 0) ≡ get_or (product_row s t) q 0
-  unfolding mul
-  letter-is = letter_sum step-letters ∙ ap letter_byte (ap₂ letter_mul (letter_here_lem s) (letter_here_lem t)) ∙ sym (row_at s t q below)
-
-  pub step-more : {u : ℕ} → power u ≡ power turns · letter_phase (letter_of (get_or s (q + 1) 0)) (letter_of (get_or t (q + 1) 0))
-      → StepTo s t i row₀ (q + 1) (set row q (bit_xor (get_or s (q + 1) 0) (get_or t (q + 1) 0))) u
-  step-more e = record {
-    begun = m.begun;
-    within = omega arith;
-    out = record {
-      within = omega (arith, below);
-      out = ap (λ (l : List ℕ). set l q (bit_xor (get_or s (q + 1) 0) (get_or t (q + 1) 0))) m.out.out
-          ∙ fill_more (product_row s t) blank_row q _ (omega (arith, below, length-row s t)) (omega (arith, below, length-blank)) letter-is;
-    };
-    turned = ap (λ p. phase_to i s t · p) e ∙ sym (·_assoc (phase_to i s t) (power turns) _)
-        ∙ ap₂ ◌·◌ m.turned (ap₂ letter_phase (letter_here_lem s) (letter_here_lem t)) ∙ sym (phase-more s t q);
+  pub step_letters : LetterBytes x y
+  step_letters = record {
+    first = omega (arith, ex, part_at s, m.begun.first.small (suc q) (omega (arith, below, m.begun.first.long)));
+    second = omega (arith, ey, part_at t, m.begun.second.small (suc q) (omega (arith, below, m.begun.second.long)));
   }
 
-pub step_all : {s t : List ℕ} {i q : ℕ} {row₀ row : List ℕ} {turns : ℕ} → StepTo s t i row₀ q row turns → i + 32 ≤ q → Stepped s t i row turns
-step_all {s} {t} {i} {q} m h =
-    let whole : q ≡ i + 32 = omega (arith, m.within) in
-    record { after = rw whole at m.out; turns = m.turned ∙ ap (λ (j : ℕ). phase_to j s t) whole }
+  letter_is : (u : List ℕ) {z : ℕ} → z ≡ get_or (step_part i u) k 0 → letter_of z ≡ (string_of u).letters q
+  letter_is u e = ap letter_of (e ∙ part_at u) ∙ sym (letter_of_lem u q below)
 
-pub step-length : {s t : List ℕ} {i q : ℕ} {row₀ row : List ℕ} {turns : ℕ} → StepTo s t i row₀ q row turns → length row ≡ length row₀
-step-length m = length_row_to m.out ∙ sym (length_row_to m.begun.before)
+  product-is : bit_xor x y ≡ get_or (product_row s t) q 0
+  unfolding mul
+  product-is = letter_sum step_letters ∙ ap letter_byte (ap₂ letter_mul (letter_is s ex) (letter_is t ey)) ∙ sym (row_at s t q below)
 
-pub ruleset steps = (step-none, step-first, step-second, step-place, step-letters, step-more, step_all, step-length, rules)
+  pub step_more : {j u : ℕ} → j ≡ k → power u ≡ power turns · letter_phase (letter_of x) (letter_of y) → StepTo s t i row₀ (k + 1) (set row (i + j) (bit_xor x y)) u
+  step_more ej e =
+      let next : q + 1 ≡ i + (k + 1) = omega arith in
+      record {
+        begun = m.begun;
+        within = omega arith;
+        out = record {
+          within = omega (arith, below);
+          out = ap₂ (λ (l : List ℕ) (n : ℕ). set l (i + n) (bit_xor x y)) m.out.out ej
+              ∙ fill_more (product_row s t) blank_row q _ (omega (arith, below, length-row s t)) (omega (arith, below, length-blank)) product-is
+              ∙ ap (fill (product_row s t) blank_row) next;
+        };
+        turned = ap (λ p. phase_to i s t · p) e ∙ sym (·_assoc (phase_to i s t) (power turns) _)
+            ∙ ap₂ ◌·◌ m.turned (ap₂ letter_phase (letter_is s ex) (letter_is t ey)) ∙ sym (phase-more s t q) ∙ ap (λ (j : ℕ). phase_to j s t) next;
+      }
 
 -- ---- the first k steps
 pub record PlacesTo (s t : List ℕ) (places : ℕ) (row₀ : List ℕ) (k : ℕ) (row : List ℕ) (turns : ℕ) : Type 0 where
@@ -115,70 +119,43 @@ pub record PlacesTo (s t : List ℕ) (places : ℕ) (row₀ : List ℕ) (k : ℕ
   pub out : RowTo s t (32 * k) row
   pub turned : power turns ≡ phase_to (32 * k) s t
 
-pub places-none : {s t : List ℕ} {places : ℕ} {row : List ℕ} → Beginning s t places row → PlacesTo s t places row 0 row 0
+pub no_phase : (s t : List ℕ) → phase_to 0 s t ≡ power 0
 unfolding phase_to product_to power
-places-none h = record { begun = h; out = record { within = zero-le; out = h.blank }; turned = refl }
+no_phase s t = refl
 
-module _ {s t : List ℕ} {places : ℕ} (f : Factors s t places) where
-  most : places ≤ 128
+module _ (s t : List ℕ) where
+  pub taken_most : places_taken_of_records s t ≤ 128
   unfolding places_taken_of_records qubits
-  most = omega (arith, f.taken, taken_le (string_of s) (string_of t))
+  taken_most = taken_le (string_of s) (string_of t)
 
-  module _ (i : ℕ) (h : places ≤ i) where
+  -- the product has only I from the last place on that it takes
+  module _ (i : ℕ) (h : places_taken_of_records s t ≤ i) where
     both_within : Within i (string_of s) × Within i (string_of t)
     unfolding places_taken_of_records
     both_within =
         let both = taken-within (string_of s) (string_of t) (string-within s) (string-within t) in
-        ((λ q l. both.0 q (omega (arith, f.taken))), (λ q l. both.1 q (omega (arith, f.taken))))
+        ((λ q l. both.0 q (omega arith)), (λ q l. both.1 q (omega arith)))
 
-    -- the product has only I from there on
     row-behind : (q : ℕ) → i ≤ q → q < 128 → get_or (product_row s t) q 0 ≡ 0
     unfolding letter_byte
     row-behind q l b = row_at s t q b ∙ ap letter_byte (within-mul i (string_of s) (string_of t) both_within.0 both_within.1 q l)
 
-pub places-step : {s t : List ℕ} {places n k : ℕ} {row₀ row : List ℕ} {turns : ℕ} → PlacesTo s t places row₀ k row turns → n ≡ div_ceil places 32 → k < n
-    → Stepping s t (32 * k) row
-places-step m e h =
-    let f = m.begun.factors in
-    record { first = f.first; second = f.second; room = omega (arith, most f); before = m.out }
+    rest : drop i blank_row ≡ drop i (product_row s t)
+    rest = ext_get_or 0 _ _ (omega (arith, length-drop i blank_row, length-drop i (product_row s t), length-blank, length-row s t)) at
+      where
+        at : (k : ℕ) → k < length (drop i blank_row) → get_or (drop i blank_row) k 0 ≡ get_or (drop i (product_row s t)) k 0
+        at k l =
+            let b : i + k < 128 = omega (arith, l, length-drop i blank_row, length-blank) in
+            get_or-drop i blank_row k 0 ∙ blank-at (i + k) b ∙ sym (row-behind (i + k) (omega arith) b) ∙ sym (get_or-drop i (product_row s t) k 0)
 
-pub places-more : {s t : List ℕ} {places k : ℕ} {row₀ row next : List ℕ} {turns v u : ℕ} → PlacesTo s t places row₀ k row turns → Stepped s t (32 * k) next v
-    → u ≡ (turns + v) % 256 → PlacesTo s t places row₀ (k + 1) next u
-places-more {s} {t} {k = k} {next = next} {turns = turns} {v = v} m n e =
-    let on : 32 * k + 32 ≡ 32 * (k + 1) = omega arith in
-    record {
-      begun = m.begun;
-      out = subst (λ i. RowTo s t i next) on n.after;
-      turned = ap power e ∙ power_sum turns v ∙ ap (λ p. p · power v) m.turned ∙ n.turns ∙ ap (λ i. phase_to i s t) on;
-    }
+    pub row_whole : take i (product_row s t) ++ drop i blank_row ≡ product_row s t
+    row_whole = ap (λ (l : List ℕ). take i (product_row s t) ++ l) rest ∙ take-append-drop i (product_row s t)
 
-module _ {s t : List ℕ} {places n k : ℕ} {row₀ row : List ℕ} {turns : ℕ} (m : PlacesTo s t places row₀ k row turns) (whole : n ≡ div_ceil places 32) (ends : n ≤ k) where
-  abbrev i : ℕ
-  i = 32 * k
+    pub phase_whole : i ≤ 128 → phase_to i s t ≡ phase_of_letters (string_of s).letters (string_of t).letters
+    unfolding qubits phase_to
+    phase_whole b = sym (phase-taken (string_of s) (string_of t) i b both_within.0)
 
-  h : places ≤ i
-  h = omega arith
-
-  rest : drop i blank_row ≡ drop i (product_row s t)
-  rest = ext_get_or 0 _ _ (omega (arith, length-drop i blank_row, length-drop i (product_row s t), length-blank, length-row s t)) at
-    where
-      at : (k : ℕ) → k < length (drop i blank_row) → get_or (drop i blank_row) k 0 ≡ get_or (drop i (product_row s t)) k 0
-      at k l =
-          let b : i + k < 128 = omega (arith, l, length-drop i blank_row, length-blank) in
-          get_or-drop i blank_row k 0 ∙ blank-at (i + k) b ∙ sym (row-behind m.begun.factors i h (i + k) (omega arith) b)
-          ∙ sym (get_or-drop i (product_row s t) k 0)
-
-  pub places_all : RowMultiplied s t row turns
-  unfolding qubits phase_to
-  places_all = record {
-    letters = m.out.out ∙ ap (λ (l : List ℕ). take i (product_row s t) ++ l) rest ∙ take-append-drop i (product_row s t);
-    turns = m.turned ∙ sym (phase-taken (string_of s) (string_of t) i m.out.within (both_within m.begun.factors i h).0);
-  }
-
-pub places-length : {s t : List ℕ} {places i : ℕ} {row₀ row : List ℕ} {turns : ℕ} → PlacesTo s t places row₀ i row turns → length row ≡ length row₀
-places-length m = length_row_to m.out ∙ sym (ap length m.begun.blank ∙ length-blank)
-
-pub ruleset taking = (places-none, places-step, places-more, places_all, places-length, rules)
+pub ruleset taking = (no_phase, taken_most, row_whole, phase_whole, power_sum)
 
 -- ---- the product's bytes
 phase_of_lem : (s t : List ℕ) → (mul (string_of s) (string_of t)).phase
@@ -206,11 +183,9 @@ product_written {s} {t} {d} {row} {ys} {turns = turns} {p = p} {n = n} f m ep ey
     phase-is : phase_byte (phase_of (get_or s 0 0) · phase_of (get_or t 0 0) · power turns) ≡ phase_byte (mul (string_of s) (string_of t)).phase
     phase-is = ap (λ x. phase_byte (phase_of (get_or s 0 0) · phase_of (get_or t 0 0) · x)) m.turns ∙ ap phase_byte (sym (phase_of_lem s t))
 
--- ---- what the questions of the product let by, and what is answered then
-pub mul-asked : (s t : List ℕ) (room : ℕ) {r : Outcome} → r ≡ strings_questions s t and_then room_question 129 room → r ≡ mul_questions s t room
-unfolding mul_questions
-mul-asked s t room e = e
+pub ruleset written_products = (product_written, begins, rules)
 
+-- ---- what the questions of the product let by, and what is answered then
 module _ (s t d : List ℕ) {sight : Sight} (l : Looked s t sight) (p : Ok tt ≡ strings_questions s t) (h : Ok tt ≡ room_question 129 (length d)) where
   pub operands : Operands s t sight.places d
   unfolding strings_questions
@@ -223,12 +198,8 @@ module _ (s t d : List ℕ) {sight : Sight} (l : Looked s t sight) (p : Ok tt �
     room = room-is 129 (length d) (sym h);
   }
 
-  pub multiplied : {e : List ℕ} {n : ℕ} → n ≡ sight.places → e ≡ product_record s t ++ drop 129 d → StringsMultiplied s t d e (Ok n)
-  unfolding product_record mul_questions
-  multiplied c w = number-done (first_done p h) (c ∙ l.taken (sym p)) (w ∙ record-bytes (mul (string_of s) (string_of t)) d)
+pub product_bytes : (s t d : List ℕ) {q : Outcome} → q ≡ Ok tt → written q (product_record s t) d ≡ product_record s t ++ drop 129 d
+unfolding product_record
+product_bytes s t d e = ap (λ x. written x (product_record s t) d) e ∙ sym (record-bytes (mul (string_of s) (string_of t)) d)
 
--- where the product's row goes
-pub row_room : {s t d : List ℕ} {places : ℕ} → Operands s t places d → length (take 128 (drop 1 d)) ≡ 128
-row_room {d = d} f = length-take 128 (drop 1 d) ∙ omega (arith, f.room, length-drop 1 d)
-
-pub ruleset string_products = (mul-asked, product_written, operands, begins, multiplied, answers, in_order, rules)
+pub ruleset string_products = (operands, product_bytes)

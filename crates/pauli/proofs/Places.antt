@@ -1,10 +1,25 @@
 -- Laws of lists by place, of the first place that has a property, and of a destination that is filled from its front.
-use Rattle.std.proofs.Common.{◌≡◌, ℕ, zero, suc, not, inl, inr, ◌⊎◌, Option, Some, None, ◌+◌, ◌-◌, ◌<◌, ◌≤◌, max, Bool, true, false, cond, ltb, List, [], ◌∷◌, ◌++◌, length, get_or, take, drop, set, sym, refl, ap, ◌∙◌, subst, ap₂, le_refl, le_of_suc-le-suc, not-suc-le-zero, add-one, arith, length-append, length-drop, length-take, get_or-drop, take_all, ext_get_or, le-ltb, lt-ltb}
+use Rattle.std.proofs.Common.{◌≡◌, ℕ, zero, suc, not, inl, inr, ◌⊎◌, Option, Some, None, ◌+◌, ◌-◌, ◌<◌, ◌≤◌, min, Bool, Bor, Iter, true, false, cond, ltb, List, [], ◌∷◌, ◌++◌, length, get_or, take, drop, set, sym, refl, ap, ◌∙◌, subst, ap₂, le_refl, le_of_suc-le-suc, not-suc-le-zero, add-one, arith, length-append, length-drop, length-take, get_or-drop, take_all, ext_get_or, le-ltb, lt-ltb}
 use Rattle.std.specs.List.{position, position_or_len}
-use Rattle.std.specs.Option.{unwrap_or, SomeIff}
+use Rattle.std.specs.Option.{unwrap_or, MatchOption, SomeIff}
 use Rattle.std.proofs.lemmas.Bool.{cases_lt}
 use Rattle.std.proofs.lemmas.List.Recursion.{is_position_or_len}
 use Rattle.std.proofs.lemmas.List.Sums.{prefix_len-le-length}
+use Rattle.std.proofs.iter.Yields.{fronts}
+use Rattle.std.proofs.lemmas.Grind.{get_or_default_zero}
+use Rattle.std.proofs.lemmas.Iterator.{YieldsList, YieldsList-from_slice, YieldsList-from_zip, zips}
+use Rattle.std.proofs.lemmas.Iterator.Consumers.{YieldsList-from_enumerate, YieldsList-turn, YieldsList-end}
+use Rattle.std.proofs.lemmas.List.FromFn.{length-enumerate_from, get_or-enumerate_from}
+use Rattle.std.proofs.lemmas.Slice.Zip.{length-zip, get_or-zip}
+use Rattle.std.specs.declared.iter.Enumerate.{Enumerate}
+use Rattle.std.specs.declared.iter.Zip.{Zip}
+use Rattle.std.proofs.lemmas.Iterator.Search.{position_from_yields_List}
+use Rattle.std.specs.Fn.{Called}
+use Rattle.std.specs.Iterator.{Yields, YieldsThen}
+use Rattle.std.specs.Iterator.Adapters.{enumerate_source, enumerate_count, enumerate_steps, zip_first, zip_second}
+use Rattle.std.specs.List.{FoldsTo, enumerate_from, zip}
+use Rattle.std.specs.Slice.Iter.{iter_rest}
+use denote.Param.Members.{Mut}
 use native.Mathlib.Decide.{ℕ_discrete}
 use lib.ListN.{get_or-append}
 use lib.Seq.{get_or_at, take-length}
@@ -137,6 +152,13 @@ module _ (p : ℕ → Bool) (xs : List ℕ) where
     | inr s ↦ ap (λ o. unwrap_or o (length xs)) s.0
   ]
 
+-- std's `position` over a slice, by a closure that answers a test
+pub position_of_slice : {F : Type 0} {g : Mut F (Bor ℕ × Unit {0}) Bool} {s u : Iter ℕ} {f : F} {r : Option ℕ} (p : ℕ → Bool) (xs : List ℕ)
+    → (ys : List (Bor ℕ)) × (o : Option (Bor ℕ)) × (j : F) × YieldsThen fronts s ys o u × FoldsTo (λ h x q. Called g h (x, tt) false q) f ys j
+    × MatchOption o (r ≡ None) (λ x. (r ≡ Some (length ys)) × ((h : F) × Called g j (x, tt) true h))
+    → iter_rest s ≡ xs → ((x : Bor ℕ) (b : Bool) (q : F) → Called g f (x, tt) b q → (q ≡ f) × (b ≡ p x.now)) → r ≡ position p xs
+position_of_slice p xs ran e answers = position_from_yields_List p _ _ _ ran (YieldsList-from_slice xs e) answers
+
 -- what a scan from the front knows before place i
 pub record NoneBefore (n : ℕ) (f : ℕ → Bool) (i : ℕ) : Type 0 where
   pub within : i ≤ n
@@ -164,20 +186,6 @@ none_left_lem {n} {f} {i} m h = first-is n f i m.within m.none (λ l. absurd (lt
 pub record LargestTo (s : List ℕ) (i m : ℕ) : Type 0 where
   pub within : i ≤ length s
   pub is : m ≡ largest_to i s
-
-pub largest_start : (s : List ℕ) → LargestTo s 0 0
-unfolding largest_to
-largest_start s = record { within = omega arith; is = refl }
-
-pub largest_step : {s : List ℕ} {i m n : ℕ} → LargestTo s i m → i < length s → n ≡ max m (get_or s i 0) → LargestTo s (i + 1) n
-unfolding largest_to
-largest_step {s} {i} a l h = record {
-  within = omega arith;
-  is = h ∙ ap (λ (k : ℕ). max k (get_or s i 0)) a.is ∙ ap (λ (j : ℕ). largest_to j s) (sym (add-one i));
-}
-
-pub largest_all : {s : List ℕ} {i m : ℕ} → LargestTo s i m → length s ≤ i → m ≡ largest_to (length s) s
-largest_all {s} {i} a h = let e : i ≡ length s = omega (arith, a.within) in a.is ∙ ap (λ (j : ℕ). largest_to j s) e
 
 -- no byte is above it
 largest_each : (n : ℕ) (s : List ℕ) (k : ℕ) → k < n → get_or s k 0 ≤ largest_to n s
@@ -321,3 +329,37 @@ length_from k s = rw (from_is k s) (length-drop k s)
 
 pub from_at : (s : List ℕ) (c : ℕ) → get_or (from 1 s) c 0 ≡ get_or s (suc c) 0
 from_at s c = let e : 1 + c ≡ suc c = omega arith in ap (λ (l : List ℕ). get_or l c 0) (from_is 1 s) ∙ get_or-drop 1 s c 0 ∙ ap (λ (j : ℕ). get_or s j 0) e
+
+-- ---- a loop over the numbered pairs of two slices: where a turn's pair stands, and how many turns there were
+module _ (ks vs : List ℕ) (xs : List (ℕ × (Bor ℕ × Bor ℕ))) (s t u : Enumerate (Zip (Iter ℕ) (Iter ℕ))) (r : Option (ℕ × (Bor ℕ × Bor ℕ)))
+    (first : iter_rest (zip_first (enumerate_source s)) ≡ ks) (second : iter_rest (zip_second (enumerate_source s)) ≡ vs) (count : enumerate_count s ≡ 0)
+    (y : Yields (enumerate_steps (zips fronts fronts)) s xs t) where
+  abbrev pairs : List (ℕ × (ℕ × ℕ))
+  pairs = enumerate_from 0 (zip ks vs)
+
+  road : YieldsList (enumerate_steps (zips fronts fronts)) (λ p. (p.0, (p.1.0.now, p.1.1.now))) s pairs
+  road = YieldsList-from_enumerate (YieldsList-from_zip (YieldsList-from_slice ks first) (YieldsList-from_slice vs second)) count
+
+  long : length pairs ≡ min (length ks) (length vs)
+  long = length-enumerate_from 0 (zip ks vs) ∙ length-zip ks vs
+
+  pub numbered_turn : (p : ℕ × (Bor ℕ × Bor ℕ)) → r ≡ Some p → enumerate_steps (zips fronts fronts) t r u
+      → (length xs < length ks) × (length xs < length vs) × (p.0 ≡ length xs) × (p.1.0.now ≡ get_or ks (length xs) 0) × (p.1.1.now ≡ get_or vs (length xs) 0)
+  numbered_turn p e h =
+      let turn = YieldsList-turn road xs t y r u p e h in
+      let in_first : length xs < length ks = omega (arith, turn.0, long) in
+      let in_second : length xs < length vs = omega (arith, turn.0, long) in
+      let is = turn.1 ∙ get_or-enumerate_from 0 (zip ks vs) (length xs) _ (omega (arith, turn.0, length-enumerate_from 0 (zip ks vs)))
+      ∙ ap₂ (λ (j : ℕ) q. (j, q)) zero_add (get_or-zip ks vs (length xs) _ in_first in_second) in (
+        in_first,
+        in_second,
+        ap (λ q. q.0) is,
+        ap (λ q. q.1.0) is ∙ get_or_default_zero ks (length xs) _ in_first,
+        ap (λ q. q.1.1) is ∙ get_or_default_zero vs (length xs) _ in_second,
+      )
+    where
+      zero_add : 0 + length xs ≡ length xs
+      zero_add = omega arith
+
+  pub numbered_end : r ≡ None → enumerate_steps (zips fronts fronts) t r u → length xs ≡ min (length ks) (length vs)
+  numbered_end e h = (YieldsList-end road xs t y r u e h).1 ∙ long

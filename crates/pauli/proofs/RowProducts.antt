@@ -9,10 +9,10 @@ use Rattle.pauli_group.specs.Papers.{power}
 use Rattle.pauli_group.proofs.Laws.{·_assoc, ·-one, anticommute-I}
 use Rattle.pauli_group.proofs.Products.{count_to_le, count_to_ext, count_to-cut}
 use Rattle.pauli.specs.Layout.{phase_byte, phase_of, letter_byte, letter_of}
-use Rattle.pauli.specs.Rows.{product_phase_byte, product_letter_byte, letter_bytes_product, letter_at, product_letters, product_phase, places_of, letter_count, Scanned, shorter, RowTimes}
-use Rattle.pauli.specs.Inside.Turns.{LetterTurns, PhaseTurns, anticommuting, lettered, scanned_with}
+use Rattle.pauli.specs.Rows.{product_phase_byte, product_letter_byte, letter_bytes_product, letter_at, product_letters, product_phase, places_of, letter_count, shorter, RowTimes}
+use Rattle.pauli.specs.Inside.Turns.{LetterTurns, PhaseTurns, anticommuting, lettered}
 use Rattle.pauli.specs.declared.rows.LetterScan.{LetterScan}
-use Rattle.pauli.proofs.Places.{length-listed, get_d_listed, LargestTo, largest_start, largest_step, largest_all, fill, fill_more, fill_all, fill_at}
+use Rattle.pauli.proofs.Places.{length-listed, get_d_listed, LargestTo, fill, fill_more, fill_all, fill_at}
 use Rattle.pauli.proofs.Records.{phase-back}
 use Rattle.pauli.proofs.Turns.{power_sum}
 
@@ -138,18 +138,6 @@ letters_all a k m = counted_end k m
 pub record ScannedTo (s : List ℕ) (i : ℕ) (r : LetterScan) : Type 0 where
   pub largest : LargestTo s i r.largest
   pub letters : Counted (letter_here s) (length s) i r.letters
-
-pub scan_start : (s : List ℕ) → ScannedTo s 0 (record { largest = 0; letters = 0 })
-scan_start s = record { largest = largest_start s; letters = counted_none }
-
-pub scan_step : {s : List ℕ} {i : ℕ} {r n : LetterScan} → ScannedTo s i r → i < length s → n ≡ scanned_with r (get_or s i 0) → ScannedTo s (i + 1) n
-unfolding scanned_with
-scan_step {s} {i} {r} a h e = rw e (record { largest = largest_step a.largest h refl; letters = letters-step s h a.letters refl refl })
-
-pub scan_all : {s : List ℕ} {i : ℕ} {r : LetterScan} → ScannedTo s i r → length s ≤ i → Scanned s r
-scan_all {s} a h = record { largest = largest_all a.largest h; letters = letters_all s h a.letters }
-
-pub ruleset letter_scans = (scan_start, scan_step, scan_all, rules)
 
 -- up to 255 places the count is exact
 count_exact : (n : ℕ) (a b : List ℕ) → n ≤ 255 → places_of n a b % 256 ≡ places_of n a b

@@ -2,14 +2,14 @@
 use Rattle.std.proofs.Common.{◌≡◌, ℕ, zero, suc, ◌+◌, ◌-◌, ◌<◌, ◌≤◌, Bool, true, false, cond, not, ◌||◌, eqb, ltb, List, [], ◌∷◌, length, get_or, take, drop, sym, refl, ap, ◌∙◌, subst, ap₂, not-suc-le-zero, add-one, arith, length-drop, drop_of_length-le, length-take, get_or-drop, drop-cons, get_or-take, drop-drop, rules, ltb-true, le-ltb, lt-ltb, Some, None, Ok, Err, IsErrAnd}
 use Rattle.pauli_group.specs.PauliString.{qubits}
 use Rattle.pauli.specs.Answers.{Answer, Outcome, answer_to}
-use Rattle.pauli.proofs.Answers.{exit-is, answer-ok, answer-err}
+use Rattle.pauli.proofs.Answers.{answer-ok, answer-err}
 use Rattle.pauli.specs.declared.refusal.Refusal.{Refusal}
-use Rattle.pauli.specs.declared.refusal.Refusal.TheVariants.{NotLetter, NoIndex, NotNumeral, TextQubit}
+use Rattle.pauli.specs.declared.refusal.Refusal.TheVariants.{NotLetter, NoIndex, NotNumeral}
 use Rattle.pauli.specs.declared.sparse_reader.Entry.{Entry}
 use Rattle.pauli.specs.Questions.{ask, ◌and_then◌}
-use Rattle.pauli.specs.Inside.Reading.{Skipped, letter_if, numeral_if, index_numeral, WordAt, LetterAt, OneEntry, EntryRead, leading_word}
+use Rattle.pauli.specs.Inside.Reading.{Skipped, letter_if, WordAt, LetterAt, OneEntry, EntryRead, leading_word}
 use Rattle.pauli.specs.Text.{is_space, letter_named, leading_spaces, Token, token, tokens, is_index, index_value, index_questions, has_index, attached_questions, attached_entry, apart_entry, token_questions, token_entries}
-use Rattle.pauli.proofs.Asking.{asked_yes, asked_no, ask_done, first_not, first_done, done_second}
+use Rattle.pauli.proofs.Asking.{ask_done, done_second}
 use Rattle.pauli.specs.Places.{first_place}
 use Rattle.pauli.proofs.Places.{first_has}
 use Rattle.pauli.proofs.TextBytes.{named_some, named_not}
@@ -17,44 +17,9 @@ use Rattle.pauli.proofs.Tokens.{word_here, refused-first, done_then, tokens_skip
 
 -- ---- an index
 module _ (bs : List ℕ) (k : ℕ) where
-  index_has : {v : ℕ} → Some v ≡ index_numeral bs → (is_index bs ≡ true) × (v ≡ index_value bs)
-  unfolding index_numeral
-  index_has {v} e = go (is_index bs) e
-    where
-      go : (b : Bool) → Some v ≡ numeral_if b (index_value bs) → (b ≡ true) × (v ≡ index_value bs)
-      go true h = (refl, cc)
-      go false h = cc
-
-  index_lacks : None ≡ index_numeral bs → is_index bs ≡ false
-  unfolding index_numeral
-  index_lacks e = go (is_index bs) e
-    where
-      go : (b : Bool) → None ≡ numeral_if b (index_value bs) → b ≡ false
-      go true h = cc
-      go false h = refl
-
-  pub index_not : None ≡ index_numeral bs → Err (NotNumeral k) ≡ answer_to (index_questions k bs) (index_value bs)
-  unfolding index_questions answer_to
-  index_not e = ap (λ q. answer_to q (index_value bs)) (first_not _ (asked_no (NotNumeral k) (index_lacks e)))
-
-  pub index_at : {v : ℕ} → Some v ≡ index_numeral bs → v < 128 → Ok v ≡ answer_to (index_questions k bs) (index_value bs)
-  unfolding index_questions answer_to qubits
-  index_at {v} e l =
-      let has = index_has e in
-      ap {B = Answer ℕ} Ok has.1
-      ∙ ap (λ q. answer_to q (index_value bs)) (first_done (asked_yes (NotNumeral k) has.0) (asked_yes (TextQubit k) (lt-ltb (index_value bs) 128 (omega (arith, has.1)))))
-
-  pub index_over : {v : ℕ} → Some v ≡ index_numeral bs → 128 ≤ v → Err (TextQubit k) ≡ answer_to (index_questions k bs) (index_value bs)
-  unfolding index_questions answer_to qubits
-  index_over {v} e l =
-      let has = index_has e in
-      ap (λ q. answer_to q (index_value bs)) (first_done (asked_yes (NotNumeral k) has.0) (asked_no (TextQubit k) (le-ltb (index_value bs) 128 (omega (arith, has.1)))))
-
   index-below : index_questions k bs ≡ Ok tt → index_value bs < 128
   unfolding index_questions qubits
   index-below e = ltb-true _ _ (ask_done _ _ (done_second (ask (is_index bs) (NotNumeral k)) _ e))
-
-pub ruleset index_answers = (index_not, index_at, index_over, rules)
 
 -- ---- one entry
 pub entry-refused : {ws : List Token} {t : List ℕ} {k : ℕ} {x : Refusal} → token_questions ws ≡ Err x → EntryRead ws t k (Err x)
@@ -84,10 +49,6 @@ module _ (ws : List Token) (t : List ℕ) (k l n o : ℕ) (bs : List ℕ) (small
         onward = onward;
         within = within;
       })
-
-  pub entry_not : {x : Refusal} {r : Answer Entry} → Err x ≡ answer_to (index_questions o bs) (index_value bs) → IsErrAnd r (λ e. e ≡ x) → EntryRead ws t k r
-  entry_not e h =
-      subst (EntryRead ws t k) (sym (exit-is _ h)) (entry-refused (questions ∙ refused-first (index_questions o bs) _ (answer-err (index_questions o bs) (index_value bs) e)))
 
 -- ---- small facts
 pub letter-small : (c : ℕ) → letter_named c ≤ 3
@@ -170,15 +131,12 @@ module _ (t : List ℕ) (k : ℕ) (at : WordAt t k) where
       entry-refused (ap token_questions first-token ∙ not-letter first _ (ap letter_named first_byte ∙ named_not _ e))
 
   -- a letter with its index attached
-  module _ {l e : ℕ} (named : Some l ≡ letter_if (letter_named (get_or t k 0))) (after : Skipped leading_word t (k + 1) e) (long : k + 1 < e) where
+  module _ {e : ℕ} (known : 0 < letter_named (get_or t k 0)) (after : Skipped leading_word t (k + 1) e) (long : k + 1 < e) where
     end : Skipped leading_word t k e
     end = word_from after
 
-    el : l ≡ letter_named (get_or t k 0)
-    el = (named_some _ named).0
-
-    some-letter : l ≡ 0 → ⊥
-    some-letter = (named_some _ named).1
+    abbrev l : ℕ
+    l = letter_named (get_or t k 0)
 
     ends : k + word-length ≡ e
     ends = sym end.is
@@ -196,7 +154,7 @@ module _ (t : List ℕ) (k : ℕ) (at : WordAt t k) where
     questions_are : token_questions (tokens k (drop k t)) ≡ index_questions (k + 1) (take (e - (k + 1)) (drop (k + 1) t)) and_then token_questions (tokens e (drop e t))
     unfolding attached_questions
     questions_are =
-        ap token_questions first-token ∙ attached_questions_lem first _ (omega (arith, some-letter, first-letter l el)) has
+        ap token_questions first-token ∙ attached_questions_lem first _ (omega (arith, known, first-letter l refl)) has
         ∙ ap₂ (λ (o : ℕ) (bs : List ℕ). index_questions o bs and_then token_questions (tokens (k + word-length) (drop (k + word-length) t))) (sym (add-one k)) index_bytes
         ∙ ap (λ (j : ℕ). index_questions (k + 1) (take (e - (k + 1)) (drop (k + 1) t)) and_then token_questions (tokens j (drop j t))) ends
 
@@ -204,19 +162,19 @@ module _ (t : List ℕ) (k : ℕ) (at : WordAt t k) where
     unfolding attached_entry
     entries_are =
         ap token_entries first-token ∙ attached_entries first _ has
-        ∙ ap₂ (λ (x : ℕ) (bs : List ℕ). x ∷ index_value bs ∷ token_entries (tokens (k + word-length) (drop (k + word-length) t))) (first-letter l el) index_bytes
+        ∙ ap₂ (λ (x : ℕ) (bs : List ℕ). x ∷ index_value bs ∷ token_entries (tokens (k + word-length) (drop (k + word-length) t))) (first-letter l refl) index_bytes
         ∙ ap (λ (j : ℕ). l ∷ index_value (take (e - (k + 1)) (drop (k + 1) t)) ∷ token_entries (tokens j (drop j t))) ends
 
     abbrev index : List ℕ
     index = take (e - (k + 1)) (drop (k + 1) t)
 
-    pub attached : {q : ℕ} → Ok q ≡ answer_to (index_questions (k + 1) index) (index_value index)
-        → EntryRead (tokens k (drop k t)) t k (Ok (record { letter = l; qubit = q; next = e }))
-    attached = entry_read (tokens k (drop k t)) t k l e (k + 1) index (omega (arith, el, letter-small (get_or t k 0))) (omega arith) end.within questions_are entries_are
+    pub attached : {m q : ℕ} → m ≡ l → Ok q ≡ answer_to (index_questions (k + 1) index) (index_value index)
+        → EntryRead (tokens k (drop k t)) t k (Ok (record { letter = m; qubit = q; next = e }))
+    attached {m} {q} is h = subst (λ (x : ℕ). EntryRead (tokens k (drop k t)) t k (Ok (record { letter = x; qubit = q; next = e }))) (sym is)
+        (entry_read (tokens k (drop k t)) t k l e (k + 1) index (letter-small (get_or t k 0)) (omega arith) end.within questions_are entries_are h)
 
-    pub attached-not : {x : Refusal} {r : Answer Entry} → Err x ≡ answer_to (index_questions (k + 1) index) (index_value index) → IsErrAnd r (λ y. y ≡ x)
-        → EntryRead (tokens k (drop k t)) t k r
-    attached-not = entry_not (tokens k (drop k t)) t k l e (k + 1) index (omega (arith, el, letter-small (get_or t k 0))) (omega arith) end.within questions_are entries_are
+    pub attached_not : {x : Refusal} → Err x ≡ answer_to (index_questions (k + 1) index) (index_value index) → token_questions (tokens k (drop k t)) ≡ Err x
+    attached_not h = questions_are ∙ refused-first (index_questions (k + 1) index) _ (answer-err _ _ h)
 
   pub alone : {l e : ℕ} → Some l ≡ letter_if (letter_named (get_or t k 0)) → Skipped leading_word t (k + 1) e → e ≤ k + 1 → LetterAt t k l
   alone named after h =
@@ -240,11 +198,11 @@ module _ (t : List ℕ) (k l f : ℕ) (at : LetterAt t k l) (skip : Skipped lead
   unfolding has_index
   lacks = le-ltb 1 (length (first t k at.begins).bytes) (omega (arith, length-take (leading_word (drop k t)) (drop k t), at.alone))
 
-  pub apart_none : length t ≤ f → EntryRead (tokens k (drop k t)) t k (Err (NoIndex k))
+  pub apart_none : length t ≤ f → token_questions (tokens k (drop k t)) ≡ Err (NoIndex k)
   apart_none h =
-      entry-refused (ap token_questions rest-is
+      ap token_questions rest-is
       ∙ ap (λ (ws : List Token). token_questions (first t k at.begins ∷ ws)) (no_more f (drop f t) (drop_of_length-le t h))
-      ∙ no_index (first t k at.begins) (omega (arith, letter-is, at.known)) lacks)
+      ∙ no_index (first t k at.begins) (omega (arith, letter-is, at.known)) lacks
 
   module _ {e : ℕ} (h : f < length t) (end : Skipped leading_word t f e) where
     second_at : WordAt t f
@@ -277,10 +235,7 @@ module _ (t : List ℕ) (k l f : ℕ) (at : LetterAt t k l) (skip : Skipped lead
         entry_read (tokens k (drop k t)) t k l e f second (omega (arith, at.letter, letter-small (get_or t k 0)))
         (omega (arith, skip.onward, end.onward)) end.within apart_asked apart_named
 
-    pub apart_not : {x : Refusal} {r : Answer Entry} → Err x ≡ answer_to (index_questions f second) (index_value second) → IsErrAnd r (λ y. y ≡ x)
-        → EntryRead (tokens k (drop k t)) t k r
-    apart_not =
-        entry_not (tokens k (drop k t)) t k l e f second (omega (arith, at.letter, letter-small (get_or t k 0)))
-        (omega (arith, skip.onward, end.onward)) end.within apart_asked apart_named
+    pub apart_not : {x : Refusal} → Err x ≡ answer_to (index_questions f second) (index_value second) → token_questions (tokens k (drop k t)) ≡ Err x
+    apart_not h = apart_asked ∙ refused-first (index_questions f second) _ (answer-err _ _ h)
 
-pub ruleset sparse_entries = (unknown_letter, attached, attached-not, alone, apart_none, apart_some, apart_not, rules)
+pub ruleset sparse_entries = (unknown_letter, attached, attached_not, alone, apart_none, apart_some, apart_not, rules)

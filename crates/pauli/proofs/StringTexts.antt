@@ -4,13 +4,12 @@ use native.Mathlib.Decide.{ℕ_discrete}
 use Rattle.pauli_group.specs.Letter.{Letter, I}
 use Rattle.pauli_group.specs.PauliString.{PauliString, qubits, Within}
 use Rattle.pauli.specs.declared.refusal.Refusal.{Refusal}
-use Rattle.pauli.specs.Answers.{written, CountWritten, Outcome}
+use Rattle.pauli.specs.Answers.{written, Outcome}
 use Rattle.pauli.specs.Layout.{phase_of, letter_of, string_of, decode_string, WellFormed}
 use Rattle.pauli.specs.Questions.{string_questions, room_question}
 use Rattle.pauli.specs.Rows.{letter_at, shorter, copied}
 use Rattle.pauli.specs.SparseText.{words_at, entry_words, prefix_text, body_text, sparse_text_to, sparse_text, row_string, row_text, text_of_record, to_sparse_questions}
 use Rattle.pauli.specs.Inside.TextWriting.{TextWritten}
-use Rattle.pauli.proofs.Answers.{answers, number-done}
 use Rattle.pauli.proofs.Asking.{own_done, first_done, first_not, in_order, done_first, done_second, string-formed, room-is}
 use Rattle.pauli.proofs.Places.{from, from_at, length_from}
 use Rattle.pauli.proofs.Records.{decode_letter, decode_within}
@@ -77,21 +76,24 @@ copied-whole w d l =
     let short : shorter w d ≡ length w = omega arith in
     ap (λ (k : ℕ). take k w ++ drop k d) short ∙ ap (λ (x : List ℕ). x ++ drop (length w) d) (take_all (length w) w (omega arith))
 
-module _ (s d : List ℕ) {r : Outcome} (p : r ≡ to_sparse_questions s (length d)) (h : r ≡ Ok tt) where
+module _ (s d : List ℕ) (p : to_sparse_questions s (length d) ≡ Ok tt) where
   formed : WellFormed 128 s
   unfolding to_sparse_questions
-  formed = string-formed s (done_first _ _ (sym p ∙ h))
+  formed = string-formed s (done_first _ _ p)
 
   room : length (text_of_record s) ≤ length d
   unfolding to_sparse_questions
-  room = room-is _ (length d) (done_second (string_questions s) _ (sym p ∙ h))
+  room = room-is _ (length d) (done_second (string_questions s) _ p)
 
-  pub text-place : 1 ≤ length s
-  text-place = omega (arith, formed.long)
+  pub text_place : 1 ≤ length s
+  text_place = omega (arith, formed.long)
 
-  pub text_done : {e : List ℕ} {n : ℕ} → TextWritten (row_text (get_or s 0 0) (from 1 s)) d e n
-      → CountWritten (to_sparse_questions s (length d)) (text_of_record s) d e (Ok n)
-  text_done t =
-      number-done (own_done p h) (t.count ∙ ap length (row_is formed)) (t.bytes ∙ ap (λ (w : List ℕ). copied w d) (row_is formed) ∙ copied-whole (text_of_record s) d room)
+  pub text_count : length (row_text (get_or s 0 0) (from 1 s)) ≡ length (text_of_record s)
+  text_count = ap length (row_is formed)
 
-pub ruleset string_texts = (text-refused, text-asked, text-byte, text_same, text-place, text_done, answers, in_order, rules)
+  pub text_bytes : copied (row_text (get_or s 0 0) (from 1 s)) d ≡ written (Ok tt) (text_of_record s) d
+  text_bytes = ap (λ (w : List ℕ). copied w d) (row_is formed) ∙ copied-whole (text_of_record s) d room
+
+pub ruleset written_texts = (text_place, text_count, text_bytes, text_same)
+
+pub ruleset string_texts = (text-refused, text-asked, text-byte, in_order, rules)

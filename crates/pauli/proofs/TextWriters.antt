@@ -6,14 +6,14 @@ use Rattle.pauli.specs.SparseText.{decimal, letter_text, entry_word}
 use Rattle.pauli.specs.TextWriting.{last_place, Stored}
 use Rattle.pauli.specs.TextWriters.{writer_place, Put}
 use Rattle.pauli.specs.Inside.TextWriting.{TextWritten, added, more_text}
-use Rattle.pauli.proofs.TextWrites.{stored-none, stored-capped, stored_join, stored_as, whole-text, part_put, words-none, words-some}
+use Rattle.pauli.proofs.TextWrites.{stored-none, stored-capped, stored_join, stored_as, whole-text, put_in, put_out, part_put, words-none, words-some}
 use Rattle.pauli.proofs.Decimals.{decimal-one, decimal-more}
 
 -- what is stored from the place of a writer on
 pub put_stored : {s t : TextWriter} {w : List ℕ} → t.dst.ghost_name ≡ s.dst.ghost_name → Stored s.at w s.dst.now t.dst.now t.at → Put w s t
 put_stored e a = record { same = e; stored = stored-capped a }
 
-pub ruleset part_puts = (put_stored, part_put, rules)
+pub ruleset part_puts = (put_stored, put_in, put_out, part_put, rules)
 
 -- ---- no text, two texts one after another, and the same text
 pub put_none : {s : TextWriter} → Put [] s s

@@ -89,8 +89,7 @@ fn see(sight: Sight, x: u8, y: u8, q: usize) -> Sight
 }
 
 // Looks through two string records at once. What is not two string records is seen as bad, so that the questions are then put one by
-// one. No Option: `mul` would need places for a None too, though `check_seen` has refused it. By index: a zip would need `enumerate`
-// besides, for the place q.
+// one. No Option: `mul` would need places for a None too, though `check_seen` has refused it.
 fn look(s: &[u8], t: &[u8]) -> Sight
     ensures { Looked s.now t.now result }
 {
@@ -104,8 +103,8 @@ fn look(s: &[u8], t: &[u8]) -> Sight
         largest: s[0].max(t[0]),
         places: 0,
     };
-    for q in 0..QUBITS {
-        sight = see(sight, s[q + 1], t[q + 1], q);
+    for (q, (x, y)) in s[1..].iter().zip(&t[1..]).enumerate() {
+        sight = see(sight, *x, *y, q);
     }
     sight
 }
@@ -130,24 +129,24 @@ fn add_turns(turns: u8, x: u8, y: u8) -> u8
     turns.wrapping_add(letter_turns(x, y))
 }
 
-// The product's letters at the 32 places from `at` on, taken together; the answer is the turns of their phases. By index: of what is
-// written through a zip of `iter_mut` a proof knows the length alone, and `enumerate` leaves two of three rows to the index.
+// The product's letters at the 32 places from `at` on, taken together; the answer is the turns of their phases. The row by index: of
+// what is written through a zip of `iter_mut` a proof knows the length alone.
 fn multiply_step(s: &[u8], t: &[u8], at: usize, row: &mut [u8]) -> u8
     requires { Stepping s.now t.now at row.old }
     ensures { Stepped s.now t.now at row.new result }
 {
     let mut turns: u8 = 0;
-    for q in at..at + 32 {
-        let x = s[q + 1];
-        let y = t[q + 1];
-        turns = add_turns(turns, x, y);
-        row[q] = x ^ y;
+    let letters = s[at + 1..at + 33].iter().zip(&t[at + 1..at + 33]);
+    for (q, (x, y)) in letters.enumerate() {
+        turns = add_turns(turns, *x, *y);
+        row[at + q] = *x ^ *y;
     }
     turns
 }
 
 // The product's letters, written over a row of I; the answer is the turns of their phases. The loop ends with the step that has the last
 // place: behind it both strings are I.
+#[tactic(auto, using(crate::proofs::Multiplying::taking))]
 fn multiply_places(s: &[u8], t: &[u8], places: usize, row: &mut [u8]) -> u8
     requires { Beginning s.now t.now places row.old }
     ensures { RowMultiplied s.now t.now row.new result }
@@ -172,6 +171,7 @@ fn write_product(s: &[u8], t: &[u8], places: usize, dst: &mut [u8])
 }
 
 // The product s·t of two string records, and the places that it took: 1 + the last at which either has a letter other than I, or 0.
+#[tactic(auto, using(crate::proofs::Asking::by_questions, crate::proofs::Multiplying::string_products), unfolding(crate::specs::Questions::mul_questions, crate::specs::Answers::answer_to, crate::specs::Answers::reply_of, crate::specs::Answers::reply_to))]
 pub fn mul(s: &[u8], t: &[u8], dst: &mut [u8]) -> Result<usize, Refusal>
     ensures { StringsMultiplied s.now t.now dst.old dst.new result }
 {

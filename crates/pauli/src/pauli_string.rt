@@ -15,6 +15,7 @@ use crate::sparse_text::{sparse_length, write_sparse};
 use crate::text::{any_digit, check_ascii, read_head};
 
 // The phase of a string record.
+#[tactic(auto, using(crate::proofs::Asking::by_questions, crate::proofs::StringReads::string_reads), unfolding(crate::specs::Answers::answer_to, crate::specs::Answers::reply_of, crate::specs::Answers::reply_to))]
 pub fn phase(s: &[u8]) -> Result<u8, Refusal>
     ensures { PhaseOfString s.now result }
 {
@@ -23,6 +24,7 @@ pub fn phase(s: &[u8]) -> Result<u8, Refusal>
 }
 
 // The letter of a string record at one qubit.
+#[tactic(auto, using(crate::proofs::Asking::by_questions, crate::proofs::StringReads::string_reads), unfolding(crate::specs::Questions::get_questions, crate::specs::Answers::answer_to, crate::specs::Answers::reply_of, crate::specs::Answers::reply_to))]
 pub fn get(s: &[u8], qubit: usize) -> Result<u8, Refusal>
     ensures { LetterOfString s.now qubit result }
 {
@@ -33,6 +35,7 @@ pub fn get(s: &[u8], qubit: usize) -> Result<u8, Refusal>
 
 // At how many qubits two string records anticommute; they commute where that is even. The kernel counts modulo 256, which the 128
 // places of a record never reach.
+#[tactic(auto, using(crate::proofs::Asking::by_questions, crate::proofs::StringReads::string_reads), unfolding(crate::specs::Answers::answer_to, crate::specs::Answers::reply_of, crate::specs::Answers::reply_to))]
 pub fn anticommuting_places(s: &[u8], t: &[u8]) -> Result<usize, Refusal>
     ensures { PlacesCounted s.now t.now result }
 {
@@ -78,6 +81,7 @@ pub fn from_dense_str(t: &[u8], dst: &mut [u8]) -> Result<(), Refusal>
 }
 
 // The string that a text names: sparse where it holds a digit, otherwise dense.
+#[tactic(auto, using(crate::proofs::Asking::by_questions), unfolding(crate::specs::Text::from_str_questions, crate::specs::Text::text_questions, crate::specs::Text::from_sparse_questions, crate::specs::Text::from_dense_questions, crate::specs::Text::text_record, crate::specs::Text::text_string, crate::specs::Text::sparse_record, crate::specs::Text::dense_record))]
 pub fn from_str(t: &[u8], dst: &mut [u8]) -> Result<(), Refusal>
     ensures { FromText t.now dst.old dst.new result }
 {
@@ -97,6 +101,7 @@ fn check_to_sparse(s: &[u8], room: usize) -> Result<(), Refusal>
 }
 
 // The sparse text of a string record; the answer is its length.
+#[tactic(auto, using(crate::proofs::Asking::by_questions, crate::proofs::StringTexts::written_texts), unfolding(crate::specs::Answers::answer_to, crate::specs::Answers::reply_of, crate::specs::Answers::reply_to))]
 pub fn to_sparse_str(s: &[u8], dst: &mut [u8]) -> Result<usize, Refusal>
     ensures { SparseTextWritten s.now dst.old dst.new result }
 {

@@ -189,6 +189,7 @@ fn scan_one(seen: LetterScan, x: u8) -> LetterScan
 }
 
 // The largest byte, 0 where there is none, and the number of letters other than I, modulo 256, in one pass.
+#[tactic(auto, using(crate::proofs::RowProducts::counts), unfolding(crate::specs::Inside::Turns::scanned_with, crate::specs::Rows::largest_to, pauli_group::specs::PauliString::count_to))]
 pub fn scan_letters(s: &[u8]) -> LetterScan
     ensures { Scanned s.now result }
 {

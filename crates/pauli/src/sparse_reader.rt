@@ -20,6 +20,7 @@ pub(crate) struct Entry {
 }
 
 // The qubit that the index bs names, which stands at this offset.
+#[tactic(auto, using(crate::proofs::Asking::by_tests, crate::proofs::Asking::by_questions), unfolding(crate::specs::Inside::Reading::index_numeral, crate::specs::Text::index_questions, crate::specs::Answers::answer_to, pauli_group::specs::PauliString::qubits))]
 fn read_index(bs: &[u8], offset: usize) -> Result<usize, Refusal>
     ensures { result ≡ answer_to (index_questions offset bs.now) (index_value bs.now) }
 {
@@ -33,6 +34,7 @@ fn read_index(bs: &[u8], offset: usize) -> Result<usize, Refusal>
 }
 
 // A letter that stands alone at this offset: its index is the next token.
+#[tactic(auto, using(crate::proofs::SparseReading::sparse_entries))]
 fn read_apart(t: &[u8], at: usize, letter: u8) -> Result<Entry, Refusal>
     requires { LetterAt t.now at letter }
     ensures { EntryRead (tokens at (drop at t.now)) t.now at result }
@@ -51,6 +53,7 @@ fn read_apart(t: &[u8], at: usize, letter: u8) -> Result<Entry, Refusal>
 }
 
 // The letter and index at this offset, where a token begins.
+#[tactic(auto, using(crate::proofs::SparseReading::sparse_entries), unfolding(crate::specs::Inside::Reading::letter_if))]
 fn read_entry(t: &[u8], at: usize) -> Result<Entry, Refusal>
     requires { WordAt t.now at }
     ensures { EntryRead (tokens at (drop at t.now)) t.now at result }

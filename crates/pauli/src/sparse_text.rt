@@ -36,6 +36,7 @@ impl TextWriter<'_> {
     }
 
     // A letter and its qubit.
+    #[tactic(auto, using(crate::proofs::TextWriters::entry_put), unfolding(crate::specs::SparseText::entry_word))]
     fn put_entry(&mut self, letter: u8, qubit: usize)
         ensures { Put (entry_word (letter_of letter) qubit) self.old self.new }
     {
@@ -45,6 +46,7 @@ impl TextWriter<'_> {
     }
 
     // The entry of one qubit, where its letter is not I, with a space before it unless it is the first.
+    #[tactic(auto, using(crate::proofs::TextWriters::entries), unfolding(crate::specs::Inside::TextWriting::more_text, crate::specs::Inside::TextWriting::added, crate::specs::SparseText::words_at, crate::specs::Layout::letter_of))]
     fn put_more(&mut self, first: bool, letter: u8, qubit: usize)
         ensures { Put (more_text first (letter_of letter) qubit) self.old self.new }
     {

@@ -31,6 +31,7 @@ impl<'a> TextWriter<'a> {
     }
 
     // One byte.
+    #[tactic(auto, using(crate::proofs::TextWriters::part_puts))]
     pub(crate) fn put(&mut self, c: u8)
         ensures { Put (c ∷ []) self.old self.new }
     {
