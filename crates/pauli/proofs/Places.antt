@@ -153,10 +153,10 @@ module _ (p : ℕ → Bool) (xs : List ℕ) where
   ]
 
 -- std's `position` over a slice, by a closure that answers a test
-pub position_of_slice : {F : Type 0} {g : Mut F (Bor ℕ × Unit {0}) Bool} {s u : Iter ℕ} {f : F} {r : Option ℕ} (p : ℕ → Bool) (xs : List ℕ)
-    → (ys : List (Bor ℕ)) × (o : Option (Bor ℕ)) × (j : F) × YieldsThen fronts s ys o u × FoldsTo (λ h x q. Called g h (x, tt) false q) f ys j
+pub position_of_slice : {X F : Type 0} {g : Mut F (Bor X × Unit {0}) Bool} {s u : Iter X} {f : F} {r : Option ℕ} (p : X → Bool) (xs : List X)
+    → (ys : List (Bor X)) × (o : Option (Bor X)) × (j : F) × YieldsThen fronts s ys o u × FoldsTo (λ h x q. Called g h (x, tt) false q) f ys j
     × MatchOption o (r ≡ None) (λ x. (r ≡ Some (length ys)) × ((h : F) × Called g j (x, tt) true h))
-    → iter_rest s ≡ xs → ((x : Bor ℕ) (b : Bool) (q : F) → Called g f (x, tt) b q → (q ≡ f) × (b ≡ p x.now)) → r ≡ position p xs
+    → iter_rest s ≡ xs → ((x : Bor X) (b : Bool) (q : F) → Called g f (x, tt) b q → (q ≡ f) × (b ≡ p x.now)) → r ≡ position p xs
 position_of_slice p xs ran e answers = position_from_yields_List p _ _ _ ran (YieldsList-from_slice xs e) answers
 
 -- what a scan from the front knows before place i
