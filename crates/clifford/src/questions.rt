@@ -77,7 +77,7 @@ pub fn check_tableaux(a: &[u8], b: &[u8]) -> Result<(), Refusal>
     check_tableau(b)
 }
 
-// A gate, or an index of the 24 products, below the limit.
+// A gate, or an index of the 24 products, below the limit. A number and no `Gate`: any number comes in from C before this is asked.
 #[tactic(auto, using(pauli::proofs::Asking::by_tests), unfolding(crate::specs::GateQuestions::gate_question))]
 pub fn check_gate(limit: usize, gate: usize) -> Result<(), Refusal>
     ensures { result ≡ gate_question limit gate }
