@@ -52,7 +52,7 @@ filter-range (suc n) f =
     ∙ ap₂ (λ (x y : List ℕ). x ++ y) (filter-range n f) (ap (λ (j : ℕ). cond (f j) (j ∷ []) []) (omega arith))
 
 -- ---- the numbers below n, put to a closure that answers by this test
--- a turn takes the first of them
+-- the first of them comes, and the next one is then the first
 abbrev range_turns : Range ℕ → Option ℕ → Range ℕ → Type 0
 range_turns = range_steps (λ a b. b - a) (λ a b. b ≡ a + 1)
 

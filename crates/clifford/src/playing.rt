@@ -26,8 +26,9 @@ fn is_playable(gate: usize, q: usize, r: usize, t: &[u8]) -> bool
     gate < 38 && q < n && second_fits(gate, q, r, n) && n <= QUBITS && t.len() == record_length(n)
 }
 
-// A one-qubit gate on each row, by its table. By the row's offset: how rows lie in a record stands in `layout` alone. This loop and the
-// next stay two: one loop over a trait of row changes would need the trait with its contract, two types and two implementations.
+// A one-qubit gate on each row, by its table. By the row's offset: how rows lie in a record stands in `layout` alone, and of what is
+// written through `chunks_exact_mut` a proof knows the length alone. This loop and the next stay two: one loop over a trait of row changes
+// would need the trait with its contract, two types and two implementations.
 #[tactic(auto, using(crate::proofs::Play::plays))]
 fn play_letters(tables: &[[[u8; 4]; 2]; 24], gate: OneQubitGate, q: usize, t: &mut [u8])
     requires { PlaysLetters q t.old }
