@@ -272,7 +272,7 @@ module _ (b : List ℕ) (some : length b ≡ 0 → ⊥) where
       pub tableau-laid : length b ≡ n → Laid b
       tableau-laid k = record { narrow = omega (arith, width_done h); long = k ∙ s.is ∙ ap record_length w }
 
-pub ruleset tableau-questions = (
+pub ruleset asked_tableaux = (
   questions,
   width_done,
   tableau-none,
@@ -283,7 +283,7 @@ pub ruleset tableau-questions = (
   tableau-laid,
 )
 
-pub ruleset rows-questions = (rows_start, rows_inside, rows_more, rows_first, rows-refused, rows-weighed, rows-asked, laid-narrow, rules)
+pub ruleset asked_rows = (rows_start, rows_inside, rows_more, rows_first, rows-refused, rows-weighed, rows-asked, laid-narrow, rules)
 
 -- ---- what is admitted: a tableau's questions let by exactly the records of tableaux of width at most 128
 module _ (b : List ℕ) (e : tableau_questions b ≡ Ok tt) where

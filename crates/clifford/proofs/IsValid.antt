@@ -15,8 +15,6 @@ use Rattle.pauli.proofs.RowProducts.{places_of-rows}
 use Rattle.clifford.specs.Layout.{row_of, width_of, tableau_of}
 use Rattle.clifford.specs.Inside.Rows.{OwnRow, letter_bytes}
 use Rattle.clifford.specs.Tableaux.{record_valid}
-use Rattle.std.specs.List.{range_with_len, list_all}
-use Rattle.clifford.proofs.Ranges.{all-range}
 use Rattle.clifford.proofs.Rows.{row_inside, width_of_lem}
 use Rattle.clifford.proofs.SupportQubits.{letters-long, letter-byte}
 use Rattle.clifford.proofs.RowAccess.{own-inside}
@@ -95,9 +93,9 @@ module _ (t : Tableau) (q : ℕ) {x z : PauliString} (ex : x ≡ t.x_image q) (e
 unfoldable pub valid_row : Tableau → ℕ → Bool
 valid_row t q = valid_qubit t q && all_to q (valid_pair t q)
 
-pub rows-valid : (t : List ℕ) {n : ℕ} → n ≡ width_of t → list_all (valid_row (tableau_of t)) (range_with_len 0 n) ≡ is_valid (tableau_of t)
+pub rows-valid : (t : List ℕ) {n : ℕ} → n ≡ width_of t → all_to n (valid_row (tableau_of t)) ≡ is_valid (tableau_of t)
 unfolding is_valid valid_row
-rows-valid t {n} e = all-range n (valid_row (tableau_of t)) ∙ ap (λ (j : ℕ). all_to j (valid_row (tableau_of t))) (e ∙ sym (width_of_lem t))
+rows-valid t e = ap (λ (j : ℕ). all_to j (valid_row (tableau_of t))) (e ∙ sym (width_of_lem t))
 
 -- ---- the answer
 pub valid-told : (t : List ℕ) {b : Bool} → b ≡ is_valid (tableau_of t) → b ≡ record_valid t

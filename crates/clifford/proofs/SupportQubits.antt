@@ -18,11 +18,10 @@ use Rattle.clifford.specs.Layout.{row_of, width_of, tableau_of}
 use Rattle.clifford.specs.Inside.Rows.{letter_bytes}
 use Rattle.clifford.specs.Support.{is_plus_one, alike_at, is_single, changed_qubit, supports_qubit, some_to, places_with, in_support, support_qubits}
 use Rattle.clifford.proofs.Rows.{row_inside, width_of_lem}
-use Rattle.std.specs.List.{range_with_len, list_all, list_any, filter, enumerate_from}
+use Rattle.std.specs.List.{list_all, enumerate_from}
 use Rattle.std.proofs.lemmas.List.{take_more, get_or_push}
 use Rattle.std.proofs.lemmas.List.FromFn.{length-enumerate_from, get_or-enumerate_from}
-use Rattle.std.proofs.lemmas.List.Elements.{filter-append}
-use Rattle.clifford.proofs.Ranges.{range-more, all-range, all-numbered, any-range}
+use Rattle.clifford.proofs.Ranges.{all-range, all-numbered}
 use Rattle.pauli.proofs.Places.{length-listed, get_d_listed}
 use lib.ListN.{get_or-eq_default, get_or-append}
 
@@ -91,9 +90,9 @@ module _ (t : List ℕ) (q : ℕ) {s u : PauliString} (es : s ≡ (tableau_of t)
       ap₂ (λ i j. not (i && j)) (ea ∙ ap₂ (λ (w : ℕ) (v : PauliString). is_single w X q v) (ap width_of dx ∙ sym (width_of_lem t)) es)
       (eb ∙ ap₂ (λ (w : ℕ) (v : PauliString). is_single w Z q v) (ap width_of dz ∙ sym (width_of_lem t)) eu)
 
-pub support-is : (t : List ℕ) (k : ℕ) {n : ℕ} → n ≡ width_of t → list_any (supports_qubit (tableau_of t) k) (range_with_len 0 n) ≡ in_support (tableau_of t) k
+pub support-is : (t : List ℕ) (k : ℕ) {n : ℕ} → n ≡ width_of t → some_to n (supports_qubit (tableau_of t) k) ≡ in_support (tableau_of t) k
 unfolding in_support
-support-is t k {n} en = any-range n _ ∙ ap (λ (j : ℕ). some_to j (supports_qubit (tableau_of t) k)) (en ∙ sym (width_of_lem t))
+support-is t k e = ap (λ (j : ℕ). some_to j (supports_qubit (tableau_of t) k)) (e ∙ sym (width_of_lem t))
 
 -- ---- the places counted and written
 places-below : (n : ℕ) (f : ℕ → Bool) (i d : ℕ) → i < length (places_with n f) → get_or (places_with n f) i d < n
@@ -110,27 +109,14 @@ places-below (suc n) f i d h = by (places_with n f) (places-below n f i d) (f n)
       | no h ↦ omega (arith, get_or_push p n d i (omega (arith, length-append p (n ∷ []))))
     ]
 
-pub filter-range : (n : ℕ) (f : ℕ → Bool) → filter f (range_with_len 0 n) ≡ places_with n f
-unfolding places_with
-filter-range zero f = refl
-filter-range (suc n) f =
-    ap (filter f) (range-more 0 n) ∙ filter-append f (range_with_len 0 n) ((0 + n) ∷ [])
-    ∙ ap₂ (λ (x y : List ℕ). x ++ y) (filter-range n f) (ap (λ (j : ℕ). cond (f j) (j ∷ []) []) (omega arith))
-
-support_is : (t : List ℕ) {n k : ℕ} → n ≡ width_of t → k ≡ n → places_with k (in_support (tableau_of t)) ≡ support_qubits (tableau_of t)
+pub places-all : (t : List ℕ) {n : ℕ} → n ≡ width_of t → places_with n (in_support (tableau_of t)) ≡ support_qubits (tableau_of t)
 unfolding support_qubits
-support_is t {n} {k} e d = ap (λ (j : ℕ). places_with j (in_support (tableau_of t))) (d ∙ e ∙ sym (width_of_lem t))
-
-pub count-is : (t : List ℕ) {n : ℕ} → n ≡ width_of t → length (filter (in_support (tableau_of t)) (range_with_len 0 n)) ≡ length (support_qubits (tableau_of t))
-count-is t {n} e = ap length (filter-range n (in_support (tableau_of t)) ∙ support_is t e refl)
+places-all t e = ap (λ (j : ℕ). places_with j (in_support (tableau_of t))) (e ∙ sym (width_of_lem t))
 
 set_front : (p d : List ℕ) (v : ℕ) → 0 < length d → set (p ++ d) (length p) v ≡ (p ++ (v ∷ [])) ++ drop 1 d
 set_front [] [] v h = absurd (not-suc-le-zero h)
 set_front [] (x ∷ d) v h = refl
 set_front (y ∷ p) d v h = ap (λ (l : List ℕ). y ∷ l) (set_front p d v h)
-
-pub places-all : (t : List ℕ) {n : ℕ} → n ≡ width_of t → filter (in_support (tableau_of t)) (range_with_len 0 n) ≡ support_qubits (tableau_of t)
-places-all t {n} e = filter-range n (in_support (tableau_of t)) ∙ support_is t e refl
 
 pub support-small : (t : List ℕ) (i d : ℕ) → width_of t ≤ 128 → i < length (support_qubits (tableau_of t)) → get_or (support_qubits (tableau_of t)) i d ≤ 127
 unfolding support_qubits

@@ -78,6 +78,7 @@ fn multiply_image(work: &mut [u8], t: &TableauRecord, q: usize, letter: u8)
 
 // The apply routine: the image of the string s, as a work row. Starts with its phase and identity letters, and goes by rising
 // qubit.
+#[tactic(auto, using(crate::proofs::Apply::applied_strings))]
 pub(crate) fn apply_string(t: &TableauRecord, s: &[u8], work: &mut [u8])
     requires { AppliesString t.now.bytes.now s.now work.old }
     ensures { work.new ≡ encode_string (letters_in work.old) (apply (tableau_of t.now.bytes.now) (string_in s.now)) }

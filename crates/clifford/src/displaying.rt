@@ -77,7 +77,8 @@ impl TableauRecord<'_> {
         writer.place()
     }
 
-    // Its length.
+    // Its length, found by writing nowhere, so that length and text can't disagree. One function shared with pauli's `sparse_length` would
+    // take the writing as a closure, of which a contract knows only which answers its calls may give.
     pub(crate) fn display_length(&self) -> usize
         ensures { result ≡ length (text_of_tableau self.now.bytes.now) }
     {

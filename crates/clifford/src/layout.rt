@@ -69,6 +69,7 @@ fn check_codes(row: &[u8], at: usize, largest: u8) -> Result<(), Refusal>
 }
 
 // Question 3, put to row r, and whether its weight is true, in one pass over its letters.
+#[tactic(auto, using(pauli::proofs::Asking::by_questions, crate::proofs::RowAccess::row_checks), unfolding(pauli::specs::Answers::answer_to))]
 pub(crate) fn check_row(t: &[u8], r: usize) -> Result<bool, Refusal>
     requires { RowInside t.now r }
     ensures { result ≡ row_answer t.now r }

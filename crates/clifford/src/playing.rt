@@ -26,8 +26,9 @@ fn is_playable(gate: usize, q: usize, r: usize, t: &[u8]) -> bool
     gate < 38 && q < n && second_fits(gate, q, r, n) && n <= QUBITS && t.len() == record_length(n)
 }
 
-// A one-qubit gate on each row, by its table. By the row's offset: how rows lie in a record stands in `layout` alone. This loop and the
-// next stay two: one loop over a trait of row changes would need the trait with its contract, two types and two implementations.
+// A one-qubit gate on each row, by its table. By the row's offset: how rows lie in a record stands in `layout` alone, and of what is
+// written through `chunks_exact_mut` a proof knows the length alone. This loop and the next stay two: one loop over a trait of row changes
+// would need the trait with its contract, two types and two implementations.
 #[tactic(auto, using(crate::proofs::Play::plays))]
 fn play_letters(tables: &[[[u8; 4]; 2]; 24], gate: OneQubitGate, q: usize, t: &mut [u8])
     requires { PlaysLetters q t.old }
@@ -78,20 +79,10 @@ pub fn play_with(
     true
 }
 
-// The gate's tableau composed on the left of the record t; the answer is whether it was. Where the gate, its qubits or the length
-// don't fit, t stays. The rows are not looked at before: a byte above 3 is read as 3. Not by `play_with`: at width 1 a one-qubit gate by
-// `play` takes 322 instructions where its own tables alone are laid out, and 550 where both kinds are.
-#[tactic(auto, using(crate::proofs::Play::own_playing))]
+// The gate's tableau composed on the left of the record t, by the gates' own tables; the answer is whether it was. Where the gate, its
+// qubits or the length don't fit, t stays. The rows are not looked at before: a byte above 3 is read as 3.
 pub fn play_gate(gate: u8, q: usize, r: usize, t: &mut [u8]) -> bool
     ensures { GatePlayed gate q r t.old t.new result }
 {
-    let g = usize::from(gate);
-    if !is_playable(g, q, r, t) {
-        return false;
-    }
-    match Gate::numbered(g) {
-        Gate::One(gate) => play_letters(&letter_tables(), gate, q, t),
-        Gate::Two(gate) => play_pairs(&pair_tables(), gate, q, r, t),
-    }
-    true
+    play_with(&letter_tables(), &pair_tables(), gate, q, r, t)
 }

@@ -39,6 +39,7 @@ pub fn check_slot(slot: usize, width: usize) -> Result<(), Refusal>
 }
 
 // Questions 3 and 24, in one pass over the rows: every 3 comes before a 24.
+#[tactic(auto, using(crate::proofs::Asking::asked_rows))]
 fn check_rows(t: &[u8]) -> Result<(), Refusal>
     requires { Laid t.now }
     ensures { result ≡ rows_question (2 * width_of t.now) t.now and_then weights_question t.now }
@@ -54,6 +55,7 @@ fn check_rows(t: &[u8]) -> Result<(), Refusal>
 }
 
 // A tableau record.
+#[tactic(auto, using(crate::proofs::Asking::asked_tableaux))]
 pub fn check_tableau(t: &[u8]) -> Result<(), Refusal>
     ensures { result ≡ tableau_questions t.now }
 {
@@ -77,7 +79,7 @@ pub fn check_tableaux(a: &[u8], b: &[u8]) -> Result<(), Refusal>
     check_tableau(b)
 }
 
-// A gate, or an index of the 24 products, below the limit.
+// A gate, or an index of the 24 products, below the limit. A number and no `Gate`: any number comes in from C before this is asked.
 #[tactic(auto, using(pauli::proofs::Asking::by_tests), unfolding(crate::specs::GateQuestions::gate_question))]
 pub fn check_gate(limit: usize, gate: usize) -> Result<(), Refusal>
     ensures { result ≡ gate_question limit gate }

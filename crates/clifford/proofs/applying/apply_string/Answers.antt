@@ -2,11 +2,5 @@
 use Rattle.clifford.proofs.Apply.{applied_strings}
 use Rattle.clifford.proofs.applying.apply_string.Goals as goal
 
-pub loop-q-init : goal.loop-q-init
-loop-q-init c = search applied_strings
-
 pub loop-q-preserved : goal.loop-q-preserved
 loop-q-preserved c = search applied_strings
-
-pub returns : goal.returns
-returns c = search applied_strings

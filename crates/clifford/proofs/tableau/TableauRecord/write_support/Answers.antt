@@ -1,12 +1,12 @@
 use Rattle.std.proofs.Common.{rules, ◌≡◌, ℕ, length, arith, refl, ap, set, sym, subst}
 use borrow.Author.Tests.{tests}
-use Rattle.std.specs.List.{range_with_len, filter, enumerate_from}
+use Rattle.std.specs.List.{enumerate_from}
 use Rattle.std.proofs.lemmas.List.{length_push}
 use Rattle.std.proofs.lemmas.List.FromFn.{length-enumerate_from}
-use Rattle.std.proofs.lemmas.Iterator.{YieldsList-from_range}
-use Rattle.std.proofs.lemmas.Iterator.Consumers.{YieldsList-at, YieldsList-from_filter, YieldsList-from_enumerate, YieldsList-turn, YieldsList-end}
+use Rattle.std.proofs.lemmas.Iterator.Consumers.{YieldsList-at, YieldsList-from_enumerate, YieldsList-turn, YieldsList-end}
 use Rattle.clifford.specs.Layout.{tableau_of}
-use Rattle.clifford.specs.Support.{in_support, support_qubits}
+use Rattle.clifford.specs.Support.{in_support, places_with, support_qubits}
+use Rattle.clifford.proofs.Ranges.{kept-below}
 use Rattle.clifford.proofs.SupportQubits.{WroteTo, Comes, comes, places-all, support-small, wrote_place, wrote_more, wrote_all}
 use Rattle.clifford.proofs.tableau.TableauRecord.write_support.Goals as goal
 
@@ -20,8 +20,7 @@ coming c =
     (YieldsList-turn (YieldsList-at c.into_iter-place-iterator.ensures.into_iter_gives
     (YieldsList-from_enumerate
     (YieldsList-at c.enumerate-place-items.ensures.source
-    (YieldsList-from_filter _ (in_support (tableau_of c.args.self.now.bytes.now)) (YieldsList-from_range 0 c.width.result c.width.result c.filter-qubits.ensures.source (omega arith))
-    c.filter-qubits.ensures.closure (λ x b q k. search (rules, tests))))
+    (kept-below c.width.result (in_support (tableau_of c.args.self.now.bytes.now)) c.filter-qubits.ensures.source c.filter-qubits.ensures.closure (λ x b q k. search (rules, tests))))
     c.enumerate-place-items.ensures.count))
     c.writing.yielded c.writing.place-iterator c.writing.yielded_by _ _ (c.in-Some.place, c.in-Some.k) c.in-Some.is c.next.ensures.steps)
 
@@ -40,13 +39,12 @@ writing-preserved c =
 
 pub returns : goal.returns
 returns c =
-    let end : length c.writing.yielded ≡ length (enumerate_from 0 (filter (in_support (tableau_of c.args.self.now.bytes.now)) (range_with_len 0 c.width.result))) = (YieldsList-end (YieldsList-at c.into_iter-place-iterator.ensures.into_iter_gives
+    let end : length c.writing.yielded ≡ length (enumerate_from 0 (places_with c.width.result (in_support (tableau_of c.args.self.now.bytes.now)))) = (YieldsList-end (YieldsList-at c.into_iter-place-iterator.ensures.into_iter_gives
     (YieldsList-from_enumerate
     (YieldsList-at c.enumerate-place-items.ensures.source
-    (YieldsList-from_filter _ (in_support (tableau_of c.args.self.now.bytes.now)) (YieldsList-from_range 0 c.width.result c.width.result c.filter-qubits.ensures.source (omega arith))
-    c.filter-qubits.ensures.closure (λ x b q k. search (rules, tests))))
+    (kept-below c.width.result (in_support (tableau_of c.args.self.now.bytes.now)) c.filter-qubits.ensures.source c.filter-qubits.ensures.closure (λ x b q k. search (rules, tests))))
     c.enumerate-place-items.ensures.count))
     c.writing.yielded c.writing.place-iterator c.writing.yielded_by _ _ c.in-None.is c.next.ensures.steps).1 in
     wrote_all (support_qubits (tableau_of c.args.self.now.bytes.now)) c.args.dst.now
-    (omega (arith, end, length-enumerate_from 0 (filter (in_support (tableau_of c.args.self.now.bytes.now)) (range_with_len 0 c.width.result)), ap length (places-all c.args.self.now.bytes.now c.width.ensures.is)))
+    (omega (arith, end, length-enumerate_from 0 (places_with c.width.result (in_support (tableau_of c.args.self.now.bytes.now))), ap length (places-all c.args.self.now.bytes.now c.width.ensures.is)))
     c.writing.invariant
