@@ -35,7 +35,7 @@ entry-one {ws} {t} {k} {e} h = record { one = λ d p. subst (OneEntry ws t k) (s
     same d p = cc
 
 -- an index bs at offset o after the letter l, and the rest from n on
-module _ (ws : List Token) (t : List ℕ) (k l n o : ℕ) (bs : List ℕ) (small : l ≤ 3) (onward : k < n) (within : n ≤ length t)
+module _ (ws : List Token) (t : List ℕ) (k l n o : ℕ) (bs : List ℕ) (onward : k < n) (within : n ≤ length t)
     (questions : token_questions ws ≡ index_questions o bs and_then token_questions (tokens n (drop n t)))
     (entries : token_entries ws ≡ l ∷ index_value bs ∷ token_entries (tokens n (drop n t))) where
   pub entry_read : {q : ℕ} → Ok q ≡ answer_to (index_questions o bs) (index_value bs) → EntryRead ws t k (Ok (record { letter = l; qubit = q; next = n }))
@@ -44,7 +44,6 @@ module _ (ws : List Token) (t : List ℕ) (k l n o : ℕ) (bs : List ℕ) (small
       entry-one (record {
         questions = questions ∙ done_then (index_questions o bs) _ told.0;
         entries = entries ∙ ap (λ (x : ℕ). l ∷ x ∷ token_entries (tokens n (drop n t))) (sym told.1);
-        letter = small;
         place = omega (arith, told.1, index-below bs o told.0);
         onward = onward;
         within = within;
@@ -171,7 +170,7 @@ module _ (t : List ℕ) (k : ℕ) (at : WordAt t k) where
     pub attached : {m q : ℕ} → m ≡ l → Ok q ≡ answer_to (index_questions (k + 1) index) (index_value index)
         → EntryRead (tokens k (drop k t)) t k (Ok (record { letter = m; qubit = q; next = e }))
     attached {m} {q} is h = subst (λ (x : ℕ). EntryRead (tokens k (drop k t)) t k (Ok (record { letter = x; qubit = q; next = e }))) (sym is)
-        (entry_read (tokens k (drop k t)) t k l e (k + 1) index (letter-small (get_or t k 0)) (omega arith) end.within questions_are entries_are h)
+        (entry_read (tokens k (drop k t)) t k l e (k + 1) index (omega arith) end.within questions_are entries_are h)
 
     pub attached_not : {x : Refusal} → Err x ≡ answer_to (index_questions (k + 1) index) (index_value index) → token_questions (tokens k (drop k t)) ≡ Err x
     attached_not h = questions_are ∙ refused-first (index_questions (k + 1) index) _ (answer-err _ _ h)
@@ -231,9 +230,7 @@ module _ (t : List ℕ) (k l f : ℕ) (at : LetterAt t k l) (skip : Skipped lead
 
     pub apart_some : {q : ℕ} → Ok q ≡ answer_to (index_questions f second) (index_value second)
         → EntryRead (tokens k (drop k t)) t k (Ok (record { letter = l; qubit = q; next = e }))
-    apart_some =
-        entry_read (tokens k (drop k t)) t k l e f second (omega (arith, at.letter, letter-small (get_or t k 0)))
-        (omega (arith, skip.onward, end.onward)) end.within apart_asked apart_named
+    apart_some = entry_read (tokens k (drop k t)) t k l e f second (omega (arith, skip.onward, end.onward)) end.within apart_asked apart_named
 
     pub apart_not : {x : Refusal} → Err x ≡ answer_to (index_questions f second) (index_value second) → token_questions (tokens k (drop k t)) ≡ Err x
     apart_not h = apart_asked ∙ refused-first (index_questions f second) _ (answer-err _ _ h)

@@ -61,7 +61,6 @@ pub record LetterAt (t : List ℕ) (k l : ℕ) : Type 0 where
 pub record OneEntry (ws : List Token) (t : List ℕ) (k : ℕ) (e : Entry) : Type 0 where
   pub questions : token_questions ws ≡ token_questions (tokens e.next (drop e.next t))
   pub entries : token_entries ws ≡ e.letter ∷ e.qubit ∷ token_entries (tokens e.next (drop e.next t))
-  pub letter : e.letter ≤ 3
   pub place : e.qubit < 128
   pub onward : k < e.next
   pub within : e.next ≤ length t
