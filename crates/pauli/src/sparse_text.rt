@@ -87,7 +87,8 @@ pub(crate) fn write_sparse(phase: u8, letters: &[u8], dst: &mut [u8]) -> usize
     writer.place()
 }
 
-// Its length.
+// Its length, found by writing nowhere: length and text cannot disagree. The display of a tableau finds its own so too; a function for
+// both would take a closure that writes, and of a closure a contract knows only which answers its calls may give.
 pub(crate) fn sparse_length(phase: u8, letters: &[u8]) -> usize
     ensures { result ≡ length (row_text phase letters.now) }
 {
