@@ -1,5 +1,7 @@
 // String records: reading them, comparing them, making them from entries, writing them as text. Ports pauli_string.rs of PECOS, changed:
 // Copyright 2024 The PECOS Developers, Apache License, Version 2.0.
+#![tactic(auto, using(crate::proofs::Asking::by_questions, crate::proofs::StringReads::string_reads), unfolding(crate::specs::Questions::get_questions, crate::specs::Answers::answer_to, crate::specs::Answers::reply_of, crate::specs::Answers::reply_to))]
+
 ghost use Rattle.std.specs.Prelude.{◌≡◌};
 ghost use Rattle.pauli.specs.SparseText.{to_sparse_questions};
 ghost use Rattle.pauli.specs.Promises.{PhaseOfString, LetterOfString, PlacesCounted, FromEntries, FromSparseText, FromDenseText, FromText, SparseTextWritten};
@@ -15,7 +17,6 @@ use crate::sparse_text::{sparse_length, write_sparse};
 use crate::text::{any_digit, check_ascii, read_head};
 
 // The phase of a string record.
-#[tactic(auto, using(crate::proofs::Asking::by_questions, crate::proofs::StringReads::string_reads), unfolding(crate::specs::Answers::answer_to, crate::specs::Answers::reply_of, crate::specs::Answers::reply_to))]
 pub fn phase(s: &[u8]) -> Result<u8, Refusal>
     ensures { PhaseOfString s.now result }
 {
@@ -24,7 +25,6 @@ pub fn phase(s: &[u8]) -> Result<u8, Refusal>
 }
 
 // The letter of a string record at one qubit.
-#[tactic(auto, using(crate::proofs::Asking::by_questions, crate::proofs::StringReads::string_reads), unfolding(crate::specs::Questions::get_questions, crate::specs::Answers::answer_to, crate::specs::Answers::reply_of, crate::specs::Answers::reply_to))]
 pub fn get(s: &[u8], qubit: usize) -> Result<u8, Refusal>
     ensures { LetterOfString s.now qubit result }
 {
@@ -35,7 +35,6 @@ pub fn get(s: &[u8], qubit: usize) -> Result<u8, Refusal>
 
 // At how many qubits two string records anticommute; they commute where that is even. The kernel counts modulo 256, which the 128
 // places of a record never reach.
-#[tactic(auto, using(crate::proofs::Asking::by_questions, crate::proofs::StringReads::string_reads), unfolding(crate::specs::Answers::answer_to, crate::specs::Answers::reply_of, crate::specs::Answers::reply_to))]
 pub fn anticommuting_places(s: &[u8], t: &[u8]) -> Result<usize, Refusal>
     ensures { PlacesCounted s.now t.now result }
 {
