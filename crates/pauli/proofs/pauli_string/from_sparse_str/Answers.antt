@@ -6,9 +6,6 @@ use Rattle.pauli.proofs.pauli_string.from_sparse_str.Goals as goal
 pub returns-in_err-check_ascii : goal.returns-in_err-check_ascii
 returns-in_err-check_ascii c = written-exit _ _ (sparse_not_ascii _ _ c.in_err-check_ascii.ensures) c.from_residual.ensures.1
 
-pub read_tokens-requires : goal.read_tokens-requires
-read_tokens-requires c = c.read_head-head.ensures.within
-
 pub returns-in_err-marks : goal.returns-in_err-marks
 returns-in_err-marks c =
     written-exit _ _ (sparse_bad_token c.read_head-head.ensures c.in_ok-check_ascii.ensures _ c.in_err-marks.ensures) c.from_residual-in_err-marks.ensures.1
