@@ -27,6 +27,7 @@ fn pairs(entries: &[u8]) -> &[[u8; 2]]
 }
 
 // Two loops: each letter is asked before any qubit.
+#[tactic(auto, using(crate::proofs::EntryMarks::entry_scans))]
 fn check_entry_letters(entries: &[u8]) -> Result<(), Refusal>
     ensures { result ≡ entry_letters_question entries.now }
 {
@@ -38,6 +39,7 @@ fn check_entry_letters(entries: &[u8]) -> Result<(), Refusal>
     Ok(())
 }
 
+#[tactic(auto, using(crate::proofs::EntryMarks::entry_scans))]
 fn check_entry_qubits(entries: &[u8]) -> Result<(), Refusal>
     ensures { result ≡ entry_qubits_question entries.now }
 {
@@ -130,6 +132,7 @@ impl Marks {
     }
 
     // All entries marked.
+    #[tactic(auto, using(crate::proofs::EntryMarks::marks))]
     pub(crate) fn of(entries: &[u8]) -> Marks
         requires { EntriesFit entries.now }
         ensures { result ≡ marks_of entries.now }
