@@ -7,6 +7,3 @@ invariant_of-composed c = record { small = search (gate-products, c.in_ok-check_
 
 pub invariant_of-composed-2 : goal.invariant_of-composed-2
 invariant_of-composed-2 c = record { small = search (gate-products, c.in_ok-check_gate-2.ensures) }
-
-pub returns : goal.returns
-returns c = rw (← c.from-first.ensures, ← c.from-second.ensures) (search (gate-products, c.in_ok-check_gate.ensures, c.in_ok-check_gate-2.ensures))

@@ -2,8 +2,5 @@
 use Rattle.clifford.proofs.SupportQubits.{support_answers}
 use Rattle.clifford.proofs.clifford_rep.support_qubits.Goals as goal
 
-pub write_support-requires : goal.write_support-requires
-write_support-requires c = search (support_answers, c.in_ok-check_room.ensures)
-
 pub returns : goal.returns
 returns c = search (support_answers, c.in_ok-check_tableau.ensures, c.in_ok-check_room.ensures)

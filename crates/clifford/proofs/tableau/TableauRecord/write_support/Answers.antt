@@ -1,4 +1,4 @@
-use Rattle.std.proofs.Common.{rules, ◌≡◌, ℕ, length, arith, refl, ap, set, sym, subst}
+use Rattle.std.proofs.Common.{rules, ◌≡◌, ℕ, length, arith, ap, set, sym, subst}
 use borrow.Author.Tests.{tests}
 use Rattle.std.specs.List.{enumerate_from}
 use Rattle.std.proofs.lemmas.List.{length_push}
@@ -9,9 +9,6 @@ use Rattle.clifford.specs.Support.{in_support, places_with, support_qubits}
 use Rattle.clifford.proofs.Ranges.{kept-below}
 use Rattle.clifford.proofs.SupportQubits.{WroteTo, Comes, comes, places-all, support-small, wrote_place, wrote_more, wrote_all}
 use Rattle.clifford.proofs.tableau.TableauRecord.write_support.Goals as goal
-
-pub writing-init : goal.writing-init
-writing-init c = refl
 
 -- the qubit that an iteration has
 coming : (c : goal.In-Some) → Comes (support_qubits (tableau_of c.args.self.now.bytes.now)) (length c.writing.yielded) c.in-Some.place c.in-Some.k
