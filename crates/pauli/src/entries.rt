@@ -63,7 +63,8 @@ pub(crate) fn check_entries(phase: u8, entries: &[u8]) -> Result<(), Refusal>
     check_entry_qubits(entries)
 }
 
-// What the entries read so far say of a qubit: its letter, where one entry names it.
+// What the entries read so far say of a qubit: its letter, where one entry names it. The letters stand first and in the order of their
+// bytes, so that `as` gives a letter's byte, for which there is no From.
 #[derive(Clone, Copy)]
 pub(crate) enum Mark {
     I,

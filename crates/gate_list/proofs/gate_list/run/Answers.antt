@@ -1,7 +1,6 @@
 -- `gate_list::run` meets its contract: the questions, and the run where they let it by.
-use Rattle.std.proofs.Common.{refl}
 use Rattle.pauli.proofs.Answers.{number-exit}
-use Rattle.gate_list.proofs.RunAnswers.{run_admits, run_done}
+use Rattle.gate_list.proofs.RunAnswers.{run_done}
 use Rattle.gate_list.proofs.gate_list.run.Goals as goal
 
 pub returns-in_err-check_run : goal.returns-in_err-check_run
@@ -9,6 +8,3 @@ returns-in_err-check_run c = number-exit _ _ _ c.in_err-check_run.ensures c.from
 
 pub returns : goal.returns
 returns c = run_done c.in_ok-check_run.ensures c.write_run.ensures
-
-pub invariant_of-write_run : goal.invariant_of-write_run
-invariant_of-write_run c = record { asked = run_admits _ _ c.in_ok-check_run.ensures refl }
