@@ -37,9 +37,12 @@ letter-xor : (a b : Letter) → bit_xor (letter_byte a) (letter_byte b) ≡ lett
 unfolding letter_mul letter_product letter_byte
 letter-xor = by_pairs (λ a b. bit_xor (letter_byte a) (letter_byte b)) (λ a b. letter_byte (letter_mul a b)) tt
 
--- the turns of a place
-abbrev turns_of : ℕ → ℕ → ℕ
-turns_of x y = for_y 1 x + for_y 1 y + for_y 3 (bit_xor x y) + bit_and x (y + y)
+-- the turns of a place, where Y counts c in one letter, d in the other, and e in their product
+abbrev turns_of : ℕ → ℕ → ℕ → ℕ → ℕ → ℕ
+turns_of c d e x y = for_y c x + for_y d y + for_y e (bit_xor x y) + bit_and x (y + y)
+
+abbrev pub turns_test : ℕ → ℕ → ℕ → Bool
+turns_test c d e = letters.all (λ a. letters.all (λ b. phases.same (power (turns_of c d e (letter_byte a) (letter_byte b))) (letter_phase a b)))
 
 abbrev crossing : ℕ → ℕ → ℕ
 crossing x y = bit_xor (bit_and x (y + y)) (bit_and y (x + x)) / 2
@@ -105,15 +108,18 @@ sum_small {x} {y} m = omega (arith, letter_sum m, letter-small (letter_mul (lett
 pub turns_fit : {a x y z c d e k m n : ℕ} → LetterByte a x → ForY c x k → ForY d y m → ForY e z n → c + d + e ≤ 252 → Fits w8 (k + m + n + bit_and x (y + y))
 turns_fit {x = x} {y = y} f p q r h = record { fits = omega (arith, and_le_l x (y + y), f.small, p.small, q.small, r.small) }
 
-all_turns : {a b x y k m n : ℕ} → LetterByte a x → LetterByte b y → ForY 1 x k → ForY 1 y m → ForY 3 (bit_xor x y) n
-    → power (k + m + n + bit_and x (y + y)) ≡ letter_phase (letter_of a) (letter_of b)
-unfolding letter_phase letter_product letter_byte turn power for_y
-all_turns {a} {b} f g p q r =
-    rw (p.is, q.is, r.is, f.is, g.is) (law2 letters letters phases (λ a b. power (turns_of (letter_byte a) (letter_byte b))) letter_phase tt (letter_of a) (letter_of b))
+pub turns_are : {a b x y c d e k m n : ℕ} → LetterByte a x → LetterByte b y → ForY c x k → ForY d y m → ForY e (bit_xor x y) n → T (turns_test c d e)
+    → LetterTurns a b (k + m + n + bit_and x (y + y))
+turns_are {a} {b} {c = c} {d = d} {e = e} f g p q r t = record {
+  is = rw (p.is, q.is, r.is, f.is, g.is)
+      (law2 letters letters phases (λ a b. power (turns_of c d e (letter_byte a) (letter_byte b))) letter_phase t (letter_of a) (letter_of b));
+}
 
-pub turns_are : {x y k m n t : ℕ} → LetterBytes x y → ForY 1 x k → ForY 1 y m → ForY 3 (bit_xor x y) n → t ≡ k + m + n + bit_and x (y + y)
+-- the kernel's numbers pass the test
+pub kernel_turns : {x y k m n t : ℕ} → LetterBytes x y → ForY 1 x k → ForY 1 y m → ForY 3 (bit_xor x y) n → t ≡ k + m + n + bit_and x (y + y)
     → power t ≡ letter_phase (letter_of x) (letter_of y)
-turns_are m p q r e = ap power e ∙ all_turns (byte-first m) (byte-second m) p q r
+unfolding letter_phase letter_product letter_byte turn power for_y
+kernel_turns m p q r e = ap power e ∙ (turns_are (byte-first m) (byte-second m) p q r tt).is
 
 pub turns_read : {a b x y t : ℕ} → LetterByte a x → LetterByte b y → LetterTurns x y t → LetterTurns a b t
 turns_read {a} {b} f g m = record {
@@ -159,7 +165,7 @@ pub ruleset places = (
   letter-is,
   sum_small,
   turns_fit,
-  turns_are,
+  kernel_turns,
   turns_read,
   turns-added,
   crossing_is,

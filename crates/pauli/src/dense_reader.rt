@@ -68,7 +68,7 @@ fn letter_at(body: &[u8], qubit: usize) -> u8
     }
 }
 
-// The letters that a body names, over the destination; I past its end.
+// The letters that a body names, over the destination; I past its end, where a zip of the two would stop.
 #[tactic(auto, using(crate::proofs::DenseReading::named_fills))]
 fn write_named(body: &[u8], dst: &mut [u8])
     ensures { dst.new ≡ letters_named (length dst.old) body.now }

@@ -75,12 +75,12 @@ pub(crate) enum Mark {
     Twice,
 }
 
-impl Mark {
-    // The mark of one entry; a letter above 3 is read as 3.
+// The mark of one entry, by its letter; one above 3 is read as 3.
+impl From<u8> for Mark {
+    ghost from_gives = { λ letter mark. mark ≡ mark_once letter };
+
     #[tactic(auto, unfolding(crate::specs::Inside::Marks::mark_once))]
-    fn once(letter: u8) -> Mark
-        ensures { result ≡ mark_once letter }
-    {
+    fn from(letter: u8) -> Mark {
         match letter {
             0 => Mark::I,
             1 => Mark::X,
@@ -88,14 +88,16 @@ impl Mark {
             _ => Mark::Y,
         }
     }
+}
 
+impl Mark {
     // After one more entry, with this letter.
     #[tactic(auto, unfolding(crate::specs::Inside::Marks::mark_more))]
     fn more(self, letter: u8) -> Mark
         ensures { result ≡ mark_more self letter }
     {
         match self {
-            Mark::Unnamed => Mark::once(letter),
+            Mark::Unnamed => Mark::from(letter),
             _ => Mark::Twice,
         }
     }

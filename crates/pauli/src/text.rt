@@ -29,7 +29,7 @@ pub(crate) fn letter_named(c: u8) -> Option<u8>
 
 // The place where white space from `at` on ends, and where a word does. Two functions and not one that takes the test: of a closure a
 // contract knows only which answers its calls may give, so each caller would have to prove the place anew; a trait of tests would be
-// longer than the two.
+// longer than the two, and a const parameter, a bool, would say less than their names.
 pub(crate) fn skip_spaces(t: &[u8], at: usize) -> usize
     requires { at ≤ length t.now }
     ensures { Skipped leading_spaces t.now at result }

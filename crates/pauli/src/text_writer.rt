@@ -51,8 +51,9 @@ impl<'a> TextWriter<'a> {
         self.at = self.at.saturating_add(text.len());
     }
 
-    // The decimal numeral of a number: that of its tenth, and its last digit. By hand: `write!` answers a result, and
-    // `fmt::Write` promises what was written only where that is Ok. A u64 has no From into u8; `as` is proved to keep the value.
+    // The decimal numeral of a number: that of its tenth, and its last digit. By hand, as every text here is put: `write!` answers a
+    // result, and `fmt::Write` promises what was written only where that is Ok. A u64 has no From into u8; `as` is proved to keep the
+    // value.
     pub fn put_decimal(&mut self, n: u64)
         ensures { Put (decimal n) self.old self.new }
     {
