@@ -12,7 +12,8 @@ pub(crate) fn check_chain(list: &[u8], met: &mut [bool]) -> Result<(), Refusal>
     ensures { result ≡ links_question list.now }
 {
     Record { list, i: 0 }.check_link()?;
-    // The record whose link is followed. The loop's label names the goals of its proof.
+    // The record whose link is followed. No `for`: which record is next is known only by its link. The loop's label names the goals of its
+    // proof.
     let mut at = 0;
     'chain: loop {
         let i = Record { list, i: at }.next();

@@ -7,7 +7,8 @@ ghost use Rattle.gate_list.specs.Inside.Reading.{step_different_question, two_qu
 use crate::reading::{LONGEST_LIST, RECORD_SIZE, Record, record_count, width};
 use pauli::refusal::Refusal;
 
-// Gates 0 to 23 are on one qubit, 24 to 37 on two. A byte of a list names a gate by its number.
+// Gates 0 to 23 are on one qubit, 24 to 37 on two. A byte of a list names a gate by its number, any number, and the gates' types are
+// clifford's own, so each test of a gate here is one of its byte.
 const ONE_QUBIT_GATES: u8 = 24;
 
 const GATES: u8 = 38;
@@ -56,7 +57,6 @@ impl<'a> Record<'a> {
         Ok(())
     }
 
-    // By the byte and no `Gate`: a list's may be any until this is asked.
     #[tactic(auto, using(crate::proofs::ListAsking::by_tests), unfolding(crate::specs::ListQuestions::step_gate_question))]
     fn check_gate(&self) -> Result<(), Refusal>
         ensures { result ≡ step_gate_question self.now.list.now self.now.i }

@@ -20,10 +20,7 @@ pub(crate) fn record_count(list: &[u8]) -> usize
 pub(crate) fn width(list: &[u8]) -> usize
     ensures { result ≡ list_width list.now }
 {
-    match list.get(1) {
-        Some(width) => usize::from(*width),
-        None => 0,
-    }
+    list.get(1).map_or(0, |width| usize::from(*width))
 }
 
 // Record i of a list.

@@ -41,7 +41,7 @@ impl<'a> Tables<'a> {
         let list = admitted.list;
         let mut steps = 0;
         let mut i = Record { list, i: 0 }.next();
-        // The label names the goals of the proof.
+        // No `for`, as in the walk of the questions. The label names the goals of the proof.
         'chain: while i != 0 {
             let record = Record { list, i };
             self.play(&record, t);

@@ -15,7 +15,8 @@ const FALSE_WEIGHT: u64 = 24;
 
 const STDOUT_FILENO: i32 = 1;
 
-// A write that fails is passed over: the lines after it are written all the same.
+// By the kit's `io`: std's standard output would assume more C functions. A write that fails is passed over: the lines after it are
+// written all the same.
 fn write_line(number: u64) {
     // Room for any line.
     let mut room = [0; 140];

@@ -54,18 +54,6 @@ fn is_two_sided(back: &[u8], product: &[u8]) -> bool {
     is_composed(back, product, one) && is_composed(product, back, one)
 }
 
-// Whether the inverse of the product brings the record now back to the record then.
-fn is_back(then: &[u8], now: &[u8], product: &[u8]) -> bool {
-    let mut back = Record::new();
-    let answer = clifford_rep::inverse(product, &mut back.room);
-    let Some(back) = back.written(answer) else {
-        return false;
-    };
-    is_composed(back, now, then)
-        && is_two_sided(back, product)
-        && clifford_rep::is_valid(back) == Ok(true)
-}
-
 // Sends each string through a tableau.
 fn send(t: &[u8], strings: &[u8], d: &mut [u8]) -> Option<Reply> {
     if d.len() != strings.len() {
@@ -76,16 +64,6 @@ fn send(t: &[u8], strings: &[u8], d: &mut [u8]) -> Option<Reply> {
         clifford_rep::apply(t, string, image).ok()?;
     }
     told(Ok(()))
-}
-
-// Sends each string through the record that the inverse of the product brings back.
-fn send_back(now: &[u8], product: &[u8], strings: &[u8], d: &mut [u8]) -> Option<Reply> {
-    let mut back = Record::new();
-    let answer = clifford_rep::inverse(product, &mut back.room);
-    let back = back.written(answer)?;
-    let mut brought = Record::new();
-    let answer = clifford_rep::compose(back, now, &mut brought.room);
-    send(brought.written(answer)?, strings, d)
 }
 
 // A list of calls: the record to come back to, the record as it stands, and the product of the steps from the one to the other.
@@ -141,6 +119,16 @@ impl List {
         }
     }
 
+    // Sends each string through the record that the inverse of the product brings back.
+    fn send_back(&self, strings: &[u8], d: &mut [u8]) -> Option<Reply> {
+        let mut back = Record::new();
+        let answer = clifford_rep::inverse(self.product.bytes(), &mut back.room);
+        let back = back.written(answer)?;
+        let mut brought = Record::new();
+        let answer = clifford_rep::compose(back, self.now.bytes(), &mut brought.room);
+        send(brought.written(answer)?, strings, d)
+    }
+
     // Plays the case's call.
     fn play(&mut self, case: &mut Case) -> Option<Reply> {
         let n1 = index(case.n1)?;
@@ -148,18 +136,30 @@ impl List {
         match case.name {
             "compose" => self.compose(case.a, case.b, case.d),
             "send" => send(case.a, case.b, case.d),
-            "back" => send_back(self.now.bytes(), self.product.bytes(), case.b, case.d),
+            "back" => self.send_back(case.b, case.d),
             "mark" => self.mark(n2),
             "identity" => self.start(n1, n2, case.d),
             _ => None,
         }
     }
 
+    // Whether the inverse of the product brings the record now back to the record then.
+    fn is_back(&self) -> bool {
+        let product = self.product.bytes();
+        let mut back = Record::new();
+        let answer = clifford_rep::inverse(product, &mut back.room);
+        let Some(back) = back.written(answer) else {
+            return false;
+        };
+        is_composed(back, self.now.bytes(), self.then.bytes())
+            && is_two_sided(back, product)
+            && clifford_rep::is_valid(back) == Ok(true)
+    }
+
     // The reply of the case's call, where the way back holds after it.
     fn call(&mut self, case: &mut Case) -> Option<Reply> {
         let reply = self.play(case)?;
-        let List { then, now, product } = self;
-        is_back(then.bytes(), now.bytes(), product.bytes()).then_some(reply)
+        self.is_back().then_some(reply)
     }
 }
 

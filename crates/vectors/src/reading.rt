@@ -21,6 +21,7 @@ impl Expected {
     {
         match self {
             Expected::Exactly(due) => reply == due,
+            // By numbers: a reply has them, and no refusal.
             Expected::BadSyntax => matches!(reply.number, 9..=11),
         }
     }

@@ -20,7 +20,8 @@ fn text_room() -> [u8; 2097152] {
     [0; 2097152]
 }
 
-// Standard output. A write that fails is passed over: the lines after it are replayed all the same.
+// Standard output, by the kit's `io`: std's own would assume more C functions. A write that fails is passed over: the lines after it are
+// replayed all the same.
 #[derive(Drop)]
 struct Output;
 

@@ -13,7 +13,8 @@ pub fn told<T: Told + Drop>(answer: Result<T, Refusal>) -> Option<Reply>
     Some(Reply::from(answer))
 }
 
-// A number as a byte: no function takes a wider one.
+// A number as a byte: no function takes a wider one. Not one function with the next, of any type: its contract could say what that
+// type's `try_from` gives, and name no number.
 pub fn byte(n: u64) -> Option<u8>
     ensures { SomeIff result (n < 2 ^ 8) n }
 {
