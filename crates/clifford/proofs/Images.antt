@@ -1,30 +1,22 @@
 -- Images handed out: the row's own part of the record, and where it starts.
 use Rattle.std.specs.Result.{result_unwrap_or}
 use Rattle.std.proofs.Common.{◌≡◌, ℕ, ◌+◌, ◌*◌, ◌<◌, List, [], length, sym, refl, ap, ◌∙◌, arith, rules, w64, Fits, Result, Ok, Err, IsErrAnd}
-use Rattle.clifford_group.specs.Conjugation.{Generator, of_x, of_z, row}
+use Rattle.clifford_group.specs.Conjugation.{Generator, row}
 use Rattle.pauli.specs.declared.refusal.Refusal.{Refusal}
 use Rattle.pauli.specs.Questions.{◌and_then◌}
 use Rattle.pauli.proofs.Asking.{done_first, done_second}
-use Rattle.clifford.specs.Layout.{row_offset, encode_row, row_of, width_of, row_part, tableau_of, generator_row, FormedTableau}
+use Rattle.clifford.specs.Layout.{row_offset, encode_row, width_of, row_part, tableau_of, generator_row, FormedTableau}
 use Rattle.pauli.specs.Answers.{answer_to}
 use Rattle.pauli.proofs.Answers.{answered-done, answered-exit}
 use Rattle.clifford.specs.Questions.{tableau_questions, slot_question, image_questions}
-use Rattle.clifford.specs.Inside.Rows.{OwnRow, RowIndex, SlotIndex, RowInside, Sized}
+use Rattle.clifford.specs.Inside.Rows.{OwnQubit, OwnRow, RowIndex, SlotIndex, RowInside, Sized}
 use Rattle.clifford.specs.Tableaux.{image_part}
 use Rattle.clifford.specs.Promises.{ImageAt}
-use Rattle.clifford.proofs.Rows.{row_there, row-x, row-z, row_part_lem, own_row, width_of_lem}
-use Rattle.clifford.proofs.RowAccess.{own-inside}
+use Rattle.clifford.proofs.Rows.{row_there, row_part_lem, own_row}
+use Rattle.clifford.proofs.RowAccess.{own-inside, qubit_taken, qubit-slot, generator-row, row_place, row_taken, row_is}
 use Rattle.clifford.proofs.Asking.{checked, slot_is}
 
 -- ---- the row of a generator's image
-generator-row : (g : Generator) {w q : ℕ} → q < w → generator_row g w q < 2 * w
-generator-row of_x h = omega arith
-generator-row of_z h = omega arith
-
-row-generator : (g : Generator) (t : List ℕ) {q : ℕ} → q < width_of t → row_of (tableau_of t) (generator_row g (width_of t) q) ≡ row (tableau_of t) g q
-row-generator of_x t {q} h = row-x (tableau_of t) q (omega (arith, width_of_lem t))
-row-generator of_z t {q} h = ap (λ (j : ℕ). row_of (tableau_of t) (j + q)) (sym (width_of_lem t)) ∙ row-z (tableau_of t) q
-
 pub generator_index : (g : Generator) {w q r : ℕ} → SlotIndex w q → r ≡ generator_row g w q → RowIndex w r
 generator_index g {w} {q} o e = record { narrow = o.narrow; own = omega (arith, e, generator-row g o.own) }
 
@@ -40,15 +32,18 @@ module _ (t : List ℕ) (slot : ℕ) (h : Ok tt ≡ image_questions t slot) wher
   formed : FormedTableau t
   formed = checked (sym (done_first _ _ both))
 
+  taken : OwnQubit t slot
+  taken = qubit_taken formed below
+
   pub image-slot : {n : ℕ} → n ≡ width_of t → SlotIndex n slot
-  image-slot e = record { narrow = omega (arith, e, formed.narrow); own = omega (arith, e, below) }
+  image-slot e = qubit-slot taken e
 
   module _ (g : Generator) {n r : ℕ} (en : n ≡ width_of t) (er : r ≡ generator_row g n slot) where
     is_row : r ≡ generator_row g (width_of t) slot
-    is_row = er ∙ ap (λ (j : ℕ). generator_row g j slot) en
+    is_row = row_place taken g en er
 
     pub image-own : OwnRow t r
-    image-own = record { tableau = formed; own = omega (arith, is_row, generator-row g below) }
+    image-own = row_taken taken g en er
 
     pub image-inside : RowInside t r
     image-inside = own-inside image-own
@@ -67,7 +62,7 @@ module _ (t : List ℕ) (slot : ℕ) (h : Ok tt ≡ image_questions t slot) wher
       let own : OwnRow t (generator_row g (width_of t) slot) = image-own g refl refl in
       sym (image-handed g refl refl refl)
       ∙ ap {B = Result (List ℕ) Refusal} Ok
-      (sym (row_there (own_row own)) ∙ ap (encode_row (width_of t)) (sym (row_part_lem t _ own.own) ∙ row-generator g t below))
+      (sym (row_there (own_row own)) ∙ ap (encode_row (width_of t)) (sym (row_part_lem t _ own.own) ∙ row_is taken g refl refl))
 
 pub ruleset images = (image-slot, image-inside, image-handed, rules)
 

@@ -5,13 +5,14 @@ use lib.ListN.{get_or-eq_default}
 use borrow.Rule.Slice.PartMut.{put_mid}
 use borrow.Author.Tests.{lt-leb}
 use Rattle.pauli_group.specs.PauliString.{qubits, mul, identity_string, weight_to}
+use Rattle.clifford_group.specs.Conjugation.{Generator, of_x, of_z, row}
 use Rattle.pauli.specs.Layout.{phase_byte, phase_of, letter_byte, encode_string}
 use Rattle.pauli.specs.Rows.{phase_bytes_product, RowTimes, letter_count, largest_to, Scanned}
 use Rattle.pauli.proofs.Places.{length-listed, get_d_listed, from, from_is, none_bad}
 use Rattle.pauli.proofs.StringProducts.{row-product, row_product-is}
-use Rattle.clifford.specs.Layout.{letter_place, row_length, letters_of, decode_row, row_offset, record_length, longest_record, row_of, width_of, row_part, tableau_of, read_row, letter_in, row_with, row_with_pair, FormedTableau}
+use Rattle.clifford.specs.Layout.{letter_place, row_length, letters_of, decode_row, row_offset, record_length, longest_record, row_of, width_of, row_part, tableau_of, read_row, generator_row, letter_in, row_with, row_with_pair, FormedTableau}
 use Rattle.pauli.specs.Places.{listed}
-use Rattle.clifford.specs.Inside.Rows.{letter_bytes, Sized, RowIndex, RowInside, RowAt, OwnQubit, row_answer, OwnRow, WorkRow, Finished, row_times, row_written, letters_in, string_in, row_letters}
+use Rattle.clifford.specs.Inside.Rows.{letter_bytes, Sized, RowIndex, SlotIndex, RowInside, RowAt, OwnQubit, row_answer, OwnRow, WorkRow, Finished, row_times, row_written, letters_in, string_in, row_letters}
 use Rattle.clifford.proofs.Records.{record-small}
 use Rattle.pauli.specs.declared.refusal.Refusal.TheVariants.{BadByte}
 use Rattle.pauli.specs.declared.rows.LetterScan.{LetterScan}
@@ -100,24 +101,28 @@ qubit_taken f h = record { tableau = f; own = h }
 pub qubit_before : {b : List ℕ} {q r : ℕ} → OwnQubit b q → r < q → OwnQubit b r
 qubit_before o h = record { tableau = o.tableau; own = omega (arith, o.own) }
 
-module _ {b : List ℕ} {q : ℕ} (o : OwnQubit b q) where
-  pub x_taken : OwnRow b q
-  x_taken = record { tableau = o.tableau; own = omega (arith, o.own) }
+pub qubit-slot : {b : List ℕ} {q n : ℕ} → OwnQubit b q → n ≡ width_of b → SlotIndex n q
+qubit-slot o e = record { narrow = omega (arith, e, o.tableau.narrow); own = omega (arith, e, o.own) }
 
-  pub x_is : row_of (tableau_of b) q ≡ (tableau_of b).x_image q
-  x_is = row-x (tableau_of b) q (omega (arith, o.own, width_of_lem b))
+pub generator-row : (g : Generator) {w q : ℕ} → q < w → generator_row g w q < 2 * w
+generator-row of_x h = omega arith
+generator-row of_z h = omega arith
 
-  module _ {n : ℕ} (e : n ≡ width_of b) where
-    pub z_taken : OwnRow b (n + q)
-    z_taken = record { tableau = o.tableau; own = omega (arith, o.own) }
+row-generator : (g : Generator) (t : List ℕ) {q : ℕ} → q < width_of t → row_of (tableau_of t) (generator_row g (width_of t) q) ≡ row (tableau_of t) g q
+row-generator of_x t {q} h = row-x (tableau_of t) q (omega (arith, width_of_lem t))
+row-generator of_z t {q} h = ap (λ (j : ℕ). row_of (tableau_of t) (j + q)) (sym (width_of_lem t)) ∙ row-z (tableau_of t) q
 
-    pub z_small : n + q ≤ 256
-    z_small = omega (arith, o.own, o.tableau.narrow)
+module _ {b : List ℕ} {q : ℕ} (o : OwnQubit b q) (g : Generator) {n r : ℕ} (en : n ≡ width_of b) (er : r ≡ generator_row g n q) where
+  pub row_place : r ≡ generator_row g (width_of b) q
+  row_place = er ∙ ap (λ (j : ℕ). generator_row g j q) en
 
-    pub z_is : row_of (tableau_of b) (n + q) ≡ (tableau_of b).z_image q
-    z_is = ap (λ (j : ℕ). row_of (tableau_of b) (j + q)) (e ∙ sym (width_of_lem b)) ∙ row-z (tableau_of b) q
+  pub row_taken : OwnRow b r
+  row_taken = record { tableau = o.tableau; own = omega (arith, row_place, generator-row g o.own) }
 
-pub ruleset qubit_rows = (qubit_taken, qubit_before, x_taken, x_is, z_taken, z_small, z_is, rules)
+  pub row_is : row_of (tableau_of b) r ≡ row (tableau_of b) g q
+  row_is = ap (row_of (tableau_of b)) row_place ∙ row-generator g b o.own
+
+pub ruleset qubit_rows = (qubit_taken, qubit_before, qubit-slot, row_place, row_taken, row_is, rules)
 
 -- ---- one letter of a row
 module _ {b : List ℕ} {r : ℕ} (f : FormedTableau b) (h : r < 2 * width_of b) where

@@ -8,6 +8,7 @@ ghost use Rattle.pauli.specs.Layout.{encode_string, letter_of};
 ghost use Rattle.clifford.specs.Layout.{tableau_of, row_qubit, row_letter};
 ghost use Rattle.clifford.specs.Inside.Rows.{WorkRow, WorkOnQubit, WorkPlace, AppliesString, AppliesLetter, ClearRow, cleared_row, row_times, letters_in, string_in};
 
+use crate::clifford_rep::{X, Z};
 use crate::layout::{RowPlace, multiply_by};
 use crate::tableau::{Qubit, TableauRecord};
 use pauli::algebra::multiply_paulis;
@@ -42,8 +43,8 @@ fn multiply_both(work: &mut [u8], qubit: &Qubit)
     ensures { work.new ≡ row_times work.old (row_image (tableau_of qubit.now.bytes.now) qubit.now.q Y) }
 {
     work[0] = phase_times(work[0], 2);
-    multiply_by(work, &qubit.x_row());
-    multiply_by(work, &qubit.z_row());
+    multiply_by(work, &qubit.row::<X>());
+    multiply_by(work, &qubit.row::<Z>());
 }
 
 // A work row multiplied by the image, by rows, of a letter other than I on a qubit; a byte above 3 is read as 3.
@@ -54,8 +55,8 @@ fn multiply_own(work: &mut [u8], qubit: &Qubit, letter: u8)
     ensures { work.new ≡ row_times work.old (row_image (tableau_of qubit.now.bytes.now) qubit.now.q (letter_of letter)) }
 {
     match letter {
-        1 => multiply_by(work, &qubit.x_row()),
-        2 => multiply_by(work, &qubit.z_row()),
+        1 => multiply_by(work, &qubit.row::<X>()),
+        2 => multiply_by(work, &qubit.row::<Z>()),
         _ => multiply_both(work, qubit),
     }
 }

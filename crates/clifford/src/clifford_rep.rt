@@ -71,7 +71,7 @@ impl Generator for Z {
 
 // The row of the letter's image on this qubit.
 #[tactic(auto, unfolding(crate::specs::Layout::generator_row))]
-fn image_row<G: Generator>(width: usize, slot: usize) -> usize
+pub(crate) fn image_row<G: Generator>(width: usize, slot: usize) -> usize
     requires { SlotIndex width slot }
     ensures { result ≡ generator_row G.letter width slot }
 {

@@ -7,6 +7,7 @@ ghost use Rattle.pauli.specs.Inside.TextWriting.{TextWritten};
 ghost use Rattle.clifford.specs.Display.{header_text, label_text, line_text, text_of_tableau};
 ghost use Rattle.clifford.specs.Layout.{tableau_of, row_letter, row_qubit};
 
+use crate::clifford_rep::{X, Z};
 use crate::layout::{RowPlace, width};
 use crate::tableau::{Row, TableauRecord};
 use pauli::text_writer::TextWriter;
@@ -71,8 +72,8 @@ impl TableauRecord<'_> {
         writer.put_text(b"\n");
         for q in 0..n {
             let qubit = self.qubit(q);
-            qubit.x_row().put_line(&mut writer);
-            qubit.z_row().put_line(&mut writer);
+            qubit.row::<X>().put_line(&mut writer);
+            qubit.row::<Z>().put_line(&mut writer);
         }
         writer.place()
     }

@@ -45,8 +45,8 @@ impl Qubit<'_> {
     fn is_changed(&self) -> bool
         ensures { result ≡ changed_qubit (tableau_of self.now.bytes.now) self.now.q }
     {
-        let x = self.x_row();
-        let z = self.z_row();
+        let x = self.row::<X>();
+        let z = self.row::<Z>();
         !(x.is_single::<X>(self.q) && z.is_single::<Z>(self.q))
     }
 
@@ -55,8 +55,8 @@ impl Qubit<'_> {
     fn touches(&self, k: usize) -> bool
         ensures { result ≡ touches_qubit (tableau_of self.now.bytes.now) k self.now.q }
     {
-        let x = self.x_row();
-        let z = self.z_row();
+        let x = self.row::<X>();
+        let z = self.row::<Z>();
         self.q == k || x.has_letter(k) || z.has_letter(k)
     }
 

@@ -1,10 +1,12 @@
 // A record that has passed the questions, its qubits and its rows, so that what reads them asks nothing more.
 ghost use Rattle.std.specs.Prelude.{◌≡◌, ◌+◌, ◌<◌, ◌≤◌};
 ghost use Rattle.pauli_group.specs.PauliString.{commute};
+ghost use Rattle.clifford_group.specs.Conjugation.{row};
 ghost use Rattle.pauli.specs.Layout.{phase_byte};
-ghost use Rattle.clifford.specs.Layout.{FormedTableau, row_of, tableau_of, width_of};
+ghost use Rattle.clifford.specs.Layout.{FormedTableau, generator_row, row_of, tableau_of, width_of};
 ghost use Rattle.clifford.specs.Inside.Rows.{OwnQubit, OwnRow, letter_bytes};
 
+use crate::clifford_rep::{Generator, image_row};
 use crate::layout;
 use pauli::rows::count_anticommuting;
 
@@ -43,31 +45,17 @@ pub(crate) struct Qubit<'a> {
     ghost own: { OwnQubit bytes.now q },
 }
 
-// No one function of the generator for both rows: its promise would have to ask which of the two images it names.
 impl<'a> Qubit<'a> {
-    // The row of the image of X.
+    // The row of the image of X or Z.
     #[tactic(auto, using(crate::proofs::RowAccess::qubit_rows))]
-    pub(crate) fn x_row(&self) -> Row<'a>
+    pub(crate) fn row<G: Generator>(&self) -> Row<'a>
         ensures bytes { result.bytes.now ≡ self.now.bytes.now }
-        ensures place { result.r ≡ self.now.q }
-        ensures image { row_of (tableau_of result.bytes.now) result.r ≡ (tableau_of self.now.bytes.now).x_image self.now.q }
+        ensures place { result.r ≡ generator_row G.letter (width_of self.now.bytes.now) self.now.q }
+        ensures image { row_of (tableau_of result.bytes.now) result.r ≡ row (tableau_of self.now.bytes.now) G.letter self.now.q }
     {
         Row {
             bytes: self.bytes,
-            r: self.q,
-        }
-    }
-
-    // The row of the image of Z.
-    #[tactic(auto, using(crate::proofs::RowAccess::qubit_rows))]
-    pub(crate) fn z_row(&self) -> Row<'a>
-        ensures bytes { result.bytes.now ≡ self.now.bytes.now }
-        ensures place { result.r ≡ width_of self.now.bytes.now + self.now.q }
-        ensures image { row_of (tableau_of result.bytes.now) result.r ≡ (tableau_of self.now.bytes.now).z_image self.now.q }
-    {
-        Row {
-            bytes: self.bytes,
-            r: layout::width(self.bytes) + self.q,
+            r: image_row::<G>(layout::width(self.bytes), self.q),
         }
     }
 }

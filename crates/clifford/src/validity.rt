@@ -4,6 +4,7 @@ ghost use Rattle.std.specs.Prelude.{◌≡◌, ◌&&◌, ◌<◌};
 ghost use Rattle.clifford_group.specs.Tableau.{all_to, valid_qubit, valid_pair, is_valid};
 ghost use Rattle.clifford.specs.Layout.{tableau_of};
 
+use crate::clifford_rep::{X, Z};
 use crate::tableau::{Qubit, TableauRecord};
 
 impl Qubit<'_> {
@@ -11,8 +12,8 @@ impl Qubit<'_> {
     fn has_valid_rows(&self) -> bool
         ensures { result ≡ valid_qubit (tableau_of self.now.bytes.now) self.now.q }
     {
-        let x = self.x_row();
-        let z = self.z_row();
+        let x = self.row::<X>();
+        let z = self.row::<Z>();
         x.phase() < 2 && z.phase() < 2 && !x.commutes_with(&z)
     }
 
@@ -26,10 +27,10 @@ impl Qubit<'_> {
             bytes: self.bytes,
             q: r,
         };
-        let x = self.x_row();
-        let z = self.z_row();
-        let other_x = other.x_row();
-        let other_z = other.z_row();
+        let x = self.row::<X>();
+        let z = self.row::<Z>();
+        let other_x = other.row::<X>();
+        let other_z = other.row::<Z>();
         x.commutes_with(&other_x)
             && x.commutes_with(&other_z)
             && z.commutes_with(&other_x)

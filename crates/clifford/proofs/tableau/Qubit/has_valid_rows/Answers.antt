@@ -7,10 +7,10 @@ use Rattle.clifford.proofs.tableau.Qubit.has_valid_rows.Goals as goal
 
 pub returns-then-phase-lt2-2 : goal.returns-then-phase-lt2-2
 returns-then-phase-lt2-2 c =
-    let e = qubit_is (tableau_of c.args.self.now.bytes.now) c.args.self.now.q c.x_row-x.ensures.image c.z_row-z.ensures.image refl refl refl in
+    let e = qubit_is (tableau_of c.args.self.now.bytes.now) c.args.self.now.q c.row-x.ensures.image c.row-z.ensures.image refl refl refl in
     grind (arith, common_steps, nat_tests)
 
 pub returns-else-phase-lt2-2 : goal.returns-else-phase-lt2-2
 returns-else-phase-lt2-2 c =
-    let e = qubit_is (tableau_of c.args.self.now.bytes.now) c.args.self.now.q c.x_row-x.ensures.image c.z_row-z.ensures.image refl refl refl in
+    let e = qubit_is (tableau_of c.args.self.now.bytes.now) c.args.self.now.q c.row-x.ensures.image c.row-z.ensures.image refl refl refl in
     grind (arith, common_steps, nat_tests)

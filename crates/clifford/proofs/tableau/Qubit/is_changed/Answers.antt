@@ -5,5 +5,5 @@ use Rattle.clifford.proofs.tableau.Qubit.is_changed.Goals as goal
 
 pub returns : goal.returns
 returns c =
-    let e = changed_is c.args.self.now.bytes.now c.args.self.now.q c.x_row-x.ensures.image c.z_row-z.ensures.image c.x_row-x.ensures.bytes c.z_row-z.ensures.bytes refl refl in
+    let e = changed_is c.args.self.now.bytes.now c.args.self.now.q c.row-x.ensures.image c.row-z.ensures.image c.row-x.ensures.bytes c.row-z.ensures.bytes refl refl in
     grind (arith, common_steps)
