@@ -57,7 +57,7 @@ fn write_gate(gate: PlacedGate, width: usize, dst: &mut [u8]) -> Result<(), Refu
     write_made(&OfGate { gate, width }, dst)
 }
 
-// The record of a one-qubit gate on its qubit, at its own width.
+// The record of a one-qubit gate on its qubit, at its own width. By number: a `PlacedGate` is made of it, which holds one.
 #[tactic(auto, using(crate::proofs::GateAnswers::one_qubit_writes))]
 fn write_on_qubit(number: usize, qubit: usize, dst: &mut [u8]) -> Result<(), Refusal>
     requires small { number < 24 }
@@ -88,8 +88,8 @@ pub fn on_qubits(gate: u8, q0: usize, q1: usize, dst: &mut [u8]) -> Result<(), R
     write_gate(placed, placed.width(), dst)
 }
 
-// A gate on its qubits, at the width n; the second is not looked at for gates 0 to 23. Not one function with `on_qubits`: the questions
-// that the two share would need a definition of their own.
+// A gate on its qubits, at the width n; the second is not looked at for gates 0 to 23. Not one function with `on_qubits`, which asks no
+// width and writes the gate's own: of an Option of a width the questions and the width that is written would each have to ask.
 #[tactic(auto, using(pauli::proofs::Asking::by_questions, crate::proofs::GateAsking::width_answers), unfolding(crate::specs::GateQuestions::on_width_answer, crate::specs::GateQuestions::on_width_questions))]
 pub fn on_width(n: usize, gate: u8, q0: usize, q1: usize, dst: &mut [u8]) -> Result<(), Refusal>
     ensures { WidthGateWritten n gate q0 q1 dst.old dst.new result }

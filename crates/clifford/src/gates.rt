@@ -48,7 +48,7 @@ const IMAGES_1Q: [[u8; 4]; 24] = [
 ];
 
 // Gates 24 to 37: the sign and the two letters of the images of X on the first and on the second qubit, then of Z, in one entry, as in
-// the table before.
+// the table before, whose form the scope document fixes.
 const IMAGES_2Q: [[u8; 12]; 14] = [
     [0, 1, 1, 0, 0, 1, 0, 2, 0, 0, 2, 2], // 24: CX
     [0, 1, 3, 0, 2, 1, 0, 2, 0, 0, 2, 2], // 25: CY
@@ -192,7 +192,7 @@ pub(crate) fn first_gate(images: [u8; 4]) -> Option<u8>
     }
 }
 
-// The gate that a product of H and SZ is.
+// The gate that a product of H and SZ is. By number, as the inverse below: an index of products is no gate, and what is answered is told.
 #[tactic(auto, unfolding(clifford_gates::specs::GateNumbers::product_gates))]
 pub(crate) fn product_number(index: usize) -> usize
     requires { index < 24 }

@@ -1,4 +1,4 @@
-// Tableau records: where their rows are, and how one row is read and written. Only here does code know the bytes of a row.
+// Tableau records: where their rows are, and how one row is read and written. Only here does the library's code know the bytes of a row.
 ghost use Rattle.std.specs.Prelude.{◌≡◌, ◌↔◌, ◌+◌, ◌*◌, ◌<◌, ◌≤◌, IsTrue, min, length, slice_index};
 ghost use Rattle.pauli.specs.Layout.{phase_byte, letter_byte};
 ghost use Rattle.clifford.specs.Playing.{letter_table_on_row, pair_table_on_row};
@@ -164,7 +164,7 @@ impl RowPlace {
     }
 }
 
-// The letter of row r at qubit q.
+// The letter of row r at qubit q. No `Row` or `Qubit`: of each the one number would be taken out again.
 #[tactic(auto, using(crate::proofs::RowAccess::letter_reads))]
 pub(crate) fn letter_in_row(t: &TableauRecord, r: usize, q: usize) -> u8
     requires row { r < 2 * width_of t.now.bytes.now }

@@ -1,5 +1,6 @@
 // What each gate does to a row, by tables. A constant is laid out on the stack wherever it is named, so a run takes the tables once and
-// lends them to each gate.
+// lends them to each gate. A gate's table is in parts and not by entries: in a line the signs, or the letters, are read off against the
+// letters that they belong to.
 ghost use Rattle.std.specs.Prelude.{◌≡◌};
 ghost use Rattle.clifford.specs.Playing.{letter_tables, pair_tables};
 
@@ -141,7 +142,8 @@ pub fn letter_tables() -> [[[u8; 4]; 2]; 24]
     LETTERS
 }
 
-// The tables of gates 24 to 37, in the same way.
+// The tables of gates 24 to 37, in the same way. Not one function with the other: the tables have other sizes, and a gate on one qubit
+// leaves the weight.
 pub fn pair_tables() -> [[[u8; 16]; 4]; 14]
     ensures { result ≡ pair_tables }
 {

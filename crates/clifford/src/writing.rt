@@ -30,7 +30,8 @@ pub(crate) trait RowMaker {
     fn width(&self) -> usize
         ensures { result ≡ wide self.now };
 
-    // One row of it, as a work row; source is room for one row more on the way there.
+    // One row of it, as a work row; source is room for one row more on the way there. No struct holds the two: each maker lends one of them
+    // as what is read, and the other as what is written.
     fn make_row(&self, row: RowPlace, source: &mut [u8], work: &mut [u8])
         requires { MakesRow (wide self.now) row.width source.old work.old }
         ensures { work.new ≡ encode_string (wide self.now) (row_of (made self.now) row.r) };

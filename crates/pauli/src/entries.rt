@@ -171,8 +171,8 @@ impl Marks {
         requires { length row.old ≡ 128 }
         ensures { row.new ≡ letters_marked 128 self.now.0 }
     {
-        // By place: of what is written through a zip of `iter_mut` a proof knows the length alone, and by `map` 20 entries take 749 ns, where
-        // the Rust takes 166.
+        // By place: of what is written through a zip of `iter_mut` a proof knows the length alone, and by `map` 20 entries take 749 ns,
+        // where the Rust takes 166.
         for (q, letter) in row.iter_mut().enumerate() {
             *letter = self.0[q].letter();
         }
