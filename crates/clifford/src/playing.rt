@@ -42,7 +42,7 @@ fn play_letters(tables: &[[[u8; 4]; 2]; 24], gate: OneQubitGate, q: usize, t: &m
     }
 }
 
-// A two-qubit gate on each row, by its table.
+// A two-qubit gate on each row, by its table. No `PlacedGate`: of one it would have to be asked again whether its gate has two qubits.
 #[tactic(auto, using(crate::proofs::Play::plays))]
 fn play_pairs(tables: &[[[u8; 16]; 4]; 14], gate: TwoQubitGate, q: usize, r: usize, t: &mut [u8])
     requires { PlaysPairs q r t.old }

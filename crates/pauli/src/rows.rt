@@ -1,5 +1,5 @@
 // Kernels on rows of letter bytes. They stop at the shortest row and read a byte above 3 as 3, so they ask nothing of a caller. A letter
-// is a byte and no type: rows are lent, and a row of a type would have to be a copy.
+// is a byte and no type, and a qubit a place in a row: rows are lent, and a row of a type would have to be a copy.
 #![tactic(auto, using(crate::proofs::Turns::places))]
 
 ghost use Rattle.std.specs.Prelude.{◌≡◌, ◌%◌, ◌<◌, ◌≤◌, length};
