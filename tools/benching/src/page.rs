@@ -166,10 +166,10 @@ others. Tableaux are valid, of random gates; how many of their letters are not I
 gates and qubits are random; in the Rust each step composes the gate's tableau with the record. A gate played by itself (`play`) is
 CX on a full tableau, which the library reads through for its questions. Of two strings the Rust says whether they commute
 (`commutes_with`), the other two at how many places they do not. Of a product this library also tells the places that it took.
-Entries and the tokens of a sparse text name distinct qubits in any order; the Rust sorts them, and is handed a copy of a list of its
-own where a text is not read. Plain C looks for no duplicate. A
-preview (`composed_x_image`) is one row of what the `compose` above it gives, without the others; the Rust has none, so it composes
-and hands out the image. Its goal is held against this library's `compose` of the same tableaux, in the same run.
+Entries and the tokens of a sparse text name distinct qubits in any order; the Rust sorts them, and is handed a copy of a list of
+its own where a text is not read. Plain C looks for no duplicate. A preview (`composed_x_image`) is one row of what the `compose`
+above it gives, without the others; the Rust has none, so it composes and hands out the image. Its goal is held against this
+library's `compose` of the same tableaux, in the same run.
 
 The Rust's time goes by the letters that are not I, this library's much less: on sparse tableaux the ratio is smaller, and the goals
 are those of full ones.
