@@ -77,8 +77,8 @@ fn replay_lines<'t, I: Iterator<Item = &'t [u8]>, F: FnMut(&mut Case<'_, '_>) ->
     tally
 }
 
-// Replays what standard input says, with room for it. An input that fills the room may be cut
-// short: that is a mismatch.
+// Replays what standard input says, with room for it, read by the kit's `io` as the output is written. An input that fills the room may
+// be cut short: that is a mismatch.
 fn replay_in<F: FnMut(&mut Case<'_, '_>) -> Option<Reply>>(room: &mut [u8], call: &mut F) -> Tally
     requires { F.IsAlwaysCallable call.old }
     ensures { InputReplayed (Matches F.step) call.old call.new result }
