@@ -40,7 +40,7 @@ fn sentence(number: u64) -> &'static [u8]
     }
 }
 
-// Whether the detail of a number has a meaning.
+// Whether the detail of a number has a meaning. By numbers, as `sentence`: any number has a line.
 #[tactic(auto, using(std::proofs::lemmas::Bool::Decides::nat_tests), unfolding(refusal_wording::specs::RefusalLines::has_detail))]
 fn has_detail(number: u64) -> bool
     ensures { result ≡ has_detail number }
@@ -48,7 +48,7 @@ fn has_detail(number: u64) -> bool
     matches!(number, 3..=6 | 8..=15 | 17..=19 | 24)
 }
 
-// Whether a number has the wording of `PauliWidthError`.
+// Whether a number has the wording of `PauliWidthError`; any number is asked.
 fn is_width_error(number: u64) -> bool
     ensures { result ≡ is_width_error number }
 {
