@@ -1,6 +1,7 @@
 -- Tableaux applied to strings: what the loop over the letters has made before a qubit.
 use Rattle.std.proofs.Common.{◌≡◌, ℕ, zero, suc, ◌+◌, ◌-◌, ◌<◌, ◌≤◌, List, length, get_or, sym, refl, ap, ◌∙◌, subst, ap₂, add-one, arith, rules}
 use native.Mathlib.Decide.{ℕ_discrete}
+use Rattle.pauli_group.specs.Letter.{I}
 use Rattle.pauli_group.specs.PauliString.{PauliString, qubits, mul, scale, identity_string, Within}
 use Rattle.pauli_group.proofs.Strings.{mul-identity, identity-mul, within-scale, within-identity, scale_one}
 use Rattle.clifford_group.specs.Tableau.{Tableau, image_of, apply_to, apply}
@@ -103,6 +104,17 @@ applied-step {b} {s} {d} {q} {e} {f} formed m l k =
   where
     step : (t : Tableau) (q : ℕ) → mul (apply_to q t (string_in s)) (image_of t q ((string_in s).letters q)) ≡ apply_to (suc q) t (string_in s)
     step t q = unfold apply_to in refl
+
+-- I on qubit q is sent to I
+pub applied-same : {b s d : List ℕ} {q : ℕ} {e : List ℕ} → AppliedTo b s d q e → q < length (from 1 s) → get_or (from 1 s) q 0 ≡ 0 → AppliedTo b s d (q + 1) e
+unfolding letter_of
+applied-same {b} {s} {d} {q} m l z =
+    let h : q < length s - 1 = omega (arith, length_from 1 s) in
+    let none : (string_in s).letters q ≡ I = sym (ap letter_of (from_at s q) ∙ sym (decode_letter (letters_in s) s q h)) ∙ ap letter_of z in
+    record { fits = m.fits; within = omega arith; long = m.long; row = m.row; is = m.is ∙ sym (same (tableau_of b) none) ∙ ap (λ (j : ℕ). apply_to j (tableau_of b) (string_in s)) (sym (add-one q)) }
+  where
+    same : (t : Tableau) → (string_in s).letters q ≡ I → apply_to (suc q) t (string_in s) ≡ apply_to q t (string_in s)
+    same t e = unfold apply_to in (ap (λ x. mul (apply_to q t (string_in s)) (image_of t q x)) e ∙ ap (mul (apply_to q t (string_in s))) (image_I t q) ∙ mul-identity (apply_to q t (string_in s)))
 
 -- letters at k and above are I, and change nothing
 apply_to-cut : (t : Tableau) (s : PauliString) (k n : ℕ) → k ≤ n → Within k s → apply_to n t s ≡ apply_to k t s

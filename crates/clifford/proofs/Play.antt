@@ -353,6 +353,10 @@ module _ (g q r : ℕ) (t : List ℕ) {b : Bool} (e : b ≡ playable g q r t) wh
         let low : g < 24 = omega (arith, own, x.small) in
         made (k ∙ ap (λ (j : ℕ). each_row (letter_table_on_row (get_or ones j []) q) t) own ∙ ap (λ f. each_row f t) (sym (by_letters ones twos g q r low)))
 
+    pub letters_own : {G : Gate} {x : OneQubitGate} {ones : List (List (List ℕ))} {d : List ℕ} → gate_number G ≡ g → G ≡ One x → ones ≡ letter_tables
+        → d ≡ each_row (letter_table_on_row (get_or ones x.number []) q) t → GatePlayed g q r t d true
+    letters_own n e o k = gate-played o refl (letters_by {twos = pair_tables} n e k)
+
     module _ {G : Gate} {x : TwoQubitGate} (n : gate_number G ≡ g) (is : G ≡ Two x) where
       high : 24 ≤ g
       high = omega (arith, two_number n is, x.from)
@@ -365,6 +369,10 @@ module _ (g q r : ℕ) (t : List ℕ) {b : Bool} (e : b ≡ playable g q r t) wh
       pairs_by {ones} {twos} k =
           made (k ∙ ap (λ (j : ℕ). each_row (pair_table_on_row (get_or twos (j - 24) []) q r) t) (two_number n is) ∙ ap (λ f. each_row f t) (sym (by_pairs ones twos g q r high)))
 
+      pub pairs_own : {twos : List (List (List ℕ))} {d : List ℕ} → twos ≡ pair_tables
+          → d ≡ each_row (pair_table_on_row (get_or twos (x.number - 24) []) q r) t → GatePlayed g q r t d true
+      pairs_own o k = gate-played refl o (pairs_by {ones = letter_tables} k)
+
   module _ (h : not b ≡ true) where
     is_false : false ≡ playable g q r t
     is_false = sym (not-true b h) ∙ e
@@ -372,5 +380,10 @@ module _ (g q r : ℕ) (t : List ℕ) {b : Bool} (e : b ≡ playable g q r t) wh
     pub stays_by : {ones twos : List (List (List ℕ))} → PlayedBy ones twos g q r t t false
     unfolding played_by
     stays_by {ones} {twos} = record { flag = is_false; bytes = ap (λ c. cond c (each_row (table_on_row ones twos g q r) t) t) is_false }
+
+    pub stays_own : GatePlayed g q r t t false
+    stays_own = gate-played refl refl (stays_by {ones = letter_tables} {twos = pair_tables})
+
+pub ruleset own_playing = (plays_gate, plays-letters, letters_own, plays-pairs, pairs_own, stays_own, rules)
 
 pub ruleset playing = (plays_gate, plays-letters, letters_by, plays-pairs, pairs_by, stays_by, rules)

@@ -7,8 +7,8 @@ use borrow.Author.Tests.{lt-leb}
 use Rattle.pauli_group.specs.PauliString.{qubits, mul, identity_string, weight_to}
 use Rattle.clifford_group.specs.Conjugation.{Generator, of_x, of_z, row}
 use Rattle.pauli.specs.Layout.{phase_byte, phase_of, letter_byte, encode_string}
-use Rattle.pauli.specs.Rows.{phase_bytes_product, RowTimes, letter_count, largest_to, Scanned}
-use Rattle.pauli.proofs.Places.{length-listed, get_d_listed, from, from_is, none_bad}
+use Rattle.pauli.specs.Rows.{phase_bytes_product, RowTimes, letter_count, largest_to, Scanned, shorter, copied}
+use Rattle.pauli.proofs.Places.{length-listed, get_d_listed, from, from_is, length_from, none_bad}
 use Rattle.pauli.proofs.StringProducts.{row-product, row_product-is}
 use Rattle.clifford.specs.Layout.{letter_place, row_length, letters_of, decode_row, row_offset, record_length, longest_record, row_of, width_of, row_part, tableau_of, read_row, generator_row, letter_in, row_with, row_with_pair, FormedTableau}
 use Rattle.pauli.specs.Places.{listed}
@@ -275,8 +275,18 @@ pub finished_letters : {d out : List ℕ} (x n : ℕ) → Finished d out → len
 unfolding row_length letter_place
 finished_letters {d} {out} x n f = omega (arith, f.room, length-set (set out 0 x) 1 n, length-set out 0 x)
 
+-- letters copied over as many
+pub copied_whole : (a b : List ℕ) → length a ≡ length b → copied a b ≡ a
+unfolding copied
+copied_whole a b h =
+    let short : shorter a b ≡ length a = omega arith in
+    ap (λ (j : ℕ). take j a ++ drop j b) short
+    ∙ ap₂ (λ (x y : List ℕ). x ++ y) (take_all (length a) a (omega arith)) (drop_of_length-le b (omega arith))
+    ∙ append-nil a
+
 -- a row with its phase and weight written, and its letters copied
-pub row_written_lem : (d out : List ℕ) {n : ℕ} {ys : List ℕ} → Finished d out → n ≡ letter_count (from 1 d) % 256 → ys ≡ from 1 d
+pub row_written_lem : (d out : List ℕ) {n : ℕ} {ys : List ℕ} → Finished d out → n ≡ letter_count (from 1 d) % 256
+    → ys ≡ copied (from 1 d) (take (length d + 1 - 2) (drop 2 (set (set out 0 (get_or d 0 0)) 1 n)))
     → put_mid 2 (length d + 1 - 2) (set (set out 0 (get_or d 0 0)) 1 n) ys ≡ row_written (letters_in d) (string_in d) out
 unfolding row_written row_length letter_place
 row_written_lem d [] f c h = absurd (not-suc-le-zero f.room)
@@ -284,7 +294,9 @@ row_written_lem d (y ∷ []) f c h = absurd (omega (arith, f.room))
 row_written_lem d (y ∷ z ∷ out) {n} {ys} f c h =
     let x : ℕ = get_or d 0 0 in
     let size : length d + 1 - 2 ≡ letters_in d = omega arith in
-    ap₂ (λ (l : List ℕ) (j : ℕ). x ∷ n ∷ (l ++ drop j out)) (h ∙ from_is 1 d) size
+    let room : letters_in d ≤ length out = omega (arith, f.room) in
+    let same : length (from 1 d) ≡ length (take (length d + 1 - 2) out) = omega (arith, length_from 1 d, length-take (length d + 1 - 2) out, room) in
+    ap₂ (λ (l : List ℕ) (j : ℕ). x ∷ n ∷ (l ++ drop j out)) (h ∙ copied_whole (from 1 d) (take (length d + 1 - 2) out) same ∙ from_is 1 d) size
     ∙ ap (λ (l : List ℕ). l ++ drop (letters_in d) out) (sym (row_of-work f.row (omega (arith, f.narrow)) (c ∙ ap (λ (l : List ℕ). letter_count l % 256) (from_is 1 d))))
 
 pub ruleset row_access = (own-some, own-more, finished_next, finished_room, record_sized, offset_sized, part_end, part_is, times-row, finished_letters, row_written_lem, rules)

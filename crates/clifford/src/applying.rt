@@ -86,6 +86,10 @@ pub(crate) fn apply_string(t: &TableauRecord, s: &[u8], work: &mut [u8])
 {
     clear_row(work, s[0]);
     for (q, letter) in s[1..].iter().enumerate() {
+        // I is sent to I: of most strings most letters are.
+        if *letter == 0 {
+            continue;
+        }
         multiply_image(work, t, q, *letter);
     }
 }

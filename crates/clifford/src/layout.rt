@@ -9,7 +9,7 @@ ghost use Rattle.clifford.specs.Inside.Rows.{Sized, RowIndex, RowInside, RowAt, 
 use crate::tableau::{Row, TableauRecord};
 use pauli::QUBITS;
 use pauli::refusal::Refusal;
-use pauli::rows::{count_letters, first_bad, multiply_letters, phase_times, scan_letters};
+use pauli::rows::{copy, count_letters, first_bad, multiply_letters, phase_times, scan_letters};
 
 // The width of a record; no bytes are read as width 0.
 pub fn width(t: &[u8]) -> usize
@@ -123,7 +123,7 @@ pub(crate) fn write_row(work: &[u8], dst: &mut [u8])
 {
     dst[0] = work[0];
     dst[1] = count_letters(&work[1..]);
-    dst[2..work.len() + 1].copy_from_slice(&work[1..]);
+    copy(&work[1..], &mut dst[2..work.len() + 1]);
 }
 
 // The place of row r in a record of this width: X rows come first.

@@ -71,10 +71,10 @@ module _ {E : Type 0} {d e : List ℕ} {x : Result ℕ E} {n : ℕ} (i : InputRe
   pub read_within : n ≤ length e
   read_within = IfOk-at_ok _ h i.count
 
-  pub read_owed : {t f : List ℕ} {k : ℕ} → Buffers d t → ReportWritten (take n e) t f k → Owed input_most (take n e) (take k f)
+  pub read_owed : {t f : List ℕ} {k : ℕ} → Buffers d t → ReportWritten (take n e) t f k → Owed (length e) (take n e) (take k f)
   read_owed o w = record {
     report = w.text;
-    whole = λ l p. w.text ∙ ap report_text p ∙ report_read l;
+    whole = λ l p. w.text ∙ ap report_text p ∙ ap (λ (m : ℕ). report_text (take m l)) (i.long ∙ o.long) ∙ report_read l;
   }
 
 pub written_within : {l d e : List ℕ} {k : ℕ} → ReportWritten l d e k → k ≤ length e

@@ -2,7 +2,7 @@
 // written: what is handed to `write` is said by the contracts of the functions on slices.
 #![tactic(auto)]
 
-ghost use Rattle.clifford_run.specs.Program.{input_most};
+ghost use Rattle.std.specs.Prelude.{length, take};
 ghost use Rattle.clifford_run.specs.Inside.Program.{Buffers, InputRead, ReportRoom, ReportWritten, Owed};
 
 use gate_list::gate_list::report;
@@ -39,9 +39,16 @@ fn make_report(list: &[u8], text: &mut [u8]) -> usize
     report(list, text).unwrap_or(0)
 }
 
-// Writes the text that is owed to what was read. Where that fails and the error cannot be written either, nobody can be told.
-fn write_report<W: Write, E: Write>(output: &mut W, errors: &mut E, read: &[u8], text: &[u8])
-    requires { Owed input_most read.now text.now }
+// Writes the text that is owed to the first n bytes of the input. Where that fails and the error cannot be written either, nobody can
+// be told. The buffer is handed on whole, since what is owed goes by its length.
+fn write_report<W: Write, E: Write>(
+    output: &mut W,
+    errors: &mut E,
+    input: &[u8],
+    n: usize,
+    text: &[u8],
+)
+    requires { Owed (length input.now) (take n input.now) text.now }
 {
     if output.write_all(text).is_err() {
         let _ = errors.write_all(b"clifford_run: standard output cannot be written\n");
@@ -62,9 +69,8 @@ fn answer_input<R: Read, W: Write, E: Write>(
         let _ = errors.write_all(b"clifford_run: standard input cannot be read\n");
         return;
     };
-    let read = &input[..n];
-    let length = make_report(read, text);
-    write_report(output, errors, read, &text[..length]);
+    let length = make_report(&input[..n], text);
+    write_report(output, errors, input, n, &text[..length]);
 }
 
 fn main(rt: HostRuntime) {

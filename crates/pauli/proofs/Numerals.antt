@@ -1,76 +1,110 @@
--- An index in text, as std's `parse` reads it.
-use Rattle.std.proofs.Common.{◌≡◌, ℕ, ◌^◌, ◌<◌, Bool, true, false, cond, Some, None, Result, Ok, Err, ◌&&◌, ltb, List, [], ◌∷◌, length, sym, refl, ap, ◌∙◌, zero, suc, arith, rules, ltb-true, lt-ltb, eq-eqb, ne_eqb}
-use Rattle.std.specs.Result.{OkIff, result_ok}
-use Rattle.std.specs.Str.{IsAscii, IsUtf8}
-use Rattle.std.specs.Str.Parse.{ParsesUnsigned}
-use Rattle.std.proofs.lemmas.Fmt.{IsAscii-from_digits}
-use Rattle.std.proofs.lemmas.Str.{IsUtf8-from_ascii}
-use Rattle.std.proofs.lemmas.Str.Parse.{IsNumeralModel, numerals_by_fold, parse_plain, parse_plus}
-use native.Mathlib.Decide.{ℕ_discrete}
-use Rattle.pauli.specs.Inside.Reading.{numeral_if, index_numeral}
+-- Numerals in text: digits, their value, and an index.
+use Rattle.std.proofs.Common.{◌≡◌, ℕ, ◌+◌, ◌-◌, ◌*◌, ◌/◌, ◌^◌, ◌<◌, ◌≤◌, Bool, true, false, cond, Option, Some, None, not, ◌&&◌, ltb, List, [], ◌∷◌, length, get_or, drop, sym, refl, ap, ◌∙◌, ap₂, add-one, arith, drop_of_length-le, drop-cons, rules, le-ltb, lt-ltb, eq-eqb, ne_eqb}
+use Rattle.pauli.specs.Inside.Reading.{numeral_if, are_digits, digits_numeral, index_numeral}
 use Rattle.pauli.specs.Text.{is_digit, all_digits, digits_value, without_plus, index_value, is_index}
+use Rattle.pauli.proofs.Places.{from, from_is}
 
-own : IsNumeralModel (λ ds. all_digits ds ≡ true) (digits_value 0)
-unfolding all_digits is_digit digits_value
-own = numerals_by_fold _ (search rules) digits_value (search rules)
+-- ---- the value grows with each digit
+value_grows : (v : ℕ) (cs : List ℕ) → v ≤ digits_value v cs
+unfolding digits_value
+value_grows v [] = omega arith
+value_grows v (c ∷ cs) = omega (arith, value_grows (10 * v + (c - 48)) cs)
 
--- ---- what is read, after the optional plus
-abbrev fits : List ℕ → Bool
-fits ds = (ltb 0 (length ds) && all_digits ds) && ltb (digits_value 0 ds) (2 ^ 64)
+-- ---- the digits before place i
+pub record Digits (ds : List ℕ) (i v : ℕ) : Type 0 where
+  pub within : i ≤ length ds
+  pub digits : all_digits ds ≡ all_digits (drop i ds)
+  pub value : digits_value 0 ds ≡ digits_value v (drop i ds)
+  pub small : v < 2 ^ 64
 
-not_all : (a b c : Bool) → (a ≡ true → b ≡ true → c ≡ true → ⊥) → ((a && b) && c) ≡ false
-not_all true true true h = absurd (h refl refl refl)
-not_all true true false h = refl
-not_all true false c h = refl
-not_all false b c h = refl
+pub digits-none : (ds : List ℕ) → Digits ds 0 0
+digits-none ds = record { within = omega arith; digits = refl; value = refl; small = omega arith }
 
-numeral_read : {E : Type 0} (ds : List ℕ) (r : Result ℕ E)
-    → OkIff r ((all_digits ds ≡ true) × (0 < length ds) × (digits_value 0 ds < 2 ^ 64)) (digits_value 0 ds)
-    → result_ok r ≡ numeral_if (fits ds) (digits_value 0 ds)
-numeral_read ds (Ok x) h =
-    let some : 0 < length ds = omega (arith, h) in
-    let small : digits_value 0 ds < 2 ^ 64 = omega (arith, h) in
-    ap (λ (v : ℕ). Some v) h.1
-    ∙ sym (λ i. numeral_if ((lt-ltb 0 (length ds) some i && h.0.0 i) && lt-ltb (digits_value 0 ds) (2 ^ 64) small i) (digits_value 0 ds))
-numeral_read ds (Err e) h =
-    sym (ap (λ b. numeral_if b (digits_value 0 ds)) (not_all _ _ _ (λ a b c. h (b, ltb-true 0 (length ds) a, ltb-true (digits_value 0 ds) (2 ^ 64) c))))
+digits_here : (ds : List ℕ) (i : ℕ) → i < length ds → all_digits (drop i ds) ≡ (is_digit (get_or ds i 0) && all_digits (drop (i + 1) ds))
+unfolding all_digits
+digits_here ds i h = rw (drop-cons ds i 0 h, add-one i)
 
-pub index_parsed : {E : Type 0} (bs : List ℕ) (r : Result ℕ E) → ParsesUnsigned 64 10 bs r → result_ok r ≡ index_numeral bs
-unfolding index_numeral is_index index_value without_plus
-index_parsed [] r h = numeral_read [] r (parse_plain own 64 [] r h (λ z. omega arith))
-index_parsed (c ∷ cs) r h = elim (ℕ_discrete c 43) [
-  | yes e ↦ numeral_read cs r (parse_plus own 64 (c ∷ cs) r h e) ∙ sym (ap (λ b. numeral_if (fits (cond b cs (c ∷ cs))) (digits_value 0 (cond b cs (c ∷ cs)))) (eq-eqb c 43 e))
-  | no d ↦ numeral_read (c ∷ cs) r (parse_plain own 64 (c ∷ cs) r h d) ∙ sym (ap (λ b. numeral_if (fits (cond b cs (c ∷ cs))) (digits_value 0 (cond b cs (c ∷ cs)))) (ne_eqb c 43 d))
-]
+value_here : (ds : List ℕ) (i v : ℕ) → i < length ds → digits_value v (drop i ds) ≡ digits_value (10 * v + (get_or ds i 0 - 48)) (drop (i + 1) ds)
+unfolding digits_value
+value_here ds i v h = rw (drop-cons ds i 0 h, add-one i)
 
--- ---- an index is text
-ascii_digits : (ds : List ℕ) → all_digits ds ≡ true → IsAscii ds
-ascii_digits ds h = IsAscii-from_digits ds (own.to ds h)
+none_if : {b : Bool} (v : ℕ) → b ≡ false → None ≡ numeral_if b v
+none_if v e = sym (ap (λ x. numeral_if x v) e)
 
-ascii_more : (c : ℕ) (cs : List ℕ) → c < 128 → IsAscii cs → IsAscii (c ∷ cs)
-ascii_more c cs h a zero = h
-ascii_more c cs h a (suc i) = a i
+&&-false : (a b c : Bool) → b ≡ false → ((a && b) && c) ≡ false
+&&-false true b c e = ap (λ x. x && c) e
+&&-false false b c e = refl
 
-all_digits_of : (a b c : Bool) → ((a && b) && c) ≡ true → b ≡ true
-all_digits_of true true c e = refl
-all_digits_of true false c e = e
-all_digits_of false b c e = cc
+last_false : (a c : Bool) → c ≡ false → (a && c) ≡ false
+last_false true c e = e
+last_false false c e = refl
 
-index_text : (bs : List ℕ) → is_index bs ≡ true → IsUtf8 bs
-unfolding is_index without_plus
-index_text [] e = IsUtf8-from_ascii [] (λ i. omega arith)
-index_text (c ∷ cs) e = elim (ℕ_discrete c 43) [
-  | yes p ↦ IsUtf8-from_ascii (c ∷ cs) (ascii_more c cs (omega arith) (ascii_digits cs (all_digits_of _ _ _ (sym (ap (λ b. test (cond b cs (c ∷ cs))) (eq-eqb c 43 p)) ∙ e))))
-  | no d ↦ IsUtf8-from_ascii (c ∷ cs) (ascii_digits (c ∷ cs) (all_digits_of _ _ _ (sym (ap (λ b. test (cond b cs (c ∷ cs))) (ne_eqb c 43 d)) ∙ e)))
-]
+pub digits_empty : (ds : List ℕ) → length ds ≡ 0 → None ≡ digits_numeral ds
+unfolding digits_numeral are_digits
+digits_empty ds h = none_if (digits_value 0 ds) (ap (λ (n : ℕ). (ltb 0 n && all_digits ds) && ltb (digits_value 0 ds) (2 ^ 64)) h)
+
+pub digits-other : (ds : List ℕ) {i v : ℕ} → Digits ds i v → i < length ds → is_digit (get_or ds i 0) ≡ false → None ≡ digits_numeral ds
+unfolding digits_numeral are_digits
+digits-other ds {i} {v} m h e =
+    none_if (digits_value 0 ds) (&&-false (ltb 0 (length ds)) (all_digits ds) _ (m.digits ∙ digits_here ds i h ∙ ap (λ x. x && all_digits (drop (i + 1) ds)) e))
+
+pub digits_over : (ds : List ℕ) {i v : ℕ} → Digits ds i v → i < length ds → 2 ^ 64 ≤ v * 10 + (get_or ds i 0 - 48) → None ≡ digits_numeral ds
+unfolding digits_numeral are_digits
+digits_over ds {i} {v} m h o =
+    none_if (digits_value 0 ds) (last_false (ltb 0 (length ds) && all_digits ds) (ltb (digits_value 0 ds) (2 ^ 64)) (le-ltb (digits_value 0 ds) (2 ^ 64) large))
   where
-    test : List ℕ → Bool
-    test ds = (ltb 0 (length ds) && all_digits ds) && ltb (index_value (c ∷ cs)) (2 ^ 64)
+    large : 2 ^ 64 ≤ digits_value 0 ds
+    large = omega (arith, m.value, value_here ds i v h, value_grows (10 * v + (get_or ds i 0 - 48)) (drop (i + 1) ds))
 
-pub index_no_text : (bs : List ℕ) → (IsUtf8 bs → ⊥) → None ≡ index_numeral bs
-unfolding index_numeral
-index_no_text bs h = go (is_index bs) refl
+pub digits_step : (ds : List ℕ) {i v w : ℕ} → Digits ds i v → i < length ds → is_digit (get_or ds i 0) ≡ true → w ≡ v * 10 + (get_or ds i 0 - 48) → w < 2 ^ 64
+    → Digits ds (i + 1) w
+digits_step ds {i} {v} {w} m h e is o = record {
+  within = omega arith;
+  digits = m.digits ∙ digits_here ds i h ∙ ap (λ x. x && all_digits (drop (i + 1) ds)) e;
+  value = m.value ∙ value_here ds i v h ∙ ap (λ (x : ℕ). digits_value x (drop (i + 1) ds)) same;
+  small = o;
+}
   where
-    go : (b : Bool) → is_index bs ≡ b → None ≡ numeral_if b (index_value bs)
-    go true e = absurd (h (index_text bs e))
-    go false e = refl
+    same : 10 * v + (get_or ds i 0 - 48) ≡ w
+    same = omega arith
+
+pub digits_all : (ds : List ℕ) {i v : ℕ} → (length ds ≡ 0 → ⊥) → Digits ds i v → length ds ≤ i → Some v ≡ digits_numeral ds
+unfolding digits_numeral are_digits all_digits digits_value
+digits_all ds {i} {v} n m h =
+    sym (ap₂ numeral_if (λ j. (lt-ltb 0 (length ds) (omega arith) j && digits j) && (ap (λ (x : ℕ). ltb x (2 ^ 64)) value ∙ lt-ltb v (2 ^ 64) m.small) j) value)
+  where
+    empty : drop i ds ≡ []
+    empty = drop_of_length-le ds h
+
+    digits : all_digits ds ≡ true
+    digits = m.digits ∙ ap all_digits empty
+
+    value : digits_value 0 ds ≡ v
+    value = m.value ∙ ap (digits_value v) empty
+
+pub ruleset numerals = (digits-none, digits_empty, digits-other, digits_over, digits_step, digits_all, rules)
+
+-- ---- an index: an optional plus
+plus_index : (bs : List ℕ) → get_or bs 0 0 ≡ 43 → digits_numeral (drop 1 bs) ≡ index_numeral bs
+unfolding digits_numeral are_digits index_numeral is_index index_value without_plus
+plus_index [] h = absurd (omega arith)
+plus_index (c ∷ cs) h = sym (ap (λ b. with_bytes (cond b cs (c ∷ cs))) (eq-eqb c 43 h))
+  where
+    with_bytes : List ℕ → Option ℕ
+    with_bytes ds = numeral_if ((ltb 0 (length ds) && all_digits ds) && ltb (digits_value 0 ds) (2 ^ 64)) (digits_value 0 ds)
+
+bare_index : (bs : List ℕ) → (get_or bs 0 0 ≡ 43 → ⊥) → digits_numeral bs ≡ index_numeral bs
+unfolding digits_numeral are_digits index_numeral is_index index_value without_plus
+bare_index [] h = refl
+bare_index (c ∷ cs) h = sym (ap (λ b. with_bytes (cond b cs (c ∷ cs))) (ne_eqb c 43 h))
+  where
+    with_bytes : List ℕ → Option ℕ
+    with_bytes ds = numeral_if ((ltb 0 (length ds) && all_digits ds) && ltb (digits_value 0 ds) (2 ^ 64)) (digits_value 0 ds)
+
+pub index_plus : (bs : List ℕ) {r : Option ℕ} → get_or bs 0 0 ≡ 43 → r ≡ digits_numeral (from 1 bs) → r ≡ index_numeral bs
+index_plus bs h er = er ∙ ap digits_numeral (from_is 1 bs) ∙ plus_index bs h
+
+pub index_bare : (bs : List ℕ) {r : Option ℕ} → (get_or bs 0 0 ≡ 43 → ⊥) → r ≡ digits_numeral bs → r ≡ index_numeral bs
+index_bare bs h er = er ∙ bare_index bs h
+
+pub ruleset indexes = (index_plus, index_bare, rules)

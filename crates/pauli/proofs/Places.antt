@@ -1,5 +1,5 @@
 -- Laws of lists by place, of the first place that has a property, and of a destination that is filled from its front.
-use Rattle.std.proofs.Common.{◌≡◌, ℕ, zero, suc, not, inl, inr, ◌⊎◌, Option, Some, None, ◌+◌, ◌-◌, ◌<◌, ◌≤◌, min, Bool, Bor, Iter, true, false, cond, ltb, List, [], ◌∷◌, ◌++◌, length, get_or, take, drop, set, sym, refl, ap, ◌∙◌, subst, ap₂, le_refl, le_of_suc-le-suc, not-suc-le-zero, add-one, arith, length-append, length-drop, length-take, get_or-drop, take_all, ext_get_or, le-ltb, lt-ltb}
+use Rattle.std.proofs.Common.{◌≡◌, ℕ, zero, suc, not, inl, inr, ◌⊎◌, Option, Some, None, ◌+◌, ◌-◌, ◌<◌, ◌≤◌, min, Bool, Bor, Iter, true, false, cond, ltb, List, [], ◌∷◌, ◌++◌, length, get_or, take, drop, set, sym, refl, ap, ◌∙◌, subst, ap₂, le_refl, le_of_suc-le-suc, not-suc-le-zero, add-one, arith, length-append, length-drop, length-take, get_or-drop, take_all, ext_get_or, le-ltb, lt-ltb, rules}
 use Rattle.std.specs.List.{position, position_or_len}
 use Rattle.std.specs.Option.{unwrap_or, MatchOption, SomeIff}
 use Rattle.std.proofs.lemmas.Bool.{cases_lt}
@@ -316,6 +316,8 @@ filled_room m h = let room = m.room in omega (arith, filled_length m)
 
 pub filled_all : {s d : List ℕ} {n i : ℕ} {e : List ℕ} (k : ℕ) → n ≡ k → Filled s d n i e → n ≤ i → e ≡ take k s ++ drop k d
 filled_all {s} {d} {n} {i} k p m h = let within : i ≤ n = m.within in let e : i ≡ k = omega arith in m.out ∙ ap (fill s d) e
+
+pub ruleset fills = (filled_none, filled_step, filled_length, filled_room, filled_all, rules)
 
 -- ---- the part `&s[k..]`
 abbrev pub from : ℕ → List ℕ → List ℕ

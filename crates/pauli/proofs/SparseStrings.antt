@@ -1,16 +1,16 @@
 -- Strings from sparse text: the questions in their order, and the record that is written from the marks.
-use Rattle.std.proofs.Common.{◌≡◌, ℕ, ◌≤◌, List, ◌∷◌, ◌++◌, length, drop, sym, ap, ◌∙◌, arith, Ok, Err}
+use Rattle.std.proofs.Common.{◌≡◌, ℕ, ◌≤◌, List, ◌∷◌, ◌++◌, length, drop, sym, ap, ◌∙◌, arith, rules, Ok, Err}
 use Rattle.pauli.specs.declared.refusal.Refusal.{Refusal}
 use Rattle.pauli.specs.declared.text.Head.{Head}
 use Rattle.pauli.specs.declared.entries.Marks.{Marks}
-use Rattle.pauli.specs.Answers.{written, Written, Outcome}
+use Rattle.pauli.specs.Answers.{written, Written, Answer, Outcome}
 use Rattle.pauli.specs.Entries.{entry_count, entries_string}
 use Rattle.pauli.specs.Layout.{string_record}
 use Rattle.pauli.specs.Inside.Marks.{marks_to, marks_of, marks_question, letters_marked, RecordFits}
 use Rattle.pauli.specs.Questions.{◌and_then◌, duplicate_question, room_question}
 use Rattle.pauli.specs.Inside.Reading.{HeadRead, tokens_read}
 use Rattle.pauli.specs.Text.{Token, token_entries, text_phase, ascii_question, tokens, token_questions, sparse_tokens, sparse_entries, sparse_questions, sparse_string, from_sparse_questions, sparse_record}
-use Rattle.pauli.proofs.Answers.{answer-ok, answer-err, written-done}
+use Rattle.pauli.proofs.Answers.{answer-ok, answer-err, written-done, written-not}
 use Rattle.pauli.proofs.Asking.{first_done, first_not, and_then_assoc, done_first, done_second, room-is}
 use Rattle.pauli.proofs.EntryStrings.{marks_question_lem, marked_bytes, marked_fit}
 use Rattle.pauli.proofs.Records.{phase-small}
@@ -47,6 +47,13 @@ module _ {t : List ℕ} {h : Head} (head : HeadRead t h) where
         first_done ascii (first_done (sym (answer-ok _ read).0 ∙ ap token_questions tokens_are) (hq
         ∙ ap (λ q. q and_then room_question 129 room) (ap (λ (x : Marks). marks_question x.0) (sparse_marks read) ∙ marks_question_lem (sparse_entries t))))
         ∙ chain_is t room
+
+-- what the tokens are refused for is what the text is refused for
+pub sparse_refused : {t d : List ℕ} {h : Head} {r : Answer Marks} {x : Refusal} → HeadRead t h → Ok tt ≡ ascii_question t → r ≡ tokens_read (tokens h.at (drop h.at t)) → r ≡ Err x
+    → Written (from_sparse_questions t (length d)) (sparse_record t) d d (Err x)
+sparse_refused {t} {d} head ascii e k = written-not (sparse_record t) d (sparse_bad_token head ascii (length d) (sym k ∙ e))
+
+pub ruleset sparse_refusals = (sparse_refused, rules)
 
 -- ---- the record
 module _ {t : List ℕ} {m : Marks} {h : Head} (d : List ℕ) (head : HeadRead t h) (all : Ok tt ≡ from_sparse_questions t (length d)) (marks : m ≡ marks_of (sparse_entries t)) where

@@ -54,6 +54,7 @@ pub fn with_phase_and_paulis(phase: u8, entries: &[u8], dst: &mut [u8]) -> Resul
 }
 
 // The string that a sparse text names.
+#[tactic(auto, using(crate::proofs::SparseStrings::sparse_refusals))]
 pub fn from_sparse_str(t: &[u8], dst: &mut [u8]) -> Result<(), Refusal>
     ensures { FromSparseText t.now dst.old dst.new result }
 {

@@ -69,8 +69,12 @@ impl TextWriter<'_> {
         self.put_prefix(phase);
         let mut first = true;
         for (q, letter) in letters[..n].iter().enumerate() {
+            // Of an I there is nothing to put, and nothing to note: of most rows most letters are I.
+            if *letter == 0 {
+                continue;
+            }
             self.put_more(first, *letter, q);
-            first &= *letter == 0;
+            first = false;
         }
         if first {
             self.put(b'I');

@@ -23,6 +23,15 @@ impl<'a> TextWriter<'a> {
         TextWriter { dst, at: 0 }
     }
 
+    // At any place, also one that the destination does not reach.
+    pub fn starting_at(dst: &'a mut [u8], place: usize) -> TextWriter<'a>
+        ensures same_reference { result.dst.ghost_name ≡ dst.entry.ghost_name }
+        ensures same_bytes { result.dst.now ≡ dst.old }
+        ensures place { result.at ≡ place }
+    {
+        TextWriter { dst, at: place }
+    }
+
     // From the front on, the length of what was written.
     pub fn place(&self) -> usize
         ensures { result ≡ self.now.at }

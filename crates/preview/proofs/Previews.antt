@@ -18,19 +18,21 @@ use Rattle.clifford_group.proofs.Apply.{apply_single, apply-within}
 use Rattle.clifford_group.proofs.Compose.{width-compose, row-compose, proper-compose}
 use Rattle.clifford_group.proofs.Rows.{same_row}
 use Rattle.pauli.specs.declared.refusal.Refusal.{Refusal}
+use Rattle.std.specs.Result.{result_and}
 use Rattle.pauli.specs.Answers.{reply_to, written, Written, Outcome}
 use Rattle.pauli.specs.Layout.{phase_byte, letter_byte, encode_string, string_length, string_of, string_record}
-use Rattle.pauli.specs.Questions.{◌and_then◌, string_questions}
-use Rattle.pauli.proofs.Asking.{never_done, and_then_done, done_first, done_second, has_room, room-is, strings_admitted, record-length}
+use Rattle.pauli.specs.Questions.{◌and_then◌, string_questions, room_question}
+use Rattle.pauli.proofs.Answers.{written_given}
+use Rattle.pauli.proofs.Asking.{and_then_assoc, and_then_done, done_first, done_second, has_room, room-is, strings_admitted, record-length}
 use Rattle.pauli.proofs.Records.{length_encode, encode_letter, encode_phase, string-back}
 use Rattle.clifford.specs.Layout.{width_of, tableau_of}
-use Rattle.clifford.specs.Questions.{tableau_questions, apply_questions, apply_answer, compose_questions}
+use Rattle.clifford.specs.Questions.{tableau_questions, slot_question, apply_questions, apply_answer, compose_questions}
 use Rattle.clifford.specs.Tableaux.{apply_record, compose_record}
 use Rattle.clifford.specs.Promises.{Applied}
 use Rattle.clifford.proofs.Asking.{admitted_proper, slot_is}
 use Rattle.clifford.proofs.Rows.{width_of_lem}
 use Rattle.clifford.proofs.Records.{record-back}
-use Rattle.preview.specs.Inside.Sending.{letter_record, sent_through}
+use Rattle.preview.specs.Inside.Sending.{letter_record, sent_through, LetterSent}
 use Rattle.preview.specs.Previews.{preview_questions, preview_answer, composed_image}
 use Rattle.preview.specs.Promises.{Previewed}
 use Rattle.std.specs.Prelude.{Ok, Err}
@@ -93,6 +95,22 @@ own-asked t s n e h =
     ap₂ (λ x y. (tableau_questions t and_then x) and_then y) e (sym (has_room string_length n h))
     ∙ sym (and_then_done (tableau_questions t) ∙ and_then_done (tableau_questions t and_then Ok tt))
 
+-- std's `and` is the order of questions
+and-is : (q y : Outcome) → result_and q y ≡ q and_then y
+unfolding ◌and_then◌
+and-is (Ok tt) y = refl
+and-is (Err x) y = refl
+
+-- after a refusal nothing is written
+refused_by : {q r : Outcome} {x : Refusal} (out d : List ℕ) → r ≡ q → r ≡ Err x → Written q out d d r
+unfolding written
+refused_by out d p h = written_given p (sym (ap (λ z. written z out d) h))
+
+then_not : {q r : Outcome} (p y : Outcome) {x : Refusal} (out d : List ℕ) → r ≡ q → r ≡ p and_then y → y ≡ Err x → Written q out d d r
+unfolding ◌and_then◌
+then_not (Ok tt) y out d h e f = refused_by out d h (e ∙ f)
+then_not (Err z) y out d h e f = refused_by out d h e
+
 -- ---- a letter sent through b and then a
 module _ (g : Generator) (a b : List ℕ) {s m : List ℕ} (q : ℕ) {second : Outcome} (e : s ≡ letter_record g q) (w : Applied b s (replicate 129 0) m second) where
   second-asked : second ≡ tableau_questions b
@@ -110,9 +128,9 @@ module _ (g : Generator) (a b : List ℕ) {s m : List ℕ} (q : ℕ) {second : O
       w.bytes ∙ ap (λ x. written x (apply_record b s) (replicate 129 0)) (sym w.answer ∙ h)
       ∙ ap (λ (r : List ℕ). apply_record b s ++ r) none ∙ append-nil (apply_record b s) ∙ ap (apply_record b) e
 
-  sent : {d f : List ℕ} {r : Outcome} → string_length ≤ length d → second ≡ Ok tt → Applied a m d f r → Written (compose_questions a b) (sent_through g a b q) d f r
+  pub sent_done : {d f : List ℕ} {r : Outcome} → string_length ≤ length d → second ≡ Ok tt → Applied a m d f r → LetterSent g a b q d f r
   unfolding compose_questions sent_through
-  sent {d} {f} {r} o h v = record {
+  sent_done {d} {f} {r} o h v = record {
     answer = v.answer ∙ asked;
     told = v.told ∙ ap (λ x. reply_to x 0) asked;
     bytes = v.bytes ∙ ap₂ (λ x i. written x (apply_record a i) d) asked (image_is h);
@@ -124,6 +142,13 @@ module _ (g : Generator) (a b : List ℕ) {s m : List ℕ} (q : ℕ) {second : O
       asked : apply_answer a m (length d) ≡ (tableau_questions a and_then tableau_questions b)
       asked = own-asked a m (length d) string o ∙ and_then_done (tableau_questions a)
           ∙ ap (λ x. tableau_questions a and_then x) (sym h ∙ second-asked)
+
+  pub sent-not : {first r : Outcome} {x : Refusal} (d : List ℕ) → second ≡ Err x → first ≡ tableau_questions a → r ≡ result_and first second
+      → LetterSent g a b q d d r
+  unfolding compose_questions
+  sent-not {first} d h k p = then_not first second _ d (p ∙ and-is first second ∙ ap₂ ◌and_then◌ k second-asked) (p ∙ and-is first second) h
+
+pub ruleset sending = (sent_done, sent-not, rules)
 
 -- ---- what is sent is the row
 module _ (g : Generator) (a b : List ℕ) (q : ℕ) (e : preview_questions a b q ≡ Ok tt) where
@@ -177,21 +202,22 @@ row-previewed g a b q {d} w = record {
     same (Ok tt) h = ap (λ (o : List ℕ). written (Ok tt) o d) (h refl)
     same (Err y) h = unfold written in refl
 
--- ---- after the questions
-module _ (g : Generator) (a b d : List ℕ) (q : ℕ) (k : Ok tt ≡ preview_answer a b q (length d)) {s m : List ℕ} {second : Outcome} (e : s ≡ letter_record g q)
-    (w : Applied b s (replicate 129 0) m second) where
-  admitted : compose_questions a b ≡ Ok tt
-  admitted = unfold preview_answer preview_questions in done_first (compose_questions a b) _ (done_first (preview_questions a b q) _ (sym k))
+-- ---- after the questions to the qubit and the destination
+module _ (g : Generator) (a b d : List ℕ) (q : ℕ) {inside room rest : Outcome} (i : inside ≡ slot_question q (max (width_of a) (width_of b)))
+    (n : room ≡ room_question string_length (length d)) (e : rest ≡ result_and inside room) where
+  asked : compose_questions a b and_then rest ≡ preview_answer a b q (length d)
+  unfolding preview_answer preview_questions
+  asked = ap (λ x. compose_questions a b and_then x) (e ∙ and-is inside room ∙ ap₂ ◌and_then◌ i n) ∙ sym (and_then_assoc (compose_questions a b) _ _)
 
-  room : string_length ≤ length d
-  room = unfold preview_answer in room-is string_length (length d) (done_second (preview_questions a b q) _ (sym k))
+  pub preview_room : rest ≡ Ok tt → string_length ≤ length d
+  preview_room f = room-is string_length (length d) (sym n ∙ done_second inside room (sym (and-is inside room) ∙ sym e ∙ f))
 
-  second_done : second ≡ Ok tt
-  second_done = second-asked g a b q e w ∙ (unfold compose_questions in done_second (tableau_questions a) _ admitted)
+  pub preview_done : {f : List ℕ} {r : Outcome} → rest ≡ Ok tt → LetterSent g a b q d f r → Previewed g a b q d f r
+  preview_done {f} {r} h w = row-previewed g a b q (subst (λ x. Written x (sent_through g a b q) d f r)
+      (and_then_done (compose_questions a b) ∙ ap (λ x. compose_questions a b and_then x) (sym h) ∙ asked) w)
 
-  pub not_refused : {x : Refusal} → second ≡ Err x → ⊥
-  not_refused h = never_done (sym h ∙ second_done)
+  pub preview_not : {both r : Outcome} {x : Refusal} → rest ≡ Err x → both ≡ compose_questions a b → r ≡ result_and both rest
+      → Previewed g a b q d d r
+  preview_not {both} h k p = then_not both rest _ d (p ∙ and-is both rest ∙ ap (λ x. x and_then rest) k ∙ asked) (p ∙ and-is both rest) h
 
-  pub preview_done : {f : List ℕ} {r : Outcome} → Applied a m d f r → Previewed g a b q d f r
-  preview_done {f} {r} v =
-      row-previewed g a b q (subst (λ x. Written x (sent_through g a b q) d f r) (admitted ∙ k) (sent g a b q e w room second_done v))
+pub ruleset previewing = (preview_room, preview_done, preview_not, rules)

@@ -2,16 +2,16 @@
 // tableau is made. Nothing of it is PECOS's.
 #![tactic(auto)]
 
-ghost use Rattle.std.specs.Prelude.{◌≡◌, max};
+ghost use Rattle.std.specs.Prelude.{◌≡◌, ◌≤◌, max, length};
+ghost use Rattle.pauli.specs.Layout.{string_length};
 ghost use Rattle.clifford.specs.Layout.{width_of};
 ghost use Rattle.clifford.specs.Questions.{slot_question};
-ghost use Rattle.preview.specs.Inside.Sending.{letter_record};
-ghost use Rattle.preview.specs.Previews.{preview_answer};
+ghost use Rattle.preview.specs.Inside.Sending.{letter_record, LetterSent};
 ghost use Rattle.preview.specs.Promises.{Previewed};
 
 use clifford::clifford_rep::{Generator, apply};
 use clifford::layout::width;
-use clifford::questions::{check_slot, check_tableaux};
+use clifford::questions::{check_slot, check_tableau, check_tableaux};
 use pauli::questions::check_room;
 use pauli::refusal::Refusal;
 use pauli::{QUBITS, STRING_LENGTH};
@@ -35,17 +35,27 @@ fn one_letter<G: Generator>(qubit: usize) -> [u8; STRING_LENGTH]
     s
 }
 
-// The questions of a preview, in their order.
-#[tactic(auto, using(pauli::proofs::Asking::by_questions), unfolding(crate::specs::Previews::preview_answer, crate::specs::Previews::preview_questions))]
-fn check_preview(a: &[u8], b: &[u8], qubit: usize, room: usize) -> Result<(), Refusal>
-    ensures { result ≡ preview_answer a.now b.now qubit room }
+// The letter sent through b and then a. The strings are right, so that the answers of `apply` are those to the tableaux' questions.
+fn send_letter<G: Generator>(
+    a: &[u8],
+    b: &[u8],
+    qubit: usize,
+    dst: &mut [u8],
+) -> Result<(), Refusal>
+    requires { string_length ≤ length dst.old }
+    ensures { LetterSent G.letter a.now b.now qubit dst.old dst.new result }
 {
-    check_tableaux(a, b)?;
-    check_row_qubit(a, b, qubit)?;
-    check_room(STRING_LENGTH, room)
+    let s = one_letter::<G>(qubit);
+    let mut image = [0u8; STRING_LENGTH];
+    let second = apply(b, &s, &mut image);
+    match second {
+        Ok(()) => apply(a, &image, dst),
+        Err(_) => check_tableau(a).and(second),
+    }
 }
 
-// The image of X or Z on this qubit under a composed with b: b acts first. `apply` puts the questions again, and refuses nothing then.
+// The image of X or Z on this qubit under a composed with b: b acts first. A tableau's refusal comes before those of the qubit and the
+// destination.
 pub fn composed_image<G: Generator>(
     a: &[u8],
     b: &[u8],
@@ -54,9 +64,10 @@ pub fn composed_image<G: Generator>(
 ) -> Result<(), Refusal>
     ensures { Previewed G.letter a.now b.now qubit dst.old dst.new result }
 {
-    check_preview(a, b, qubit, dst.len())?;
-    let s = one_letter::<G>(qubit);
-    let mut image = [0u8; STRING_LENGTH];
-    apply(b, &s, &mut image)?;
-    apply(a, &image, dst)
+    let inside = check_row_qubit(a, b, qubit);
+    let rest = inside.and(check_room(STRING_LENGTH, dst.len()));
+    match rest {
+        Ok(()) => send_letter::<G>(a, b, qubit, dst),
+        Err(_) => check_tableaux(a, b).and(rest),
+    }
 }

@@ -4,14 +4,15 @@
 
 use pauli::refusal::{Refusal, Reply};
 use pauli::rows::copy;
-use vectors::Case;
+use vectors::Trial;
 
 // Number 0 and the wrapped sum, with `a` at the front of `d`; refused where `d` has no room.
-fn sum(case: &mut Case) -> Reply {
-    if case.d.len() < case.a.len() {
+fn sum(trial: &mut Trial) -> Reply {
+    let case = trial.case;
+    if trial.d.len() < case.a.len() {
         return Reply::from(Refusal::Room);
     }
-    copy(case.a, case.d);
+    copy(case.a, trial.d);
     Reply {
         number: 0,
         value: case.n1.wrapping_add(case.n2),
@@ -19,8 +20,9 @@ fn sum(case: &mut Case) -> Reply {
 }
 
 // The number and the value that it is given, with `a` at the front of `d`.
-fn say(case: &mut Case) -> Reply {
-    copy(case.a, case.d);
+fn say(trial: &mut Trial) -> Reply {
+    let case = trial.case;
+    copy(case.a, trial.d);
     Reply {
         number: case.n1,
         value: case.n2,
@@ -28,10 +30,10 @@ fn say(case: &mut Case) -> Reply {
 }
 
 // Calls the function that the case names.
-fn call(case: &mut Case) -> Option<Reply> {
-    match case.name {
-        "sum" => Some(sum(case)),
-        "say" => Some(say(case)),
+fn call(trial: &mut Trial) -> Option<Reply> {
+    match trial.case.name {
+        "sum" => Some(sum(trial)),
+        "say" => Some(say(trial)),
         _ => None,
     }
 }

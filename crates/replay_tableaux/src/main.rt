@@ -6,7 +6,7 @@ use clifford::{clifford as gates, clifford_rep};
 use gate_list::gate_list as lists;
 use gate_play::play;
 use pauli::refusal::Reply;
-use vectors::{Case, Expected, byte, index, told};
+use vectors::{Case, Expected, Trial, byte, index, told};
 
 // Whether the part is the row of the record that starts at this offset.
 fn is_row(t: &[u8], at: usize, part: &[u8]) -> bool {
@@ -76,45 +76,47 @@ fn compose_each(a: &[u8], d: &mut [u8]) -> Option<Reply> {
 }
 
 // Calls the function of gates or of lists that the case names.
-fn call_gates(case: &mut Case) -> Option<Reply> {
+fn call_gates(trial: &mut Trial) -> Option<Reply> {
+    let case = trial.case;
     let n1 = case.n1;
     let q = index(case.n2)?;
     let r = index(case.n3)?;
     match case.name {
         "gate_compose" => told(gates::compose(byte(n1)?, byte(case.n2)?)),
         "gate_inverse" => told(gates::inverse(byte(n1)?)),
-        "on_qubit" => told(gates::on_qubit(byte(n1)?, q, case.d)),
-        "on_qubits" => told(gates::on_qubits(byte(n1)?, q, r, case.d)),
-        "play" => told(play(case.d, byte(n1)?, q, r)),
+        "on_qubit" => told(gates::on_qubit(byte(n1)?, q, trial.d)),
+        "on_qubits" => told(gates::on_qubits(byte(n1)?, q, r, trial.d)),
+        "play" => told(play(trial.d, byte(n1)?, q, r)),
         "from_clifford_rep" => told(gates::from_clifford_rep(case.a)),
-        "single_qubit_clifford" => told(gates::single_qubit_clifford(index(n1)?, q, case.d)),
-        "run" => told(lists::run(case.a, case.d)),
-        "report" => told(lists::report(case.a, case.d)),
+        "single_qubit_clifford" => told(gates::single_qubit_clifford(index(n1)?, q, trial.d)),
+        "run" => told(lists::run(case.a, trial.d)),
+        "report" => told(lists::report(case.a, trial.d)),
         _ => None,
     }
 }
 
 // Calls the function that the case names.
-fn call(case: &mut Case) -> Option<Reply> {
+fn call(trial: &mut Trial) -> Option<Reply> {
+    let case = trial.case;
     let n = index(case.n1)?;
     match case.name {
-        "compose" => told(clifford_rep::compose(case.a, case.b, case.d)),
-        "compose_each" => compose_each(case.a, case.d),
-        "apply" => told(clifford_rep::apply(case.a, case.b, case.d)),
-        "composed_x_image" => told(preview::composed_image::<X>(case.a, case.b, n, case.d)),
-        "composed_z_image" => told(preview::composed_image::<Z>(case.a, case.b, n, case.d)),
-        "identity" => told(clifford_rep::identity(n, case.d)),
-        "from_pauli_string" => told(clifford_rep::from_pauli_string(case.a, case.d)),
-        "set_x_image" => told(clifford_rep::set_image::<X>(case.d, n, case.a)),
-        "set_z_image" => told(clifford_rep::set_image::<Z>(case.d, n, case.a)),
+        "compose" => told(clifford_rep::compose(case.a, case.b, trial.d)),
+        "compose_each" => compose_each(case.a, trial.d),
+        "apply" => told(clifford_rep::apply(case.a, case.b, trial.d)),
+        "composed_x_image" => told(preview::composed_image::<X>(case.a, case.b, n, trial.d)),
+        "composed_z_image" => told(preview::composed_image::<Z>(case.a, case.b, n, trial.d)),
+        "identity" => told(clifford_rep::identity(n, trial.d)),
+        "from_pauli_string" => told(clifford_rep::from_pauli_string(case.a, trial.d)),
+        "set_x_image" => told(clifford_rep::set_image::<X>(trial.d, n, case.a)),
+        "set_z_image" => told(clifford_rep::set_image::<Z>(trial.d, n, case.a)),
         "is_valid" => told(clifford_rep::is_valid(case.a)),
-        "extended_to" => told(clifford_rep::extended_to(case.a, n, case.d)),
-        "inverse" => told(clifford_rep::inverse(case.a, case.d)),
-        "support_qubits" => told(clifford_rep::support_qubits(case.a, case.d)),
-        "display" => display(case.a, case.d),
-        "x_image" => image::<X>(case, n),
-        "z_image" => image::<Z>(case, n),
-        _ => call_gates(case),
+        "extended_to" => told(clifford_rep::extended_to(case.a, n, trial.d)),
+        "inverse" => told(clifford_rep::inverse(case.a, trial.d)),
+        "support_qubits" => told(clifford_rep::support_qubits(case.a, trial.d)),
+        "display" => display(case.a, trial.d),
+        "x_image" => image::<X>(&case, n),
+        "z_image" => image::<Z>(&case, n),
+        _ => call_gates(trial),
     }
 }
 

@@ -9,7 +9,7 @@ use clifford::{clifford_rep, questions};
 use pauli::STRING_LENGTH;
 use pauli::refusal::{Refusal, Reply};
 use pauli::rows::copy;
-use vectors::{Case, index, told};
+use vectors::{Trial, index, told};
 
 // Room for the longest record; a record stands at its front.
 #[derive(Clone, Copy)]
@@ -130,15 +130,16 @@ impl List {
     }
 
     // Plays the case's call.
-    fn play(&mut self, case: &mut Case) -> Option<Reply> {
+    fn play(&mut self, trial: &mut Trial) -> Option<Reply> {
+        let case = trial.case;
         let n1 = index(case.n1)?;
         let n2 = index(case.n2)?;
         match case.name {
-            "compose" => self.compose(case.a, case.b, case.d),
-            "send" => send(case.a, case.b, case.d),
-            "back" => self.send_back(case.b, case.d),
+            "compose" => self.compose(case.a, case.b, trial.d),
+            "send" => send(case.a, case.b, trial.d),
+            "back" => self.send_back(case.b, trial.d),
             "mark" => self.mark(n2),
-            "identity" => self.start(n1, n2, case.d),
+            "identity" => self.start(n1, n2, trial.d),
             _ => None,
         }
     }
@@ -157,13 +158,13 @@ impl List {
     }
 
     // The reply of the case's call, where the way back holds after it.
-    fn call(&mut self, case: &mut Case) -> Option<Reply> {
-        let reply = self.play(case)?;
+    fn call(&mut self, trial: &mut Trial) -> Option<Reply> {
+        let reply = self.play(trial)?;
         self.is_back().then_some(reply)
     }
 }
 
 fn main() {
     let mut list = List::new();
-    vectors::replay(|case| list.call(case));
+    vectors::replay(|trial| list.call(trial));
 }

@@ -5,6 +5,7 @@ use Rattle.std.specs.Str.Parse.{IsNumeral, digits_value}
 use Rattle.std.specs.Char.{IsAsciiDigit, IsAsciiLowercase}
 use Rattle.vectors.specs.declared.reading.TheConstants.{FIELD_ROOM}
 use Rattle.vectors.specs.declared.reading.Case.{Case}
+use Rattle.vectors.specs.declared.reading.Trial.{Trial}
 use Rattle.vectors.specs.declared.reading.Line.{Line}
 use Rattle.vectors.specs.declared.reading.Room.{Room}
 use Rattle.vectors.specs.declared.reading.Line.TheVariants as lines
@@ -21,12 +22,12 @@ abbrev pub IsName : List ℕ → Type 0
 IsName s = (0 < length s) × EachIndex s (λ k. IsNameByte (slice_index s k))
 
 -- the function has a name, and no field spells more bytes than there is room for
-pub record CaseFits (k : Case) : Type 0 where
-  pub name : IsName k.name.now
-  pub in_a : length k.a.now ≤ FIELD_ROOM
-  pub in_b : length k.b.now ≤ FIELD_ROOM
+pub record CaseFits (k : Trial) : Type 0 where
+  pub name : IsName k.case.name.now
+  pub in_a : length k.case.a.now ≤ FIELD_ROOM
+  pub in_b : length k.case.b.now ≤ FIELD_ROOM
   pub in_d : length k.d.now ≤ FIELD_ROOM
-  pub in_after : length k.after.now ≤ FIELD_ROOM
+  pub in_after : length k.case.after.now ≤ FIELD_ROOM
 
 -- the same of a line that is a case
 abbrev pub LineFits : Line → Type 0
@@ -51,7 +52,7 @@ pub record CaseOf (s : List ℕ) (k : Case) : Type 0 where
 
 -- the same of a line that is a case
 abbrev pub LineSays : List ℕ → Line → Type 0
-LineSays s (lines.Case k) = CaseOf s k
+LineSays s (lines.Case k) = CaseOf s k.case
 LineSays s lines.Blank = Unit {0}
 LineSays s lines.Malformed = Unit {0}
 

@@ -3,7 +3,7 @@ use denote.Ref.{Bor, MutBor}
 use Rattle.std.specs.Prelude.{◌≡◌, ◌↔◌, ◌⊎◌, ℕ, List, Option}
 use Rattle.std.specs.List.{FoldsTo}
 use Rattle.pauli.specs.declared.refusal.Reply.{Reply}
-use Rattle.vectors.specs.declared.reading.Case.{Case}
+use Rattle.vectors.specs.declared.reading.Trial.{Trial}
 use Rattle.vectors.specs.declared.tally.Outcome.{Outcome}
 use Rattle.vectors.specs.declared.tally.Outcome.TheVariants.{Blank, Match}
 use Rattle.vectors.specs.declared.tally.Tally.{Tally}
@@ -12,8 +12,8 @@ use Rattle.vectors.specs.Tallies.{next, Tallied}
 use Rattle.vectors.specs.Verdicts.{IsMatch}
 
 -- a call, by which f becomes g, comes to what its case expects
-abbrev pub Matches : {F X : Type 0} → (F → X → Option Reply → MutBor Case → F → Type 0) → F → F → Type 0
-Matches {X = X} step f g = (x : X) × (p : Option Reply) × (k : MutBor Case) × step f x p k g × IsMatch k.now p
+abbrev pub Matches : {F X : Type 0} → (F → X → Option Reply → MutBor Trial → F → Type 0) → F → F → Type 0
+Matches {X = X} step f g = (x : X) × (p : Option Reply) × (k : MutBor Trial) × step f x p k g × IsMatch k.now p
 
 -- what comes of a line, where Matched says that the call of its case comes to what the case expects
 pub record Comes (Matched : Type 0) (line : List ℕ) (o : Outcome) : Type 0 where

@@ -1,6 +1,6 @@
 -- What a match says of a case. Assumes nothing.
 use Rattle.std.specs.Prelude.{◌≡◌, ◌≤◌, Option, IsSomeAnd}
-use Rattle.vectors.specs.declared.reading.Case.{Case}
+use Rattle.vectors.specs.declared.reading.Trial.{Trial}
 use Rattle.vectors.specs.declared.reading.Expected.{Expected}
 use Rattle.vectors.specs.declared.reading.Expected.TheVariants.{Exactly, BadSyntax}
 use Rattle.pauli.specs.declared.refusal.Reply.{Reply}
@@ -11,5 +11,5 @@ Expects (Exactly due) p = p ≡ due
 Expects BadSyntax p = (9 ≤ p.number) × (p.number ≤ 11)
 
 -- the reply, none where no function is known, and the destination are those that the case k expects
-abbrev pub IsMatch : Case → Option Reply → Type 0
-IsMatch k p = IsSomeAnd p (Expects k.expected) × (k.d.now ≡ k.after.now)
+abbrev pub IsMatch : Trial → Option Reply → Type 0
+IsMatch k p = IsSomeAnd p (Expects k.case.expected) × (k.d.now ≡ k.case.after.now)

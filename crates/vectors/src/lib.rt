@@ -28,7 +28,7 @@ mod replies;
 mod tally;
 
 pub use decode::{bytes, decimal};
-pub use reading::{Case, Expected, FIELD_ROOM, Line, Room};
+pub use reading::{Case, Expected, FIELD_ROOM, Line, Room, Trial};
 pub use replaying::replay;
 pub use replies::{byte, index, told};
 pub use tally::{Failure, Outcome, Tally};

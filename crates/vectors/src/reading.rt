@@ -27,22 +27,28 @@ impl Expected {
     }
 }
 
-// A call and what it should come to: the function's name, its arguments, of which `d` is the
-// destination, the reply, and the bytes of the destination after the call.
-#[derive(Drop)]
-pub struct Case<'a, 'd> {
+// A call and what it should come to: the function's name, its arguments but for the destination, the
+// reply, and the bytes of the destination after the call.
+#[derive(Clone, Copy)]
+pub struct Case<'a> {
     pub name: &'a str,
     pub a: &'a [u8],
     pub b: &'a [u8],
     pub n1: u64,
     pub n2: u64,
     pub n3: u64,
-    pub d: &'d mut [u8],
     pub expected: Expected,
     pub after: &'a [u8],
 }
 
-impl Case<'_, '_> {
+// A case with the destination of its call. Apart from the case, which is copied.
+#[derive(Drop)]
+pub struct Trial<'a, 'd> {
+    pub case: Case<'a>,
+    pub d: &'d mut [u8],
+}
+
+impl Trial<'_, '_> {
     // What comes of the call, once it is made. No reply: no function has the name and takes the
     // arguments. The destination is compared whole, since bytes that should be as before count too.
     pub fn outcome(&self, reply: Option<Reply>) -> Outcome
@@ -52,7 +58,7 @@ impl Case<'_, '_> {
         let Some(reply) = reply else {
             return Outcome::Failed(Failure::Unknown);
         };
-        if self.expected.admits(reply) && *self.d == *self.after {
+        if self.case.expected.admits(reply) && *self.d == *self.case.after {
             Outcome::Match
         } else {
             Outcome::Failed(Failure::Mismatch)
@@ -64,7 +70,7 @@ impl Case<'_, '_> {
 pub enum Line<'a, 'd> {
     Blank,
     Malformed,
-    Case(Case<'a, 'd>),
+    Case(Trial<'a, 'd>),
 }
 
 // How many bytes a field may spell.
@@ -114,9 +120,9 @@ impl Room {
         }
     }
 
-    fn read_case<'a>(&'a mut self, line: &'a [u8]) -> Option<Case<'a, 'a>>
+    fn read_case<'a>(&'a mut self, line: &'a [u8]) -> Option<Trial<'a, 'a>>
         ensures fits { IfSome result (λ k. CaseFits k) }
-        ensures says { IfSome result (λ k. CaseOf line.now k) }
+        ensures says { IfSome result (λ k. CaseOf line.now k.case) }
     {
         let Room { a, b, d, after } = self;
         let mut fields = line.split(|c| *c == b' ');
@@ -150,16 +156,17 @@ impl Room {
         if fields.next().is_some() {
             return None;
         }
-        Some(Case {
+        let d = bytes(before, d)?;
+        let case = Case {
             name,
             a,
             b,
             n1,
             n2,
             n3,
-            d: bytes(before, d)?,
             expected,
             after: bytes(due, after)?,
-        })
+        };
+        Some(Trial { case, d })
     }
 }

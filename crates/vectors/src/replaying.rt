@@ -5,7 +5,7 @@ ghost use Rattle.std.specs.Prelude.{ℕ, List};
 ghost use Rattle.std.specs.Iterator.{Drains, IsFinite};
 ghost use Rattle.vectors.specs.Replays.{Comes, Counts, InputReplayed, Matches};
 
-use crate::reading::{Case, Line, Room};
+use crate::reading::{Case, Expected, Line, Room, Trial};
 use crate::tally::{Failure, Outcome, Tally};
 use pauli::refusal::Reply;
 use std::fmt;
@@ -35,8 +35,30 @@ impl fmt::Write for Output {
 // Each function below asks that its call can always be made, in a clause of its own: what a closure asks stands in clauses, and a struct
 // that held the call would ask the same in each of its methods.
 
+// A malformed line too calls what its first field names, with no bytes and zeros: a replay may keep a state from line to line. What the
+// call comes to counts for nothing.
+fn call_malformed<F: FnMut(&mut Trial<'_, '_>) -> Option<Reply>>(line: &[u8], call: &mut F)
+    requires { F.IsAlwaysCallable call.old }
+    ensures { F.IsAlwaysCallable call.new }
+{
+    let Some(Ok(name)) = line.split(|c| *c == b' ').next().map(str::from_utf8) else {
+        return;
+    };
+    let case = Case {
+        name,
+        a: &[],
+        b: &[],
+        n1: 0,
+        n2: 0,
+        n3: 0,
+        expected: Expected::BadSyntax,
+        after: &[],
+    };
+    call(&mut Trial { case, d: &mut [] });
+}
+
 // What comes of a line. It is a match only where a call of its case came to what the case expects.
-fn replay_line<'a, F: FnMut(&mut Case<'_, '_>) -> Option<Reply>>(
+fn replay_line<'a, F: FnMut(&mut Trial<'_, '_>) -> Option<Reply>>(
     line: &'a [u8],
     room: &'a mut Room,
     call: &mut F,
@@ -47,17 +69,20 @@ fn replay_line<'a, F: FnMut(&mut Case<'_, '_>) -> Option<Reply>>(
 {
     match room.read(line) {
         Line::Blank => Outcome::Blank,
-        Line::Malformed => Outcome::Failed(Failure::Malformed),
-        Line::Case(mut case) => {
-            let reply = call(&mut case);
-            case.outcome(reply)
+        Line::Malformed => {
+            call_malformed(line, call);
+            Outcome::Failed(Failure::Malformed)
+        }
+        Line::Case(mut trial) => {
+            let reply = call(&mut trial);
+            trial.outcome(reply)
         }
     }
 }
 
 // Replays lines, and prints which of them fail.
 #[tactic(auto, using(crate::proofs::Counting::with_line))]
-fn replay_lines<'t, I: Iterator<Item = &'t [u8]>, F: FnMut(&mut Case<'_, '_>) -> Option<Reply>>(
+fn replay_lines<'t, I: Iterator<Item = &'t [u8]>, F: FnMut(&mut Trial<'_, '_>) -> Option<Reply>>(
     lines: I,
     call: &mut F,
 ) -> Tally
@@ -79,7 +104,7 @@ fn replay_lines<'t, I: Iterator<Item = &'t [u8]>, F: FnMut(&mut Case<'_, '_>) ->
 
 // Replays what standard input says, with room for it, read by the kit's `io` as the output is written. An input that fills the room may
 // be cut short: that is a mismatch.
-fn replay_in<F: FnMut(&mut Case<'_, '_>) -> Option<Reply>>(room: &mut [u8], call: &mut F) -> Tally
+fn replay_in<F: FnMut(&mut Trial<'_, '_>) -> Option<Reply>>(room: &mut [u8], call: &mut F) -> Tally
     requires { F.IsAlwaysCallable call.old }
     ensures { InputReplayed (Matches F.step) call.old call.new result }
 {
@@ -97,7 +122,7 @@ fn replay_in<F: FnMut(&mut Case<'_, '_>) -> Option<Reply>>(room: &mut [u8], call
 
 // Replays the lines of standard input: prints each that fails, with its number, and how many cases
 // there were. `call` calls the function that a case names. The answer is what was counted.
-pub fn replay<F: FnMut(&mut Case<'_, '_>) -> Option<Reply>>(mut call: F) -> Tally
+pub fn replay<F: FnMut(&mut Trial<'_, '_>) -> Option<Reply>>(mut call: F) -> Tally
     requires { F.IsAlwaysCallable call }
     ensures { (last : F) × InputReplayed (Matches F.step) call last result }
 {

@@ -1,5 +1,5 @@
 -- What the functions that read text promise one another.
-use Rattle.std.specs.Prelude.{◌≡◌, ℕ, zero, suc, ◌+◌, ◌<◌, ◌≤◌, Bool, true, false, Option, Some, None, List, ◌∷◌, length, drop, slice_index, Ok, Err}
+use Rattle.std.specs.Prelude.{◌≡◌, ℕ, zero, suc, ◌+◌, ◌^◌, ◌<◌, ◌≤◌, Bool, true, false, ◌&&◌, Option, Some, None, List, ◌∷◌, length, drop, nat_lt, slice_index, Ok, Err}
 use Rattle.pauli.specs.declared.text.Head.{Head}
 use Rattle.pauli.specs.declared.sparse_reader.Entry.{Entry}
 use Rattle.pauli.specs.declared.refusal.Refusal.{Refusal}
@@ -7,7 +7,7 @@ use Rattle.pauli.specs.declared.entries.Marks.{Marks}
 use Rattle.pauli.specs.Inside.Marks.{marks_of}
 use Rattle.pauli.specs.Places.{listed, first_place}
 use Rattle.pauli.specs.Layout.{phase_byte}
-use Rattle.pauli.specs.Text.{text_end, dense_body, is_space, letter_named, Token, tokens, token_questions, token_entries, prefix_phase, prefix_length, text_phase, body_start, is_index, index_value}
+use Rattle.pauli.specs.Text.{text_end, dense_body, is_space, letter_named, Token, tokens, token_questions, token_entries, prefix_phase, prefix_length, text_phase, body_start, all_digits, digits_value, is_index, index_value}
 use Rattle.pauli.specs.Answers.{Answer, answer_to}
 
 -- the bytes before the first space
@@ -35,10 +35,16 @@ unfoldable pub letter_if : ℕ → Option ℕ
 letter_if zero = None
 letter_if (suc l) = Some (suc l)
 
--- an index, as a value below 2^64 or none
+-- digits, and an index, as a value below 2^64 or none
 abbrev pub numeral_if : Bool → ℕ → Option ℕ
 numeral_if true v = Some v
 numeral_if false v = None
+
+unfoldable pub are_digits : List ℕ → Bool
+are_digits ds = (nat_lt 0 (length ds) && all_digits ds) && nat_lt (digits_value 0 ds) (2 ^ 64)
+
+unfoldable pub digits_numeral : List ℕ → Option ℕ
+digits_numeral ds = numeral_if (are_digits ds) (digits_value 0 ds)
 
 unfoldable pub index_numeral : List ℕ → Option ℕ
 index_numeral bs = numeral_if (is_index bs) (index_value bs)
