@@ -1,5 +1,5 @@
 -- The text of a row: word by word, its length, and the loop that writes it.
-use Rattle.std.proofs.Common.{◌≡◌, ℕ, zero, suc, ◌+◌, ◌-◌, ◌<◌, ◌≤◌, min, Bool, true, false, cond, ◌&&◌, eqb, List, [], ◌∷◌, ◌++◌, length, get_or, take, sym, refl, ap, ap₂, ◌∙◌, append_assoc, append-nil, add-one, arith, length-append, length-take, get_or-take, eq-eqb, ne_eqb}
+use Rattle.std.proofs.Common.{◌≡◌, ℕ, zero, suc, ◌+◌, ◌-◌, ◌<◌, ◌≤◌, min, Bool, true, false, cond, ◌&&◌, eqb, List, [], ◌∷◌, ◌++◌, length, get_or, take, sym, refl, ap, ap₂, ◌∙◌, append_assoc, append-nil, add-one, arith, length-append, length-take, get_or-take, ne_eqb}
 use native.Mathlib.Decide.{ℕ_discrete}
 use borrow.Author.Tests.{eqb-false}
 use Rattle.pauli_group.specs.Phase.{Phase, PlusOne, MinusOne, PlusI, MinusI}
@@ -201,28 +201,6 @@ wording_step {a} {p} {n} {q} {first} {s = s} {t} {u} m h x e = record {
     more : (prefix_text (phase_of p) ++ words_text ws) ++ more_text first (letter_of (get_or (take n a) q 0)) q
         ≡ prefix_text (phase_of p) ++ words_text (entry_words (q + 1) (letter_at a))
     more = append_assoc (prefix_text (phase_of p)) (words_text ws) _ ∙ ap (λ (x : List ℕ). prefix_text (phase_of p) ++ x) added-words
-
--- a letter other than I, and an I, of which nothing is put
-and_false : (a b : Bool) → b ≡ false → false ≡ (a && b)
-and_false true b e = sym e
-and_false false b e = refl
-
-and_true : (a b : Bool) → b ≡ true → a ≡ (a && b)
-and_true true b e = sym e
-and_true false b e = refl
-
-pub wording_letter : {a : List ℕ} {p n q : ℕ} {first : Bool} {s t u : TextWriter} → Wording a p n q first s t → q < length (take n a) → (get_or (take n a) q 0 ≡ 0 → ⊥)
-    → Put (more_text first (letter_of (get_or (take n a) q 0)) q) t u → Wording a p n (q + 1) false s u
-wording_letter {a} {n = n} {q} {first} m h d x = wording_step m h x (and_false first (eqb (get_or (take n a) q 0) 0) (ne_eqb (get_or (take n a) q 0) 0 d))
-
-nothing_more : (first : Bool) (q : ℕ) → more_text first (letter_of 0) q ≡ []
-unfolding more_text added words_at letter_of
-nothing_more first q = refl
-
-pub wording_none_here : {a : List ℕ} {p n q : ℕ} {first : Bool} {s t : TextWriter} → Wording a p n q first s t → q < length (take n a) → get_or (take n a) q 0 ≡ 0
-    → Wording a p n (q + 1) first s t
-wording_none_here {a} {n = n} {q} {first} {t = t} m h z =
-    wording_step m h (put_as (sym (ap (λ (l : ℕ). more_text first (letter_of l) q) z ∙ nothing_more first q)) put_none) (and_true first (eqb (get_or (take n a) q 0) 0) (eq-eqb (get_or (take n a) q 0) 0 z))
 
 module _ {a : List ℕ} {p n q : ℕ} {first : Bool} {s t : TextWriter} (h : n ≡ min (length a) 128) (end : length (take n a) ≤ q) (m : Wording a p n q first s t) where
   wording_all : {u : TextWriter} → Put (end_text first) t u → Put (row_text p a) s u

@@ -1,6 +1,6 @@
 // Sparse text, written. Ports `to_sparse_str` of pauli_string.rs of PECOS, changed:
 // Copyright 2024 The PECOS Developers, Apache License, Version 2.0.
-ghost use Rattle.std.specs.Prelude.{◌≡◌, length, ◌==◌};
+ghost use Rattle.std.specs.Prelude.{◌≡◌, ◌&&◌, length, ◌==◌};
 ghost use Rattle.pauli.specs.Layout.{phase_of, letter_of};
 ghost use Rattle.pauli.specs.SparseText.{prefix_text, letter_text, entry_word, row_text};
 ghost use Rattle.pauli.specs.TextWriters.{Put};
@@ -45,19 +45,23 @@ impl TextWriter<'_> {
         self.put_decimal(qubit as u64);
     }
 
-    // The entry of one qubit, where its letter is not I, with a space before it unless it is the first.
+    // The entry of one qubit, where its letter is not I, with a space before it unless it is the first. The answer is whether there is
+    // none yet.
     #[tactic(auto, using(crate::proofs::TextWriters::entries), unfolding(crate::specs::Inside::TextWriting::more_text, crate::specs::Inside::TextWriting::added, crate::specs::SparseText::words_at, crate::specs::Layout::letter_of))]
-    fn put_more(&mut self, first: bool, letter: u8, qubit: usize)
-        ensures { Put (more_text first (letter_of letter) qubit) self.old self.new }
+    fn put_more(&mut self, first: bool, letter: u8, qubit: usize) -> bool
+        ensures text { Put (more_text first (letter_of letter) qubit) self.old self.new }
+        ensures none { result ≡ (first && (letter == 0)) }
     {
         if letter == 0 {
-            return;
+            return first;
         }
         if first {
-            return self.put_entry(letter, qubit);
+            self.put_entry(letter, qubit);
+            return false;
         }
         self.put(b' ');
         self.put_entry(letter, qubit);
+        false
     }
 
     // The sparse text of a phase and a row of letters, of which the first 128 count: I where no entry was written. Phase and letters are
@@ -69,12 +73,7 @@ impl TextWriter<'_> {
         self.put_prefix(phase);
         let mut first = true;
         for (q, letter) in letters[..n].iter().enumerate() {
-            // Of an I there is nothing to put, and nothing to note: of most rows most letters are I.
-            if *letter == 0 {
-                continue;
-            }
-            self.put_more(first, *letter, q);
-            first = false;
+            first = self.put_more(first, *letter, q);
         }
         if first {
             self.put(b'I');
